@@ -6,13 +6,13 @@ use Rattle.recoding.specs.declared.next_scalar.ShownPiece.{ShownPiece}
 use Rattle.recoding.specs.declared.next_scalar.ShownPiece.TheVariants as piece
 use Rattle.recoding.specs.declared.way.Way.{Way}
 use Rattle.recoding.specs.declared.way.Way.TheVariants.{Faults, Subparts}
-use Rattle.recoding.specs.NextScalars.{BeginsPiece, Decides, Ends, Settles, Waits, fault_len}
+use Rattle.recoding.specs.NextScalars.{BeginsPiece, Decides, Ends, Settles}
 use Rattle.recoding.specs.Recoded.{Continues, IsRecoded, written}
 use Rattle.recoding.specs.RecodedBytes.{recoded}
-use Rattle.recoding.specs.Replacing.{Becomes, Begins, BeginsLast, IsLast, IsNext, NextIsLonger, list_by, reads_by}
+use Rattle.recoding.specs.Replacing.{Becomes, BeginsBy, BeginsLast, IsLast, IsNext, NextIsLonger, list_by, reads_by}
 use Rattle.recoding.specs.Rooms.{Leaves}
 use Rattle.recoding.specs.Strict.{Transcodes}
-use Rattle.recoding.proofs.FrontBytes.{Ends-from_decides, SettlesLast-waits}
+use Rattle.recoding.proofs.FrontBytes.{Ends-from_decides}
 use Rattle.recoding.proofs.LossyLists.{lossy_first, lossy_last, text_is_lossy}
 use Rattle.recoding.proofs.RecodedLists.{recoded_is, same_list}
 use Rattle.recoding.proofs.RoomLemmas.{Decides-more, cut_part, take_more}
@@ -39,7 +39,7 @@ list_text Faults from to text out later t =
 list_text Subparts from to text out later t = text_is_lossy from to text out later t
 
 -- What is settled begins the bytes.
-Begins-settled : {from : Form} {w : List ℕ} {s n k : ℕ} → Settles from w s n k → Begins Faults from w s n k
+Begins-settled : {from : Form} {w : List ℕ} {s n k : ℕ} → Settles from w s n k → BeginsBy Faults from w s n k
 Begins-settled settles = record { decides = settles.decides; few = settles.few; counts = λ on. settles.counts }
 
 pub IsNext-settled : (from : Form) (w : List ℕ) (x : ShownPiece) → BeginsPiece from w x → IsNext Faults from w x
@@ -47,7 +47,7 @@ IsNext-settled from w (piece.Char s n) settles = Begins-settled settles
 IsNext-settled from w (piece.Fault n) settles = Begins-settled settles
 
 -- what begins the bytes whatever follows does where nothing does
-BeginsLast-of : {way : Way} {from : Form} {w : List ℕ} {s n k : ℕ} → Begins way from w s n k → BeginsLast way from w s n k
+BeginsLast-of : {way : Way} {from : Form} {w : List ℕ} {s n k : ℕ} → BeginsBy way from w s n k → BeginsLast way from w s n k
 BeginsLast-of {w = w} {n = n} begins = record {
   ends = Ends-from_decides begins.decides;
   few = begins.few;
@@ -58,14 +58,8 @@ pub IsLast-of : (way : Way) (from : Form) (w : List ℕ) (x : ShownPiece) → Is
 IsLast-of way from w (piece.Char s n) begins = BeginsLast-of begins
 IsLast-of way from w (piece.Fault n) begins = BeginsLast-of begins
 
--- and so does a fault that nothing follows
-pub BeginsLast-waits : (from : Form) (w : List ℕ) (n : ℕ) → Waits from w → 0 < length w → n ≡ min (fault_len from) (length w) → BeginsLast Faults from w 0xFFFD n 1
-BeginsLast-waits from w n waits some e =
-    let settles = SettlesLast-waits from w n waits some e in
-    record { ends = settles.ends; few = settles.few; counts = λ on. settles.counts }
-
 -- what begins so is longer than the room
-pub NextIsLonger-of : (way : Way) {from to : Form} (w x : List ℕ) {c n k room : ℕ} → Begins way from w c n k → room < length (written to c) → NextIsLonger way from to (w ++ x) room
+pub NextIsLonger-of : (way : Way) {from to : Form} (w x : List ℕ) {c n k room : ℕ} → BeginsBy way from w c n k → room < length (written to c) → NextIsLonger way from to (w ++ x) room
 NextIsLonger-of way {from} w x {c} {n} begins long = record { scalar = c; len = n; begins = Decides-more (reads_by way from) w x c n begins.decides; longer = long }
 
 -- What bytes become, whatever follows them.
@@ -89,7 +83,7 @@ Becomes-more {way} {from} {to} {a} {g} {b} x h = record {
   counts = λ on later. rw (append_assoc a x later, append_assoc b x later) (h.counts on (x ++ later));
 }
 
-pub Becomes-front : {way : Way} {from : Form} {to : Form} {w : List ℕ} {s n k : ℕ} → Begins way from w s n k → Becomes way from to w (written to s) k (drop n w)
+pub Becomes-front : {way : Way} {from : Form} {to : Form} {w : List ℕ} {s n k : ℕ} → BeginsBy way from w s n k → Becomes way from to w (written to s) k (drop n w)
 Becomes-front {way} {from} {to} {w} {s} {n} d = record { same = list_first way from to w s n d.decides; counts = d.counts }
 
 Becomes-text : {way : Way} {from to : Form} {text out : List ℕ} → Transcodes from to text out → Becomes way from to text out 0 []
@@ -109,7 +103,7 @@ pub next_text : {way : Way} {from to : Form} {grown : List ℕ} (bytes : List �
 next_text bytes n t = Becomes-where (take (n + 3) bytes) (take 3 (drop n bytes)) (take_more n 3 bytes) refl (Becomes-more (take 3 (drop n bytes)) (Becomes-text t))
 
 -- a piece that four bytes tell
-pub next_piece : {way : Way} {from to : Form} (xs : List ℕ) (s n : ℕ) {k : ℕ} → Begins way from (take 4 xs) s n k
+pub next_piece : {way : Way} {from to : Form} (xs : List ℕ) (s n : ℕ) {k : ℕ} → BeginsBy way from (take 4 xs) s n k
     → Becomes way from to (take (n + 3) xs) (written to s) k (take 3 (drop n xs))
 next_piece {way} {from} {to} xs s n begins =
     let d = begins.decides in

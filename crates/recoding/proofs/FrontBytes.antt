@@ -27,7 +27,9 @@ use Rattle.utf_base.proofs.Utf16Code.{utf16_is_code}
 use Rattle.recoding.specs.Recoded.{Reads, ShowsUnits, odd_end, Lacks}
 use Rattle.recoding.specs.Faults.{fault_count}
 use Rattle.utf_lanes.specs.BytePairs.{units_of, unit_of}
-use Rattle.recoding.specs.NextScalars.{Decides, Ends, HasByteOrder, Settles, SettlesLast, Waits, fault_len}
+use Rattle.recoding.specs.NextScalars.{Decides, Ends, HasByteOrder, Settles, Waits, fault_len}
+use Rattle.recoding.specs.declared.way.Way.TheVariants.{Faults}
+use Rattle.recoding.specs.Replacing.{BeginsLast}
 use Rattle.recoding.proofs.FaultCounts.{counts_more, fault_counts, units_count_more}
 use Rattle.recoding.proofs.CodeFronts.{front_of_nothing}
 
@@ -49,17 +51,9 @@ Ends-from_decides {reads} {w} {s} {n} d = record {
   first = λ ss r. rw (append-nil w) at (d.first [] ss (rw (append-nil (drop n w)) r));
 }
 
--- what is settled whatever follows is where nothing does
-pub SettlesLast-of : {from : Form} {w : List ℕ} {s n k : ℕ} → Settles from w s n k → SettlesLast from w s n k
-SettlesLast-of {w = w} {n = n} settles = record {
-  ends = Ends-from_decides settles.decides;
-  few = settles.few;
-  counts = rw (append-nil w, append-nil (drop n w)) at (settles.counts []);
-}
-
--- and so is a fault that nothing follows
-pub SettlesLast-waits : (from : Form) (w : List ℕ) (n : ℕ) → Waits from w → 0 < length w → n ≡ min (fault_len from) (length w) → SettlesLast from w 0xFFFD n 1
-SettlesLast-waits from w n waits some e =
+-- a fault that nothing follows
+pub BeginsLast-waits : (from : Form) (w : List ℕ) (n : ℕ) → Waits from w → 0 < length w → n ≡ min (fault_len from) (length w) → BeginsLast Faults from w 0xFFFD n 1
+BeginsLast-waits from w n waits some e =
     let least = fault_is_some from in
     let rest = fault_end from w n e in
     record {
@@ -71,7 +65,7 @@ SettlesLast-waits from w n waits some e =
         first = λ ss r. waits.last some ss (rw rest at r);
       };
       few = omega arith;
-      counts = rw rest (waits.counts some);
+      counts = λ on. rw rest (waits.counts some);
     }
   where
     fault_end : (from : Form) (w : List ℕ) (n : ℕ) → n ≡ min (fault_len from) (length w) → drop n w ≡ drop (fault_len from) w

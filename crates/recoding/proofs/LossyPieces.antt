@@ -24,7 +24,7 @@ use Rattle.recoding.specs.declared.form.Form.TheVariants.{Utf8, Utf16Le, Utf16Be
 use Rattle.recoding.specs.Lossy.{BeginsNoCode, BeginsSubpart, ReadsParts, ShowsUnitParts}
 use Rattle.recoding.specs.Recoded.{Lacks, written}
 use Rattle.recoding.specs.NextScalars.{Decides, Ends}
-use Rattle.recoding.specs.Replacing.{Begins, BeginsLast}
+use Rattle.recoding.specs.Replacing.{BeginsBy, BeginsLast}
 use Rattle.recoding.specs.declared.way.Way.TheVariants.{Subparts}
 use Rattle.recoding.specs.Strict.{AwaitsKind, BeginsChar, BeginsFault}
 use Rattle.recoding.proofs.FrontBytes.{first_unit, lacks_second, replacement, units_two}
@@ -168,13 +168,13 @@ Ends-few Utf16Be w some h = all_at_end true w some h
 
 -- So the code answers, which counts nothing here.
 
-pub Begins-char : {from : Form} {w : List ℕ} {s n : ℕ} → BeginsChar from w s n → Begins Subparts from w s n 0
+pub Begins-char : {from : Form} {w : List ℕ} {s n : ℕ} → BeginsChar from w s n → BeginsBy Subparts from w s n 0
 Begins-char {from} {w} {s} {n} d = record { decides = Decides-char from w s n d; few = omega arith; counts = λ on. absurd on }
 
-pub Begins-subpart : {w : List ℕ} {n : ℕ} → n ≤ length w → BeginsSubpart w n → Begins Subparts Utf8 w 0xFFFD n 1
+pub Begins-subpart : {w : List ℕ} {n : ℕ} → n ≤ length w → BeginsSubpart w n → BeginsBy Subparts Utf8 w 0xFFFD n 1
 Begins-subpart {w} {n} le h = record { decides = Decides-subpart w n le h; few = omega arith; counts = λ on. absurd on }
 
-pub Begins-units : {from : Form} {w : List ℕ} {k : FaultKind} {n : ℕ} → (from ≡ Utf8 → ⊥) → BeginsFault from w k n → Begins Subparts from w 0xFFFD n 1
+pub Begins-units : {from : Form} {w : List ℕ} {k : FaultKind} {n : ℕ} → (from ≡ Utf8 → ⊥) → BeginsFault from w k n → BeginsBy Subparts from w 0xFFFD n 1
 Begins-units {from} {w} {k} {n} other f = record { decides = Decides-units from w k n other f; few = omega arith; counts = λ on. absurd on }
 
 pub BeginsLast-few : {from : Form} {w : List ℕ} → 0 < length w → Lacks from w → BeginsLast Subparts from w 0xFFFD (length w) 1

@@ -6,7 +6,7 @@ use Rattle.recoding.specs.declared.form.Form.{Form}
 use Rattle.recoding.specs.declared.room.Room.{Room}
 use Rattle.recoding.specs.declared.way.Way.{Way}
 use Rattle.recoding.specs.Recoded.{written, Lacks}
-use Rattle.recoding.specs.Replacing.{Begins, FillsPlace, NextIsLonger, Reaches, Recodes, at_place, reads_by}
+use Rattle.recoding.specs.Replacing.{BeginsBy, FillsPlace, NextIsLonger, Reaches, Recodes, at_place, reads_by}
 use Rattle.recoding.specs.declared.engine.Reached.{Reached}
 use Rattle.recoding.specs.Outputs.{Extends}
 use Rattle.recoding.specs.FilledRooms.{FillsRoom}
@@ -62,7 +62,7 @@ module _ {O : Type 0} {appends : O → List ℕ → O → Type 0} {way : Way} {f
 
   -- one piece, told by four bytes
   pub Recodes-code : ((a b c : O) (xs ys : List ℕ) → appends a xs b → appends b ys c → appends a (xs ++ ys) c) → {old mid new : O} {p s n j k : ℕ}
-      → Recodes appends way from to bytes old mid p j → Begins way from (take 4 (drop p bytes)) s n k → appends mid (written to s) new → Recodes appends way from to bytes old new (p + n) (j + k)
+      → Recodes appends way from to bytes old mid p j → BeginsBy way from (take 4 (drop p bytes)) s n k → appends mid (written to s) new → Recodes appends way from to bytes old new (p + n) (j + k)
   Recodes-code more {old} {mid} {new} {p} {s} {n} f begins put =
       let d = begins.decides in
       let few = length_written to s n d.some d.wide in
@@ -77,7 +77,7 @@ module _ {O : Type 0} {appends : O → List ℕ → O → Type 0} {way : Way} {f
 
   -- a character, which is no fault
   pub Recodes-char : ((a b c : O) (xs ys : List ℕ) → appends a xs b → appends b ys c → appends a (xs ++ ys) c) → {old mid new : O} {p s n j : ℕ}
-      → Recodes appends way from to bytes old mid p j → Begins way from (take 4 (drop p bytes)) s n 0 → appends mid (written to s) new → Recodes appends way from to bytes old new (p + n) j
+      → Recodes appends way from to bytes old mid p j → BeginsBy way from (take 4 (drop p bytes)) s n 0 → appends mid (written to s) new → Recodes appends way from to bytes old new (p + n) j
   Recodes-char more {old} {mid} {new} {p} {s} {n} {j} f begins put =
       let same : j + 0 ≡ j = omega arith in
       subst (λ m. Recodes appends way from to bytes old new (p + n) m) same (Recodes-code more f begins put)
@@ -111,7 +111,7 @@ module _ {O : Type 0} {appends : O → List ℕ → O → Type 0} {room : O → 
   Reaches-end {n} f e = Reaches-waiting f (omega arith) (rw (drop_all n bytes (omega arith)) (lacks_all from))
 
   -- there is no room for the code that begins the bytes left, and nothing more was put
-  pub Reaches-full : {mid : O} {n k s len faults : ℕ} → Recodes appends way from to bytes old mid n k → new ≡ mid → Begins way from (take 4 (drop n bytes)) s len faults → room mid < length (written to s)
+  pub Reaches-full : {mid : O} {n k s len faults : ℕ} → Recodes appends way from to bytes old mid n k → new ≡ mid → BeginsBy way from (take 4 (drop n bytes)) s len faults → room mid < length (written to s)
       → room mid < 4 → Reaches appends room way from to bytes old new (record { read = n; replaced = k; is_full = true; is_waiting = false })
   Reaches-full {mid} {n} {k} {s} {len} f kept begins longer short =
       let xs = drop n bytes in

@@ -1,4 +1,4 @@
--- What grows by the three bytes that follow, step by step, and how long codes are.
+-- How long codes are, and bytes written after others.
 use Rattle.std.proofs.Common.{◌≡◌, ℕ, Bool, true, false, ◌+◌, ◌<◌, ◌≤◌, List, [], ◌++◌, length, take, drop, flat_map, arith, ap, sym, ⊎_elim, subst, ◌∙◌, append_assoc}
 use Rattle.std.proofs.lemmas.List.{drop-drop}
 use Rattle.std.proofs.lemmas.Bool.{cases_lt}
@@ -11,24 +11,6 @@ use Rattle.recoding.specs.declared.form.Form.TheVariants.{Utf8, Utf16Le, Utf16Be
 use Rattle.recoding.specs.Recoded.{written}
 use Rattle.utf_lanes.specs.BytePairs.{bytes_of}
 use Rattle.recoding.specs.Rooms.{Fills}
-use Rattle.recoding.specs.Faults.{Advances}
-use Rattle.recoding.proofs.Advancing.{Advances-trans}
-use Rattle.recoding.proofs.RoomLemmas.{take_more, Advances-more-read}
-
--- one run after another, each by the three bytes that follow it
-pub Advances-after : (from to : Form) (bytes old mid new : List ℕ) (p n : ℕ) {j k : ℕ} → Advances from to (take (p + 3) bytes) old mid (take 3 (drop p bytes)) j
-    → Advances from to (take (n + 3) (drop p bytes)) mid new (take 3 (drop n (drop p bytes))) k → Advances from to (take (p + n + 3) bytes) old new (take 3 (drop (p + n) bytes)) (j + k)
-Advances-after from to bytes old mid new p n {j} {k} g h =
-    let xs : List ℕ = drop p bytes in
-    let first : Advances from to (take (p + 3 + n) bytes) old mid (take 3 xs ++ take n (drop (p + 3) bytes)) j = Advances-more-read from to [] bytes (take 3 xs) old mid (p + 3) n g in
-    let turned : 3 + n ≡ n + 3 = omega arith in
-    let looked : take 3 xs ++ take n (drop (p + 3) bytes) ≡ take (n + 3) xs =
-    ap (λ ys. take 3 xs ++ take n ys) (sym (drop-drop 3 p bytes)) ∙ take_more 3 n xs ∙ ap (λ k. take k xs) turned in
-    let end : p + 3 + n ≡ p + n + 3 = omega arith in
-    let begun : Advances from to (take (p + n + 3) bytes) old mid (take (n + 3) xs) j =
-    subst (λ m. Advances from to (take m bytes) old mid (take (n + 3) xs) j) end (subst (λ ys. Advances from to (take (p + 3 + n) bytes) old mid ys j) looked first) in
-    let left : Advances from to (take (n + 3) xs) mid new (take 3 (drop (p + n) bytes)) k = subst (λ ys. Advances from to (take (n + 3) xs) mid new (take 3 ys) k) (drop-drop n p bytes) h in
-    Advances-trans from to (take (p + n + 3) bytes) (take (n + 3) xs) (take 3 (drop (p + n) bytes)) old mid new begun left
 
 few_units : (high : Bool) (s : ℕ) → length (flat_map (bytes_of high) (utf16 s)) ≤ 4
 few_units true s = ⊎_elim (λ (low : s < 0x1_0000). rw (utf16-1 s low) (omega arith)) (λ (high : 0x1_0000 ≤ s). rw (utf16-2 s high) (omega arith)) (cases_lt s 0x1_0000)

@@ -12,7 +12,7 @@ use Rattle.recoding.specs.NextScalars.{Decides, Ends}
 use Rattle.recoding.specs.Outputs.{Extends}
 use Rattle.recoding.specs.Recoded.{Feeds, Finishes, IsRecoded, Lacks, Recoding, written}
 use Rattle.recoding.specs.RecodedBytes.{recoded}
-use Rattle.recoding.specs.Replacing.{Becomes, Begins, BeginsLast, FillsPlace, IsFullBy, IsLastFullBy, NextIsLonger, Recodes, Takes, TakesAll, TakesLast, at_place, list_by}
+use Rattle.recoding.specs.Replacing.{Becomes, BeginsBy, BeginsLast, FillsPlace, IsFullBy, IsLastFullBy, NextIsLonger, Recodes, Takes, TakesAll, TakesLast, at_place, list_by}
 use Rattle.recoding.specs.Rooms.{ComesNearer, FeedsInto, FinishesInto, HasRoomFor, IsAmple}
 use Rattle.recoding.proofs.Advancing.{Replaces-of}
 use Rattle.recoding.proofs.Becoming.{NextIsLonger-of, Becomes-front, Becomes-more, Becomes-none, Becomes-then, Becomes-where, continues_of, leaves_of, list_last}
@@ -21,24 +21,13 @@ use Rattle.recoding.proofs.LossyLists.{nothing_is_lossy}
 use Rattle.recoding.proofs.RecodedLists.{recoded-nil, recoded_is}
 use Rattle.recoding.proofs.RoomLemmas.{take_more}
 
--- The first four of the held bytes and those of a part.
-pub looked_at : (joined held rest : List ℕ) (len looked : ℕ) → take len joined ≡ held ++ take 3 rest → len ≡ length held + min 3 (length rest) → looked ≡ min len 4 → length held ≤ 3
-    → take looked joined ≡ held ++ take (looked - length held) rest
-looked_at joined held rest len looked e all four few =
-    let k : ℕ = looked - length held in
-    let ys : List ℕ = take 3 rest in
-    let whole : length held + k ≡ looked = omega arith in
-    let front : take k (take 3 rest) ≡ take k rest = take-take k 3 rest (omega arith) in
-    sym (take-take looked len joined (omega arith)) ∙ ap (take looked) e ∙ ap (λ m. take m (held ++ ys)) (sym whole)
-    ∙ sym (take_more (length held) k (held ++ ys)) ∙ ap₂ (λ xs zs. xs ++ take k zs) (take_at held ys (length held) refl) (drop_at held ys (length held) refl) ∙ ap (λ zs. held ++ zs) front
-
 -- What begins with a piece whose code is longer than the room, with the rest of the part.
-pub IsFullBy-of : (way : Way) (s : Recoding) (part : List ℕ) {c n k room : ℕ} (taken : ℕ) (from to : Form) → from ≡ s.from → to ≡ s.to → Begins way from (s.held ++ take taken part) c n k → room < length (written to c)
+pub IsFullBy-of : (way : Way) (s : Recoding) (part : List ℕ) {c n k room : ℕ} (taken : ℕ) (from to : Form) → from ≡ s.from → to ≡ s.to → BeginsBy way from (s.held ++ take taken part) c n k → room < length (written to c)
     → NextIsLonger way s.from s.to (s.held ++ part) room
 IsFullBy-of way s part {c} {n} {k} {room} taken from to e i begins longer =
     let whole : (s.held ++ take taken part) ++ drop taken part ≡ s.held ++ part = append_assoc s.held (take taken part) (drop taken part) ∙ ap (λ xs. s.held ++ xs) (take-append-drop taken part) in
     subst (λ xs. NextIsLonger way s.from s.to xs room) whole
-    (NextIsLonger-of way (s.held ++ take taken part) (drop taken part) (subst (λ y. Begins way y (s.held ++ take taken part) c n k) e begins) (subst (λ y. room < length (written y c)) i longer))
+    (NextIsLonger-of way (s.held ++ take taken part) (drop taken part) (subst (λ y. BeginsBy way y (s.held ++ take taken part) c n k) e begins) (subst (λ y. room < length (written y c)) i longer))
 
 -- the same of what a run left, of which some is held
 pub IsFullBy-run : (way : Way) (s v : Recoding) (part : List ℕ) (n end room : ℕ) (from to : Form) → from ≡ s.from → to ≡ s.to → n ≤ end → v ≡ record (s) { held = take (end - n) (drop n part) }
@@ -96,14 +85,14 @@ module _ {O : Type 0} {appends : O → List ℕ → O → Type 0} {way : Way} wh
 
   -- a piece that they begin with
   pub Takes-piece : {s v : Recoding} {part : List ℕ} {old new : O} {c n k : ℕ} (taken : ℕ) (from to : Form) → from ≡ s.from → to ≡ s.to → taken ≤ length part → length s.held + taken ≤ 4
-      → Begins way from (s.held ++ take taken part) c n k → appends old (written to c) new → v ≡ record (s) { held = drop n (s.held ++ take taken part) } → Takes appends way s part old new taken k v
+      → BeginsBy way from (s.held ++ take taken part) c n k → appends old (written to c) new → v ≡ record (s) { held = drop n (s.held ++ take taken part) } → Takes appends way s part old new taken k v
   Takes-piece {s} {v} {part} {old} {new} {c} {n} {k} taken from to e i within four begins put same =
       let w : List ℕ = s.held ++ take taken part in
       let d = begins.decides in
       let some = d.some in
       let at : v.held ≡ drop n w = ap (λ x. x.held) same in
       let len : length w ≡ length s.held + taken = omega (arith, length-append s.held (take taken part), length-take taken part) in
-      let here : Begins way s.from w c n k = subst (λ y. Begins way y w c n k) e begins in
+      let here : BeginsBy way s.from w c n k = subst (λ y. BeginsBy way y w c n k) e begins in
       record {
         grown = written s.to c;
         appended = subst (λ y. appends old (written y c) new) i put;

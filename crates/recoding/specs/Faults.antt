@@ -1,5 +1,5 @@
 -- How many faults some bytes have, and how many of them a recoder has replaced by U+FFFD.
-use Rattle.std.specs.Prelude.{◌≡◌, ◌↔◌, ℕ, ◌+◌, ◌-◌, ◌^◌, Bool, List, ◌++◌, length, take, drop, min, is_none, count_by, true, false}
+use Rattle.std.specs.Prelude.{◌≡◌, ◌↔◌, ℕ, ◌+◌, ◌-◌, ◌^◌, Bool, List, ◌++◌, length, min, is_none, count_by, true, false}
 use Rattle.utf_base.specs.Code.{utf8, utf16}
 use Rattle.utf_base.specs.Piece.{Piece, IsCut}
 use Rattle.utf_base.proofs.Cuts.{cut_exists}
@@ -10,7 +10,7 @@ use Rattle.utf_base.proofs.Utf16Code.{utf16_is_code}
 use Rattle.utf_lanes.specs.BytePairs.{units_of}
 use Rattle.recoding.specs.declared.form.Form.{Form}
 use Rattle.recoding.specs.declared.form.Form.TheVariants.{Utf8, Utf16Le, Utf16Be}
-use Rattle.recoding.specs.Recoded.{Grows, Recoding, odd_end}
+use Rattle.recoding.specs.Recoded.{Recoding, odd_end}
 
 -- how many of these pieces are faults
 abbrev pub faults_in : List Piece → ℕ
@@ -47,15 +47,6 @@ CountsTo from bytes n held = (later : List ℕ) → fault_count from (bytes ++ l
 -- the number, as far as 64 bits count
 abbrev pub saturated : ℕ → ℕ
 saturated n = min (2 ^ 64 - 1) n
-
--- What an output holds has grown by what the bytes are recoded as, up to the held ones, and so many faults were replaced.
-pub record Advances (from to : Form) (bytes old new held : List ℕ) (faults : ℕ) : Type 0 where
-  pub grows : Grows from to bytes old new held
-  pub counts : CountsTo from bytes faults held
-
--- The same of so many bytes at the front, by the three that follow them and no others.
-abbrev pub AdvancesBy : Form → Form → List ℕ → List ℕ → List ℕ → ℕ → ℕ → Type 0
-AdvancesBy from to bytes old new read faults = Advances from to (take (read + 3) bytes) old new (take 3 (drop read bytes)) faults
 
 -- A recoder was fed a part and replaced so many faults: whatever follows, they and those that are still to come are the faults
 -- of what it held, the part and what follows.

@@ -1,5 +1,5 @@
 -- What bytes of one form are recoded as in another with one U+FFFD for each maximal subpart, as one list, and what calls make of it.
-use Rattle.std.specs.Prelude.{◌≡◌, ◌↔◌, ℕ, ◌+◌, ◌*◌, ◌≤◌, false, true, List, [], ◌∷◌, ◌++◌, length, take, drop, flat_map, map}
+use Rattle.std.specs.Prelude.{◌≡◌, ◌↔◌, ℕ, ◌≤◌, false, true, List, [], ◌∷◌, ◌++◌, length, take, drop, flat_map, map}
 use Rattle.std.specs.List.{concat}
 use Rattle.utf_base.specs.Code.{utf8, utf16}
 use Rattle.utf_base.specs.Piece.{Piece}
@@ -10,7 +10,6 @@ use Rattle.utf_base.proofs.UnitLemmas.{utf16_finds}
 use Rattle.utf_base.proofs.Utf8Code.{utf8_is_code}
 use Rattle.utf_base.proofs.Utf16Code.{utf16_is_code}
 use Rattle.utf_lanes.specs.BytePairs.{units_of}
-use Rattle.recoding.specs.declared.form.TheConstants.{WIDEST}
 use Rattle.recoding.specs.declared.form.Form.{Form}
 use Rattle.recoding.specs.declared.form.Form.TheVariants.{Utf8, Utf16Le, Utf16Be}
 use Rattle.recoding.specs.Lossy.{IsLossy, ReadsParts, odd_part}
@@ -34,10 +33,6 @@ lossy from to bytes = flat_map (written to) (shown_by_parts from bytes)
 -- bytes become that list, and no other
 abbrev pub LossyIsOne : Type 0
 LossyIsOne = (from to : Form) (bytes out : List ℕ) → IsLossy from to bytes out ↔ (out ≡ lossy from to bytes)
-
--- Whatever follows the bytes, they become `grown`, and then what the held ones do before what follows.
-pub record Becomes (from to : Form) (bytes grown held : List ℕ) : Type 0 where
-  pub same : (later : List ℕ) → lossy from to (bytes ++ later) ≡ grown ++ lossy from to (held ++ later)
 
 -- What comes of a recoder.
 
@@ -93,39 +88,6 @@ IsFullLossy r part read room = NextPartIsTooLong r.from r.to (r.held ++ drop rea
 -- the same where nothing follows the held bytes
 abbrev pub IsLastFullLossy : Recoding → ℕ → Type 0
 IsLastFullLossy r room = BeginsLonger (Ends (ReadsParts r.from) r.held) r.to room
-
--- Any output.
-
--- So many bytes were recoded, by the three that follow them and no others, and what came of them was appended. No more than
--- three bytes came of each.
-pub record RecodesParts {O : Type 0} (appends : O → List ℕ → O → Type 0) (from to : Form) (bytes : List ℕ) (old new : O) (read : ℕ) : Type 0 where
-  pub grown : List ℕ
-  pub appended : appends old grown new
-  pub within : read ≤ length bytes
-  pub short : length grown ≤ WIDEST * read
-  pub becomes : Becomes from to (take (read + 3) bytes) grown (take 3 (drop read bytes))
-
--- So many bytes of a part were read, after those that were held, and some are held.
-pub record TakesParts {O : Type 0} (appends : O → List ℕ → O → Type 0) (r : Recoding) (part : List ℕ) (old new : O) (read : ℕ) (s : Recoding) : Type 0 where
-  pub grown : List ℕ
-  pub appended : appends old grown new
-  pub within : read ≤ length part
-  pub short : length grown + WIDEST * length s.held ≤ WIDEST * (length r.held + read)
-  pub becomes : Becomes r.from r.to (r.held ++ take read part) grown s.held
-  pub from : s.from ≡ r.from
-  pub to : s.to ≡ r.to
-  pub replaced : s.replaced ≡ r.replaced
-  pub few : length s.held ≤ most_held
-
--- The same of the bytes that are held at the end.
-pub record EndsParts {O : Type 0} (appends : O → List ℕ → O → Type 0) (r : Recoding) (old new : O) (s : Recoding) : Type 0 where
-  pub grown : List ℕ
-  pub appended : appends old grown new
-  pub short : length grown + WIDEST * length s.held ≤ WIDEST * length r.held
-  pub becomes : lossy r.from r.to r.held ≡ grown ++ lossy r.from r.to s.held
-  pub from : s.from ≡ r.from
-  pub to : s.to ≡ r.to
-  pub replaced : s.replaced ≡ r.replaced
 
 -- The laws.
 

@@ -41,12 +41,6 @@ abbrev pub BeginsPiece : Form → List ℕ → ShownPiece → Type 0
 BeginsPiece from w (piece.Char s n) = Settles from w s n 0
 BeginsPiece from w (piece.Fault n) = Settles from w 0xFFFD n 1
 
--- and where nothing follows
-pub record SettlesLast (from : Form) (w : List ℕ) (s n faults : ℕ) : Type 0 where
-  pub ends : Ends (Reads from) w s n
-  pub few : faults ≤ 1
-  pub counts : fault_count from w ≡ faults + fault_count from (drop n w)
-
 -- how many bytes a fault has, where there are so many
 abbrev pub fault_len : Form → ℕ
 fault_len Utf8 = 1

@@ -1,12 +1,7 @@
--- Recoding to the end of an output.
-use Rattle.std.specs.Prelude.{◌≡◌, ℕ, ◌+◌, ◌*◌, ◌%◌, ◌<◌, ◌≤◌, Bool, not, List, [], length, take, drop, IsTrue}
+-- What blocks do to an output.
+use Rattle.std.specs.Prelude.{◌≡◌, ℕ, ◌%◌, ◌≤◌, Bool, not, List, length, take}
 use Rattle.std.proofs.Math.Bool.{beq}
-use Rattle.recoding.specs.Recoded.{Lacks}
-use Rattle.recoding.specs.Rooms.{IsAmple, NextIsTooLong}
-use Rattle.recoding.specs.declared.form.TheConstants.{WIDEST}
-use Rattle.recoding.specs.declared.engine.Reached.{Reached}
-use Rattle.recoding.specs.Faults.{AdvancesBy}
-use Rattle.recoding.specs.declared.form.Form.{Form}
+use Rattle.recoding.specs.Rooms.{IsAmple}
 use Rattle.utf_lanes.specs.BytePairs.{units_of, turned}
 use Rattle.utf_lanes.specs.Utf8ToUtf16.{concat_range}
 use Rattle.utf_lanes.specs.UnitBlocks.{AreCodes}
@@ -15,25 +10,6 @@ use Rattle.utf_lanes.specs.UnitCodes.{lane_unit, code_at, AreText}
 -- There is room for all that comes of the bytes, whatever the forms.
 abbrev pub FitsAll : List ℕ → ℕ → Type 0
 FitsAll bytes room = IsAmple room (length bytes)
-
--- So many bytes were recoded, by the three that follow them and no others, so many faults were replaced, and what came of both
--- was appended. No more than one fault came of each.
-pub record Recodes {O : Type 0} (appends : O → List ℕ → O → Type 0) (from to : Form) (bytes : List ℕ) (old new : O) (read faults : ℕ) : Type 0 where
-  pub grown : List ℕ
-  pub appended : appends old grown new
-  pub within : read ≤ length bytes
-  pub short : length grown ≤ WIDEST * read
-  pub few : faults ≤ read
-  pub advances : AdvancesBy from to bytes [] grown read faults
-
--- How far a run went: so many bytes were recoded and so many faults replaced as it says, and it ended before a code for which there is no room, or since
--- what follows decides, or neither.
-pub record Reaches {O : Type 0} (appends : O → List ℕ → O → Type 0) (room : O → ℕ) (from to : Form) (bytes : List ℕ) (old new : O) (reached : Reached) : Type 0 where
-  pub runs : Recodes appends from to bytes old new reached.read reached.replaced
-  pub full : IsTrue reached.is_full → NextIsTooLong from to (drop reached.read bytes) (room new)
-  pub short : IsTrue reached.is_full → room new < 4
-  pub waits : IsTrue reached.is_waiting → length bytes ≤ reached.read + 3
-  pub lacks : IsTrue reached.is_waiting → Lacks from (drop reached.read bytes)
 
 -- The first n of sixteen units are text, and their bytes were appended.
 pub record PutsUnits {O : Type 0} (appends : O → List ℕ → O → Type 0) (low high : List ℕ) (old new : O) (n : ℕ) : Type 0 where

@@ -37,7 +37,7 @@ pub record Becomes (way : Way) (from to : Form) (bytes grown : List ℕ) (faults
   pub counts : IsCounting way → CountsTo from bytes faults held
 
 -- The bytes begin with n bytes that show the scalar s and are so many faults, whatever follows.
-pub record Begins (way : Way) (from : Form) (w : List ℕ) (s n faults : ℕ) : Type 0 where
+pub record BeginsBy (way : Way) (from : Form) (w : List ℕ) (s n faults : ℕ) : Type 0 where
   pub decides : Decides (reads_by way from) w s n
   pub few : faults ≤ 1
   pub counts : IsCounting way → CountsTo from w faults (drop n w)
@@ -50,8 +50,8 @@ pub record BeginsLast (way : Way) (from : Form) (w : List ℕ) (s n faults : ℕ
 
 -- a piece that begins the bytes, whatever follows
 abbrev pub IsNext : Way → Form → List ℕ → ShownPiece → Type 0
-IsNext way from w (piece.Char s n) = Begins way from w s n 0
-IsNext way from w (piece.Fault n) = Begins way from w 0xFFFD n 1
+IsNext way from w (piece.Char s n) = BeginsBy way from w s n 0
+IsNext way from w (piece.Fault n) = BeginsBy way from w 0xFFFD n 1
 
 -- and where nothing does
 abbrev pub IsLast : Way → Form → List ℕ → ShownPiece → Type 0

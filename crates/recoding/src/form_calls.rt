@@ -2,7 +2,7 @@
 ghost use Rattle.std.specs.Prelude.{◌≡◌, ◌<◌, ◌≤◌, length, min, IfSome, IfNone, IsTrue, IsFalse, MatchResult};
 ghost use Rattle.recoding.specs.Recoded.{Lacks, written};
 ghost use Rattle.recoding.specs.NextScalars.{fault_len};
-ghost use Rattle.recoding.specs.Replacing.{Begins, BeginsLast};
+ghost use Rattle.recoding.specs.Replacing.{BeginsBy, BeginsLast};
 ghost use Rattle.recoding.specs.Strict.{BeginsChar, EndsInFault, IsFirstPiece, lacking};
 
 use crate::faults::FaultKind;
@@ -42,7 +42,7 @@ macro_rules! by_way {
 // What begins the bytes; `None` where that depends on what follows them.
 #[inline(always)]
 pub(crate) fn next_of(way: Way, from: Form, bytes: &[u8]) -> Option<NextScalar>
-    ensures some { IfSome result (λ x. Begins way from bytes.now x.c x.len x.faults) }
+    ensures some { IfSome result (λ x. BeginsBy way from bytes.now x.c x.len x.faults) }
     ensures few { IfNone result (length bytes.now ≤ 3) }
     ensures lacks { IfNone result (Lacks from bytes.now) }
 {

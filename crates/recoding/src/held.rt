@@ -1,8 +1,7 @@
 //! What a recoder holds, with the part that follows it, and at the end.
 ghost use Rattle.std.specs.Prelude.{◌≡◌, [], ◌+◌, ◌-◌, ◌<◌, ◌≤◌, length, take, drop, ◌++◌, min, IfSome, IfNone, IsTrue, IsFalse};
-ghost use Rattle.recoding.specs.Faults.{fault_count};
 ghost use Rattle.recoding.specs.Recoded.{Lacks, most_held};
-ghost use Rattle.recoding.specs.Replacing.{Begins, FillsPlace, IsFullBy, IsLastFullBy, Takes, TakesLast, at_place};
+ghost use Rattle.recoding.specs.Replacing.{BeginsBy, FillsPlace, IsFullBy, IsLastFullBy, Takes, TakesLast, at_place};
 
 use crate::engine::{Reached, ended};
 use crate::form::Form;
@@ -35,7 +34,7 @@ impl Recoder {
         let mut replaced = 0;
         while !self.held().is_empty() {
             let rest = &part[read..];
-            let Some((first, taken)) = first_of_both(way, from, self.held(), rest) else {
+            let Some((first, taken)) = next_of_both(way, from, self.held(), rest) else {
                 self.take_more(rest, 0);
                 return ended(part.len(), replaced, false, true);
             };
@@ -104,9 +103,9 @@ impl Recoder {
     }
 }
 
-// What begins the held bytes with those that follow them, and how many of those were looked at. `None` where all of them together are
-// too few.
-fn first_of_both(
+// What begins the held bytes with those that follow them, and how many of those were looked at: no more than tell it, so that a
+// character takes no byte of the next one. `None` where all of them together are too few.
+fn next_of_both(
     way: Way,
     from: Form,
     held: &[u8],
@@ -116,19 +115,21 @@ fn first_of_both(
     requires few { length held.now ≤ most_held }
     ensures within { IfSome result (λ x. x.1 ≤ length rest.now) }
     ensures begins { IfSome result
-        (λ x. Begins way from (held.now ++ take x.1 rest.now) x.0.c x.0.len x.0.faults) }
+        (λ x. BeginsBy way from (held.now ++ take x.1 rest.now) x.0.c x.0.len x.0.faults) }
     ensures near { IfSome result (λ x. length held.now + x.1 ≤ 4) }
     ensures none { IfNone result (length held.now + length rest.now ≤ 3) }
     ensures lacks { IfNone result (Lacks from (held.now ++ rest.now)) }
 {
-    if let Some(first) = next_of(way, from, held) {
-        return Some((first, 0));
-    }
-    let (joined, len) = join(held, rest);
-    let looked = len.min(4);
-    match next_of(way, from, &joined[..looked]) {
-        Some(first) => Some((first, looked - held.len())),
-        None => None,
+    let mut taken = 0;
+    loop {
+        let (joined, len) = join(held, &rest[..taken]);
+        if let Some(first) = next_of(way, from, &joined[..len]) {
+            return Some((first, taken));
+        }
+        if taken == rest.len() {
+            return None;
+        }
+        taken += 1;
     }
 }
 
@@ -145,18 +146,4 @@ pub(crate) fn join(held: &[u8], part: &[u8]) -> ([u8; 6], usize)
     joined[..count].copy_from_slice(held);
     joined[count..count + taken].copy_from_slice(&part[..taken]);
     (joined, count + taken)
-}
-
-// How many faults the bytes have, which nothing follows.
-pub(crate) fn faults_at_end(from: Form, bytes: &[u8]) -> usize
-    ensures { result ≡ fault_count from bytes.now }
-{
-    let mut place = 0;
-    let mut count = 0;
-    while place < bytes.len() {
-        let first = last_of(Way::Faults, from, &bytes[place..]);
-        place += first.len;
-        count += first.faults;
-    }
-    count
 }

@@ -9,7 +9,7 @@ ghost use Rattle.recoding.specs.RecodedBytes.{AddsAll, AddsLast, AddsOutcome, Ke
 ghost use Rattle.recoding.specs.Rooms.{ComesNearer, FeedsInto, FinishesInto, HasRoomFor, IsFull, IsLastFull, bytes_left};
 
 use crate::form::{Form, WIDEST};
-use crate::held::faults_at_end;
+use crate::form_calls::last_of;
 use crate::recoder_runs::{progress, recode_into, recode_whole};
 use crate::room::Room;
 use crate::rooms::Progress;
@@ -369,7 +369,30 @@ impl Recoder {
         ensures total { AddsUp self.old result.replaced self.new }
         ensures counts { KeepsCount self.old (take result.read part.now) self.new }
     {
-        let done = self.take(Way::Faults, part, room);
+        let count = self.count;
+        if count == 0 {
+            let done = self.take_alone(Way::Faults, part, room, 0);
+            self.count_faults(done.replaced);
+            return done;
+        }
+        self.feed_joined_into(part, room)
+    }
+
+    // `feed_into` where something is held, kept apart so that the counts of the other way stay in registers.
+    #[inline(never)]
+    fn feed_joined_into(&mut self, part: &[u8], room: &mut [u8]) -> Progress
+        ensures feeds { FeedsInto self.old part.now room.old room.new result.read result.written self.new }
+        ensures full { IsTrue result.is_full →
+            IsFull self.new part.now result.read (length room.old - result.written) }
+        ensures short { IsTrue result.is_full → length room.old < result.written + 4 }
+        ensures read { IsFalse result.is_full → result.read ≡ length part.now }
+        ensures waits { IsFalse result.is_full → Lacks self.old.from self.new.held }
+        ensures moves { 4 ≤ length room.old → 0 < length part.now → 0 < result.read + result.written }
+        ensures nearer { ComesNearer part.now room.old result.read self.old self.new }
+        ensures replaces { Replaces self.old (take result.read part.now) result.replaced self.new }
+        ensures total { AddsUp self.old result.replaced self.new }
+    {
+        let done = self.take_joined(Way::Faults, part, room);
         self.count_faults(done.replaced);
         done
     }
@@ -485,4 +508,18 @@ impl Recoder {
         let done = self.take_last::<Room<'_>>(way, &mut out);
         progress(0, out.len, done.replaced, done.is_full)
     }
+}
+
+// How many faults the bytes have, which nothing follows.
+fn faults_at_end(from: Form, bytes: &[u8]) -> usize
+    ensures { result ≡ fault_count from bytes.now }
+{
+    let mut place = 0;
+    let mut count = 0;
+    while place < bytes.len() {
+        let first = last_of(Way::Faults, from, &bytes[place..]);
+        place += first.len;
+        count += first.faults;
+    }
+    count
 }

@@ -1,4 +1,5 @@
-use Rattle.recoding.proofs.Becoming.{BeginsLast-waits, IsLast-of, IsNext-settled}
+use Rattle.recoding.proofs.Becoming.{IsLast-of, IsNext-settled}
+use Rattle.recoding.proofs.FrontBytes.{BeginsLast-waits}
 use Rattle.recoding.proofs.replacing.EachReplacing.last.Goals as goal
 
 pub returns-in-Some : goal.returns-in-Some

@@ -1,6 +1,6 @@
 use Rattle.std.proofs.Common.{◌≡◌, ◌+◌, ◌-◌, ◌≤◌, length, drop}
 use Rattle.recoding.specs.Faults.{fault_count}
-use Rattle.recoding.proofs.held.faults_at_end.Given as goal
+use Rattle.recoding.proofs.recoder.faults_at_end.Given as goal
 
 abbrev pub invariant-loop-place : goal.invariant-loop-place
 invariant-loop-place l = record {

@@ -3,7 +3,7 @@ use Rattle.std.proofs.lemmas.List.{take_rest, drop_all, drop-drop}
 use Rattle.recoding.specs.declared.way.Way.TheVariants.{Faults}
 use Rattle.recoding.specs.Replacing.{BeginsLast}
 use Rattle.recoding.proofs.FaultCounts.{none_in_nothing}
-use Rattle.recoding.proofs.held.faults_at_end.Goals as goal
+use Rattle.recoding.proofs.recoder.faults_at_end.Goals as goal
 
 pub loop-place-preserved : goal.loop-place-preserved
 loop-place-preserved c =
