@@ -2,11 +2,54 @@
 ghost use Rattle.std.specs.List.{copy_within};
 ghost use Rattle.std.specs.Prelude.{◌≡◌, ◌+◌, ◌-◌, ◌≤◌, ◌<◌, length};
 
-// How many items are moved at once.
-const BLOCK: usize = 256;
+use crate::runs::items::Item;
 
-/// Moves the items from `from` to `end` so that they begin at `to`. What stood there is lost.
-pub(crate) fn move_items<T: Copy + Drop>(items: &mut [T], from: usize, end: usize, to: usize)
+// How many items are moved at once, and how many bytes: so many fit into the registers of vectors.
+const ITEMS: usize = 256;
+
+const BYTES: usize = 64;
+
+// What is moved in lists, by the way that is quickest for its width.
+pub(crate) trait Moved: Copy + Drop {
+    ghost use Rattle.std.specs.List.{copy_within};
+    ghost use Rattle.std.specs.Prelude.{◌≡◌, ◌+◌, ◌-◌, ◌≤◌, length};
+
+    // Moves the items from `from` to `end` so that they begin at `to`. What stood there is lost.
+    fn move_within(items: &mut [Self], from: usize, end: usize, to: usize)
+        requires ordered { from ≤ end }
+        requires within { end ≤ length items.old }
+        requires room { to + (end - from) ≤ length items.old }
+        ensures { items.new ≡ copy_within items.old from end to };
+}
+
+impl Moved for u8 {
+    fn move_within(items: &mut [u8], from: usize, end: usize, to: usize) {
+        move_bytes(items, from, end, to)
+    }
+}
+
+impl Moved for Item {
+    fn move_within(items: &mut [Item], from: usize, end: usize, to: usize) {
+        move_items(items, from, end, to)
+    }
+}
+
+// The same of bytes. By gaps as below few would be moved at once.
+fn move_bytes(bytes: &mut [u8], from: usize, end: usize, to: usize)
+    requires ordered { from ≤ end }
+    requires within { end ≤ length bytes.old }
+    requires room { to + (end - from) ≤ length bytes.old }
+    ensures { bytes.new ≡ copy_within bytes.old from end to }
+{
+    if to < from {
+        move_blocks_down::<u8, BYTES>(&mut bytes[to..end], from - to);
+    } else {
+        move_blocks_up::<u8, BYTES>(&mut bytes[from..to + (end - from)], to - from);
+    }
+}
+
+// The same of wider items.
+fn move_items<T: Copy + Drop>(items: &mut [T], from: usize, end: usize, to: usize)
     requires ordered { from ≤ end }
     requires within { end ≤ length items.old }
     requires room { to + (end - from) ≤ length items.old }
@@ -33,7 +76,7 @@ fn move_up<T: Copy + Drop>(items: &mut [T], gap: usize)
         6 => move_up_by::<T, 6>(items),
         7 => move_up_by::<T, 7>(items),
         8 => move_up_by::<T, 8>(items),
-        _ => move_blocks_up(items, gap),
+        _ => move_blocks_up::<T, ITEMS>(items, gap),
     }
 }
 
@@ -51,7 +94,7 @@ fn move_down<T: Copy + Drop>(items: &mut [T], gap: usize)
         6 => move_down_by::<T, 6>(items),
         7 => move_down_by::<T, 7>(items),
         8 => move_down_by::<T, 8>(items),
-        _ => move_blocks_down(items, gap),
+        _ => move_blocks_down::<T, ITEMS>(items, gap),
     }
 }
 
@@ -105,7 +148,8 @@ fn move_chunk_down<T: Copy + Drop, const GAP: usize>(items: &mut [T], to: usize)
 }
 
 // The same by any gap. Blocks go by way of the stack, since `copy_within` moves item by item here; from the first on.
-fn move_blocks_down<T: Copy + Drop>(items: &mut [T], gap: usize)
+fn move_blocks_down<T: Copy + Drop, const BLOCK: usize>(items: &mut [T], gap: usize)
+    requires some { 0 < BLOCK }
     requires within { gap ≤ length items.old }
     ensures { items.new ≡ copy_within items.old gap (length items.old) 0 }
 {
@@ -124,7 +168,8 @@ fn move_blocks_down<T: Copy + Drop>(items: &mut [T], gap: usize)
 }
 
 // From the last block on.
-fn move_blocks_up<T: Copy + Drop>(items: &mut [T], gap: usize)
+fn move_blocks_up<T: Copy + Drop, const BLOCK: usize>(items: &mut [T], gap: usize)
+    requires some { 0 < BLOCK }
     requires within { gap ≤ length items.old }
     ensures { items.new ≡ copy_within items.old 0 (length items.old - gap) gap }
 {
@@ -144,7 +189,12 @@ fn move_blocks_up<T: Copy + Drop>(items: &mut [T], gap: usize)
 
 // Moves one block by way of `block`.
 #[inline(always)]
-fn move_block<T: Copy + Drop>(items: &mut [T], from: usize, to: usize, block: &mut [T; BLOCK])
+fn move_block<T: Copy + Drop, const BLOCK: usize>(
+    items: &mut [T],
+    from: usize,
+    to: usize,
+    block: &mut [T; BLOCK],
+)
     requires within { from + BLOCK ≤ length items.old }
     requires room { to + BLOCK ≤ length items.old }
     ensures { items.new ≡ copy_within items.old from (from + BLOCK) to }

@@ -9,7 +9,7 @@ ghost use Rattle.encode_unicode.specs.Window.{Item as AnItem, IsFrontPiece};
 ghost use Rattle.cuts.specs.ForwardRuns.{IsForwardRun, IsForwardRunBetween};
 ghost use Rattle.cuts.specs.Tables.{StayAround, StepForEach, WereReplaced, IsSplice, IsRenewed, IsSplitAt, EndsAt, IsRestMoved, moved_item};
 
-use crate::block_moves::move_items;
+use crate::block_moves::Moved;
 use crate::runs::items::Item;
 use encode_unicode::{Steps, Utf8Char};
 use std::alloc::{AllocError, Allocator};
@@ -211,7 +211,7 @@ fn put_pieces<A: Allocator>(
 
 // Puts `new` in place of the items from `start` to `end`. It fails only where room for it is missing,
 // and then changes nothing.
-pub(crate) fn splice_in<T: Copy + Drop, A: Allocator>(
+pub(crate) fn splice_in<T: Moved, A: Allocator>(
     items: &mut Vec<T, A>,
     start: usize,
     end: usize,
@@ -230,7 +230,7 @@ pub(crate) fn splice_in<T: Copy + Drop, A: Allocator>(
 }
 
 // Moves the items after `from` so that they begin at `to`. A gap is filled with some of `filler`.
-fn move_rest<T: Copy + Drop, A: Allocator>(
+fn move_rest<T: Moved, A: Allocator>(
     items: &mut Vec<T, A>,
     from: usize,
     to: usize,
@@ -247,12 +247,12 @@ fn move_rest<T: Copy + Drop, A: Allocator>(
         return Ok(());
     }
     if to < from {
-        move_items(items.as_mut_slice(), from, len, to);
+        T::move_within(items.as_mut_slice(), from, len, to);
         items.truncate(to + (len - from));
         return Ok(());
     }
     items.extend_from_slice(&filler[..to - from])?;
-    move_items(items.as_mut_slice(), from, len, to);
+    T::move_within(items.as_mut_slice(), from, len, to);
     Ok(())
 }
 

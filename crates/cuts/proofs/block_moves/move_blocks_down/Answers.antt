@@ -11,7 +11,7 @@ loop-next-preserved g c =
     let most = i.most in
     let some = c.loop-next-test.true in
     let sum : gap + (next - gap) ≡ next = omega arith in
-    let down = copied_front c.args.items.now gap (next - gap) 256 (omega arith) in
+    let down = copied_front c.args.items.now gap (next - gap) g.row.BLOCK (omega arith) in
     record { moved = rw (c.move_block.ensures, i.moved) (rw sum at down); least = omega arith; most = omega arith }
 
 pub returns : goal.returns

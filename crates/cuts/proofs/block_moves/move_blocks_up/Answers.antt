@@ -10,10 +10,10 @@ loop-left-preserved g c =
     let i = c.loop-left.invariant in
     let within = i.within in
     let some = c.loop-left-test.true in
-    let block : left - 256 + 256 ≡ left = omega arith in
+    let block : left - g.row.BLOCK + g.row.BLOCK ≡ left = omega arith in
     let end : left + (count - left) ≡ count = omega arith in
-    let place : gap + (left - 256) + 256 ≡ gap + left = omega arith in
-    let up = copied_up c.args.items.now (left - 256) 256 (count - left) (gap + (left - 256)) (omega arith) (omega arith) in
+    let place : gap + (left - g.row.BLOCK) + g.row.BLOCK ≡ gap + left = omega arith in
+    let up = copied_up c.args.items.now (left - g.row.BLOCK) g.row.BLOCK (count - left) (gap + (left - g.row.BLOCK)) (omega arith) (omega arith) in
     record { moved = rw (c.move_block.ensures, block, i.moved) (rw (block, end, place) at up); within = omega arith }
 
 pub returns : goal.returns
