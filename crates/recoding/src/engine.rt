@@ -221,7 +221,10 @@ fn recode_faults<S: Text, T: Text, F: Replacing, O: Output>(bytes: &[u8], out: &
 
 // The same as far as there is room.
 #[inline(never)]
-fn recode_faults_within<S: Text, T: Text, F: Replacing, O: Output>(bytes: &[u8], out: &mut O) -> Reached
+fn recode_faults_within<S: Text, T: Text, F: Replacing, O: Output>(
+    bytes: &[u8],
+    out: &mut O,
+) -> Reached
     ensures reaches { Reaches O.appends O.room F.way S.form T.form bytes.now out.old out.new result }
     ensures moves { IsFalse result.is_full → IsFalse result.is_waiting → 0 < result.read }
 {

@@ -15,12 +15,7 @@ use crate::way::Way;
 impl Recoder {
     // Takes what is held, with as many bytes of the part as it takes, until nothing is held, or all of the part is, or the output is
     // full. Faults are not counted yet.
-    pub(crate) fn take_held<O: Output>(
-        &mut self,
-        way: Way,
-        part: &[u8],
-        out: &mut O,
-    ) -> Reached
+    pub(crate) fn take_held<O: Output>(&mut self, way: Way, part: &[u8], out: &mut O) -> Reached
         ensures takes { Takes O.appends way self.old part.now out.old out.new
             result.read result.replaced self.new }
         ensures full { IsTrue result.is_full → IsFullBy way self.new part.now result.read (O.room out.new) }
@@ -105,12 +100,7 @@ impl Recoder {
 
 // What begins the held bytes with those that follow them, and how many of those were looked at: no more than tell it, so that a
 // character takes no byte of the next one. `None` where all of them together are too few.
-fn next_of_both(
-    way: Way,
-    from: Form,
-    held: &[u8],
-    rest: &[u8],
-) -> Option<(NextScalar, usize)>
+fn next_of_both(way: Way, from: Form, held: &[u8], rest: &[u8]) -> Option<(NextScalar, usize)>
     requires some { 0 < length held.now }
     requires few { length held.now ≤ most_held }
     ensures within { IfSome result (λ x. x.1 ≤ length rest.now) }

@@ -417,13 +417,7 @@ impl Recoder {
 
     // The same where nothing is held, from a place of the room on.
     #[inline(always)]
-    fn take_alone(
-        &mut self,
-        way: Way,
-        part: &[u8],
-        room: &mut [u8],
-        place: usize,
-    ) -> Progress
+    fn take_alone(&mut self, way: Way, part: &[u8], room: &mut [u8], place: usize) -> Progress
         requires none { length self.old.held ≡ 0 }
         requires place { place ≤ length room.old }
         ensures takes { Takes FillsPlace way self.old part.now
