@@ -1,8 +1,7 @@
 -- An output that grows by what bytes are recoded as, step by step.
-use Rattle.std.proofs.Common.{◌≡◌, ℕ, ◌+◌, ◌-◌, ◌*◌, ◌<◌, ◌≤◌, ⊎_elim, Bool, true, false, List, [], ◌∷◌, ◌++◌, length, take, drop, flat_map, arith, refl, ap, sym, ◌∙◌, append_assoc, length-append, length-drop}
+use Rattle.std.proofs.Common.{◌≡◌, ℕ, ◌*◌, ◌<◌, ◌≤◌, ⊎_elim, Bool, true, false, List, [], ◌++◌, length, flat_map, arith, refl, ap, sym, ◌∙◌, append_assoc}
 use Rattle.std.proofs.lemmas.Grind.{common_steps}
 use Rattle.std.proofs.lemmas.Bool.{cases_lt}
-use Rattle.std.proofs.lemmas.List.{append-nil, drop-drop, drop_at, drop_all, drop-append-le, take_all}
 use Rattle.utf_base.specs.Code.{utf8, utf16}
 use Rattle.utf_base.proofs.FrontLemmas.{utf8_finds}
 use Rattle.utf_base.proofs.UnitLemmas.{utf16_finds}
@@ -11,9 +10,8 @@ use Rattle.utf_base.proofs.Utf8Code.{utf8_is_code, length_utf8}
 use Rattle.utf_base.proofs.Utf16Code.{utf16_is_code, utf16-1, utf16-2}
 use Rattle.recoding.specs.declared.form.Form.{Form}
 use Rattle.recoding.specs.declared.form.Form.TheVariants.{Utf8, Utf16Le, Utf16Be}
-use Rattle.recoding.specs.Recoded.{Reads, ShowsUnits, odd_end, written, IsRecoded, Continues, RecodedOnce, Recoding, Grows, Feeds, Finishes, fresh}
+use Rattle.recoding.specs.Recoded.{Reads, ShowsUnits, odd_end, written, IsRecoded, Continues, RecodedOnce, Grows}
 use Rattle.utf_lanes.specs.BytePairs.{units_of, bytes_of}
-use Rattle.recoding.specs.NextScalars.{Decides, Ends}
 
 -- Bytes show one list.
 

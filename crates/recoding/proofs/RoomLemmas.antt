@@ -1,5 +1,5 @@
 -- Parts of lists, and what begins bytes that others follow.
-use Rattle.std.proofs.Common.{◌≡◌, ℕ, ◌+◌, ◌-◌, ◌<◌, ◌≤◌, List, ◌++◌, length, take, drop, arith, ap, ap₂, sym, ◌∙◌, append_assoc, length-append, take-append-drop}
+use Rattle.std.proofs.Common.{◌≡◌, ℕ, ◌+◌, ◌-◌, ◌≤◌, List, ◌++◌, take, drop, arith, ap, ap₂, sym, ◌∙◌, append_assoc, length-append, take-append-drop}
 use Rattle.std.proofs.lemmas.List.{drop-take, take-take, drop-append-le}
 use Rattle.recoding.specs.NextScalars.{Decides}
 

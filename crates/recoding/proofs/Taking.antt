@@ -1,24 +1,21 @@
 -- Parts that a recoder takes with what it holds, step by step, and what callers have of that.
-use Rattle.std.proofs.Common.{◌≡◌, ℕ, ◌+◌, ◌-◌, ◌*◌, ◌<◌, ◌≤◌, ⊎_elim, Bool, true, false, rules, List, [], ◌++◌, length, min, take, drop, arith, refl, ap, ap₂, sym, ◌∙◌, subst, append_assoc, length-append, length-drop, length-take, take-append-drop}
+use Rattle.std.proofs.Common.{◌≡◌, ℕ, ◌+◌, ◌-◌, ◌<◌, ◌≤◌, ⊎_elim, Bool, true, false, rules, List, [], ◌++◌, length, min, take, drop, arith, refl, ap, ap₂, sym, ◌∙◌, subst, append_assoc, length-append, length-drop, length-take, take-append-drop}
 use Rattle.std.proofs.lemmas.Bool.{cases_lt}
-use Rattle.std.proofs.lemmas.List.{append-nil, drop_all, drop_at, drop-drop, take_all, take_at, take_rest, take-take}
-use Rattle.std.specs.Prelude.{IsTrue, IsFalse, Vec, vec_len, vec_capacity}
+use Rattle.std.proofs.lemmas.List.{append-nil, drop_all, drop-drop, take_all}
+use Rattle.std.specs.Prelude.{IsTrue, IsFalse, Vec, vec_capacity}
 use Rattle.recoding.specs.declared.form.Form.{Form}
 use Rattle.recoding.specs.declared.way.Way.{Way}
 use Rattle.recoding.specs.declared.way.Way.TheVariants.{Faults, Subparts}
 use Rattle.recoding.specs.Faults.{AddsUp, CountsFed, Replaces, ReplacesLast, fault_count, saturated}
 use Rattle.recoding.specs.LossyBytes.{AddsAllLossy, AddsLastLossy, AddsLossy, FeedsLossy, FinishesLossy, lossy, lossy_outcome}
-use Rattle.recoding.specs.NextScalars.{Decides, Ends}
 use Rattle.recoding.specs.Outputs.{Extends}
 use Rattle.recoding.specs.Recoded.{Feeds, Finishes, IsRecoded, Lacks, Recoding, written}
-use Rattle.recoding.specs.RecodedBytes.{recoded}
 use Rattle.recoding.specs.Replacing.{Becomes, BeginsBy, BeginsLast, FillsPlace, IsFullBy, IsLastFullBy, NextIsLonger, Recodes, Takes, TakesAll, TakesLast, at_place, list_by}
 use Rattle.recoding.specs.Rooms.{ComesNearer, FeedsInto, FinishesInto, HasRoomFor, IsAmple}
 use Rattle.recoding.proofs.Advancing.{Replaces-of}
 use Rattle.recoding.proofs.Becoming.{NextIsLonger-of, Becomes-front, Becomes-more, Becomes-none, Becomes-then, Becomes-where, continues_of, leaves_of, list_last}
 use Rattle.recoding.proofs.Growing.{length_written, recoded_nothing}
 use Rattle.recoding.proofs.LossyLists.{nothing_is_lossy}
-use Rattle.recoding.proofs.RecodedLists.{recoded-nil, recoded_is}
 use Rattle.recoding.proofs.RoomLemmas.{take_more}
 
 -- What begins with a piece whose code is longer than the room, with the rest of the part.

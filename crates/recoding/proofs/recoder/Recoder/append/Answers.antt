@@ -1,4 +1,4 @@
-use Rattle.std.proofs.Common.{◌≡◌, drop, arith, ap, sym, ◌∙◌}
+use Rattle.std.proofs.Common.{arith, ap, sym}
 use Rattle.std.proofs.lemmas.List.{take_rest}
 use Rattle.recoding.proofs.Taking.{Takes-run}
 use Rattle.recoding.proofs.recoder.Recoder.append.Goals as goal

@@ -1,4 +1,4 @@
-use Rattle.std.proofs.Common.{◌≡◌, ◌+◌, length, take, drop, arith, ap, subst, length-drop, length-take}
+use Rattle.std.proofs.Common.{◌≡◌, ◌+◌, length, drop, arith, ap, subst, length-drop}
 use Rattle.std.proofs.lemmas.List.{take_rest}
 use Rattle.recoding.specs.Outputs.{Extends-more, Extends-room}
 use Rattle.recoding.specs.Recoded.{Lacks}

@@ -1,8 +1,6 @@
-use Rattle.std.proofs.Common.{◌≡◌, ℕ, ◌+◌, ◌-◌, ◌<◌, length, take, drop, rules, arith, ap, sym, subst, ◌∙◌, length-drop}
+use Rattle.std.proofs.Common.{◌≡◌, ℕ, ◌+◌, ◌<◌, length, drop, rules, arith, ap, sym, subst, ◌∙◌, length-drop}
 use Rattle.std.proofs.lemmas.List.{take_rest}
 use Rattle.recoding.specs.Recoded.{written}
-use Rattle.recoding.specs.Replacing.{Takes}
-use Rattle.recoding.specs.Replacing.{BeginsBy}
 use Rattle.recoding.proofs.Taking.{IsFullBy-of, Takes-all, Takes-none, Takes-piece, Takes-then}
 use Rattle.recoding.proofs.recoder.Recoder.take_held.Goals as goal
 

@@ -1,4 +1,4 @@
-use Rattle.std.proofs.Common.{length, take, drop, arith, ap, sym, length-drop, length-take}
+use Rattle.std.proofs.Common.{length, arith, ap, sym, length-drop, length-take}
 use Rattle.std.proofs.lemmas.List.{take_rest}
 use Rattle.recoding.proofs.Taking.{FillsPlace-more, IsFullBy-then, Takes-then}
 use Rattle.recoding.proofs.recoder.Recoder.take_joined.Goals as goal
