@@ -2,8 +2,13 @@
 use Rattle.std.proofs.Common.{◌≡◌, ℕ, ◌+◌, List, subst, sym}
 use Rattle.cuts.specs.Recoded.{Recoding}
 use Rattle.cuts.specs.Faults.{Replaces, ReplacesLast, saturated}
+use Rattle.cuts.specs.Rooms.{FinishesInto}
 use Rattle.c_api.specs.declared.recodings.NodyRecoder.{NodyRecoder}
 use Rattle.c_api.specs.Api.{recoder_of, CountsPart, CountsEnd}
+
+-- What ends into room does not depend on what was counted.
+pub FinishesInto-counted : (r s t : Recoding) (old new : List ℕ) (wrote : ℕ) {n : ℕ} → FinishesInto r old new wrote s → t ≡ record s { replaced = n } → FinishesInto r old new wrote t
+FinishesInto-counted r s t old new wrote f e = rw e (record { leaves = f.leaves; from = f.from; to = f.to; few = f.few; fits = f.fits })
 
 -- The struct was opened as a recoder, which a call changed and which was kept.
 module _ (r kept : NodyRecoder) (opened inner : Recoding) (n total : ℕ) (was : opened ≡ recoder_of r) (is : recoder_of kept ≡ record inner { replaced = 0 })

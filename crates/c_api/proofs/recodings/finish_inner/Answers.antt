@@ -1,7 +1,6 @@
 use Rattle.std.proofs.Common.{arith, subst}
 use Rattle.cuts.specs.Rooms.{FinishesInto}
-use Rattle.recoding.proofs.RoomLemmas.{FinishesInto-counted}
-use Rattle.c_api.proofs.Counted.{end_counted}
+use Rattle.c_api.proofs.Counted.{FinishesInto-counted, end_counted}
 use Rattle.c_api.specs.Api.{recoder_of}
 use Rattle.c_api.proofs.recodings.finish_inner.Goals as goal
 
