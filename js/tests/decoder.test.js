@@ -527,14 +527,18 @@ each("encodings by their labels, and options", () => {
 test("a part that was read to its end is not kept", async () => {
     v8.setFlagsFromString("--expose-gc");
     const [gc, decoder] = [vm.runInNewContext("gc"), new installed.Decoder()];
-    const kept = async () => {
-        await new Promise(setImmediate);
-        gc();
-        return process.memoryUsage().arrayBuffers;
+    // (memory may be given back a while after it was collected)
+    const isBelow = async (most) => {
+        for (let turn = 0; turn < 100 && process.memoryUsage().arrayBuffers >= most; turn++) {
+            await new Promise((resolve) => setTimeout(resolve, 20));
+            gc();
+        }
+        return process.memoryUsage().arrayBuffers < most;
     };
-    const before = await kept();
+    gc();
+    const most = process.memoryUsage().arrayBuffers + 1_000_000;
     for (const it of decoder.feed(new Uint8Array(2_000_000))) assert.equal(it.char, "\0");
-    assert.deepEqual([(await kept()) - before < 1_000_000, decoder.offset], [true, 2_000_000]);
+    assert.deepEqual([await isBelow(most), decoder.offset], [true, 2_000_000]);
 });
 
 test("the installed package has it, over a stream too", async () => {
