@@ -165,11 +165,12 @@ class Watch(threading.Thread):
 
 
 class Guess:
-    """How long the steps of a check still take: as long as the last time in this clone, or as was seen elsewhere."""
+    """How long the steps of a check still take: as long as the last time in this clone, or as was seen elsewhere. The steps of one turn
+    run one after another, beside those of the others."""
 
-    def __init__(self, watch, steps):
+    def __init__(self, watch, turns):
         ran = subprocess.run(["git", "rev-parse", "--git-dir"], cwd=TOP, capture_output=True, text=True)
-        self.watch, self.steps = watch, steps
+        self.watch, self.turns = watch, turns
         self.file = os.path.join(TOP, ran.stdout.strip(), "check-times.json") if ran.returncode == 0 else os.devnull
         try:
             with open(self.file, encoding="utf-8") as file:
@@ -177,12 +178,17 @@ class Guess:
         except (OSError, ValueError):
             self.stored = {}
 
+    def left_of(self, step):
+        """How many seconds the step still takes."""
+        if step.took is not None:
+            return 0
+        spent = time.monotonic() - step.begun if step.begun else 0
+        return max(self.stored.get(step.name, SEEN.get(step.name, ELSE)) - spent, 0)
+
     def told(self):
         """What runs, what is done, and about how many minutes are left. Empty where no step runs."""
-        told, left = [], 0
-        for step in (it for it in self.steps if it.took is None):
-            spent = time.monotonic() - step.begun if step.begun else 0
-            left += max(self.stored.get(step.name, SEEN.get(step.name, ELSE)) - spent, 0)
+        told, left = [], max((sum(map(self.left_of, turn)) for turn in self.turns), default=0)
+        for step in (it for turn in self.turns for it in turn if it.took is None):
             counts = [it for it in map(COUNTED.match, step.lines) if it]
             done = sum({it[1]: int(it[2]) for it in counts}.values()) if "wrong" in step.words[0] else int(counts[-1][2]) if counts else 0
             told += [f"{step.name}{f' ({done} done)' if done else ''}"] if step.begun else []
@@ -193,9 +199,10 @@ class Guess:
 
     def store(self):
         """Keeps what the steps took for the next check, where all of them ended."""
-        if all(it.took is not None for it in self.steps):
+        steps = [it for turn in self.turns for it in turn]
+        if all(it.took is not None for it in steps):
             with open(self.file, "w", encoding="utf-8") as file:
-                json.dump({**self.stored, **{it.name: round(it.took) for it in self.steps}}, file)
+                json.dump({**self.stored, **{it.name: round(it.took) for it in steps}}, file)
 
 
 def print_table(path, parts=20):
