@@ -93,7 +93,11 @@ impl Recoder {
         requires few { length self.old.held + length bytes.now ≤ gone + 3 }
         ensures { self.new ≡ record (self.old) { held = drop gone (self.old.held ++ bytes.now) } }
     {
-        let (joined, len) = join(self.held(), bytes);
+        let held = self.held();
+        if held.is_empty() {
+            return self.hold(&bytes[gone..]);
+        }
+        let (joined, len) = join(held, bytes);
         self.hold(&joined[gone..len]);
     }
 }
