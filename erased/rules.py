@@ -115,7 +115,7 @@ CHOSEN = {
         "bytes.len()",
         "{ let did = OTHER(from, to, bytes, out); Run { read: did.read, replaced: did.replaced } }",
     ),
-    "recoding/recoder_runs.rt:recode_strictly": (
+    "recoding/recoder_runs.rt:recode_to_fault": (
         "part.len()",
         "{ let did = OTHER(from, to, held, part, room); StrictRun { read: did.read, written: did.written, first: did.first } }",
     ),

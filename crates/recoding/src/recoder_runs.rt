@@ -11,8 +11,8 @@ use crate::engine::{has_room_for_all, put_text, run};
 use crate::first_pieces::FirstPiece;
 use crate::form::Form;
 use crate::form_calls::{first_piece, put_fitting};
-use crate::held::join;
 use crate::kernels::{Copied, Kernel, Narrowed, Turned, Widened, by_forms};
+use crate::next_scalar::join;
 use crate::output::Output;
 use crate::replacing::{Each, Replacing, Subparts};
 use crate::room::Room;
@@ -135,7 +135,7 @@ pub(crate) struct StrictRun {
 
 // Recodes the text at the front of what is held and a part into the room, to the first piece that is none, that what follows
 // decides, or that does not fit.
-pub(crate) fn recode_strictly(
+pub(crate) fn recode_to_fault(
     from: Form,
     to: Form,
     held: &[u8],

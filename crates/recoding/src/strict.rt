@@ -9,7 +9,7 @@ use crate::faults::{Fault, FaultKind, Outcome, StrictProgress};
 use crate::first_pieces::FirstPiece;
 use crate::form_calls::lacking_fault;
 use crate::recoder::Recoder;
-use crate::recoder_runs::{StrictRun, recode_strictly};
+use crate::recoder_runs::{StrictRun, recode_to_fault};
 
 impl Recoder {
     /// `feed_into` that stops at the first invalid byte, and tells where it is and why it is invalid.
@@ -38,7 +38,7 @@ impl Recoder {
         ensures first { TellsFirst self.old part.now result self.new }
     {
         let (from, to) = self.forms();
-        let run = recode_strictly(from, to, self.held(), part, room);
+        let run = recode_to_fault(from, to, self.held(), part, room);
         let (read, outcome) = self.end_run(run, part);
         StrictProgress {
             read,

@@ -1,7 +1,7 @@
 use Rattle.std.proofs.Common.{rules}
 use Rattle.recoding.proofs.Recodes.{FillsPlace-of}
 use Rattle.recoding.proofs.TextRuns.{PutsText-as}
-use Rattle.recoding.proofs.recoder_runs.recode_strictly.Goals as goal
+use Rattle.recoding.proofs.recoder_runs.recode_to_fault.Goals as goal
 
 pub returns-clause-puts : goal.returns-clause-puts
 returns-clause-puts c =
