@@ -92,7 +92,7 @@ LENT = {"utf_chars/utf8_char.rt": ["scalar"]}
 # What goes by lanes: of these files there is a copy for processors with AVX2 (wide.py), over the types of all other files.
 WIDE = ("utf_lanes/",) + tuple(f"recoding/{it}.rt" for it in (
     "ascii_to_utf16", "codes", "copied", "engine", "fills", "form_calls", "kernels", "list", "output", "recoder_runs", "replacing", "room",
-    "strict_runs", "swapped", "text", "utf16_to_utf8", "utf8_to_utf16",
+    "swapped", "text", "utf16_to_utf8", "utf8_to_utf16",
 )) + ("cuts/runs/piece_counts.rt",)
 
 
@@ -115,5 +115,8 @@ CHOSEN = {
         "bytes.len()",
         "{ let did = OTHER(from, to, bytes, out); Run { read: did.read, replaced: did.replaced } }",
     ),
-    "recoding/strict_runs.rt:run_in_blocks": ("bytes.len()", "OTHER(from, to, bytes, room, place)"),
+    "recoding/recoder_runs.rt:recode_to_fault": (
+        "part.len()",
+        "{ let did = OTHER(from, to, held, part, room); StrictRun { read: did.read, written: did.written, first: did.first } }",
+    ),
 }

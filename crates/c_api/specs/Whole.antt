@@ -1,12 +1,12 @@
 -- What a whole input is recoded as, for calls that are given all of it.
-use Rattle.std.specs.Prelude.{◌≡◌, ℕ, ◌-◌, ◌<◌, ◌≤◌, ◌^◌, List, All, [], ◌++◌, length, drop, flat_map, min}
+use Rattle.std.specs.Prelude.{◌≡◌, ℕ, ◌-◌, ◌<◌, ◌≤◌, ◌^◌, List, All, [], ◌++◌, length, take, drop, flat_map, min}
 use Rattle.utf_base.specs.Scalar.{IsScalar}
 use Rattle.cuts.specs.declared.Form.{Form}
 use Rattle.cuts.specs.declared.Outcome.{Outcome}
 use Rattle.cuts.specs.declared.Outcome.TheVariants.{AllRead, Full, Faulty}
 use Rattle.cuts.specs.declared.StrictProgress.{StrictProgress}
 use Rattle.cuts.specs.Recoded.{IsRecoded, written}
-use Rattle.cuts.specs.Strict.{RecodesText, IsTooLong, EndsInFault}
+use Rattle.cuts.specs.Strict.{EndsInFault, IsTooLong, Transcodes}
 
 -- what the bytes are recoded as has more bytes than that
 abbrev pub IsLongerThan : Form → Form → List ℕ → ℕ → Type 0
@@ -38,8 +38,9 @@ fault_unread AllRead = AllRead
 fault_unread Full = Full
 fault_unread (Faulty f) = Faulty (record { kind = f.kind; len = f.len; back = 0 })
 
--- What was read of a whole input is text, which was recoded. A fault is not read.
+-- What was read of a whole input is text, which is recoded at the front of the room now. A fault is not read.
 pub record RecodesStrictly (from to : Form) (bytes old new : List ℕ) (p : StrictProgress) : Type 0 where
   pub within : p.read ≤ length bytes
-  pub recodes : RecodesText from to bytes (drop p.read bytes) old new p.written
+  pub transcodes : Transcodes from to (take p.read bytes) (take p.written new)
+  pub fits : p.written ≤ length old
   pub ends : EndsWhole from to p.outcome (drop p.read bytes) (length old - p.written)

@@ -21,13 +21,13 @@ module _ (r s : Recoding) (part room new : List ℕ) (p : StrictProgress) (x : F
   ends_faulty : EndsFeed r.from r.to (Faulty x) f.fault s.held (drop p.read part) (length room - p.written)
   ends_faulty = subst (λ o. EndsFeed r.from r.to o f.fault s.held (drop p.read part) (length room - p.written)) e f.ends
 
-  lengths : length r.held + length part ≡ length f.recodes.text + (length f.fault + (length s.held + (length part - p.read)))
+  lengths : length r.held + length part ≡ length f.text + (length f.fault + (length s.held + (length part - p.read)))
   lengths =
       omega (
         arith,
-        ap length f.recodes.parts,
+        ap length f.parts,
         length-append r.held part,
-        length-append f.recodes.text (f.fault ++ (s.held ++ drop p.read part)),
+        length-append f.text (f.fault ++ (s.held ++ drop p.read part)),
         length-append f.fault (s.held ++ drop p.read part),
         length-append s.held (drop p.read part),
         length-drop p.read part,
@@ -41,11 +41,11 @@ module _ (r s : Recoding) (part room new : List ℕ) (p : StrictProgress) (x : F
   pub StopsText-of : (before read : ℕ) (out_old out_new : Option (List ℕ)) → length r.held ≤ before → read ≡ min (before + p.read) (2 ^ 64 - 1) → Appends out_old out_new (take p.written new)
       → StopsText r part IsFollowed before out_old out_new (record { offset = read - x.back; kind = x.kind })
   StopsText-of before read out_old out_new held sum put = record {
-    text = f.recodes.text;
+    text = f.text;
     rest = f.fault ++ (s.held ++ drop p.read part);
     grown = take p.written new;
-    parts = f.recodes.parts;
-    transcodes = f.recodes.transcodes;
+    parts = f.parts;
+    transcodes = f.transcodes;
     written = put;
     offset = λ fits. omega (arith, lengths, ends_faulty.1.back, f.within);
     kind = λ later following. ends_faulty.0.kind later;

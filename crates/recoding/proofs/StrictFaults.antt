@@ -99,11 +99,11 @@ tells_first r part old new p s f = record {
   place = λ none fault e.
       let ends = subst (λ o. EndsFeed r.from r.to o f.fault s.held (drop p.read part) (length old - p.written)) e f.ends in
       let left = f.fault ++ (s.held ++ drop p.read part) in
-      let text = f.recodes.transcodes in
-      let parts : part ≡ f.recodes.text ++ left = rw none at f.recodes.parts in
+      let text = f.transcodes in
+      let parts : part ≡ f.text ++ left = rw none at f.parts in
       let codes : part ≡ flat_map (written r.from) text.scalars ++ left = parts ∙ ap (λ xs. xs ++ left) text.codes in
       let long = ap length parts in
-      let both = length-append f.recodes.text left in
+      let both = length-append f.text left in
       let faulty = length-append f.fault (s.held ++ drop p.read part) in
       let after = length-append s.held (drop p.read part) in
       let rest = length-drop p.read part in
@@ -116,10 +116,10 @@ tells_first r part old new p s f = record {
       (omega arith, first_after r.from part left fault.kind text.scalars text.all codes (omega arith) known (p.read - fault.back) place);
   text = λ none e.
       let ends = subst (λ o. EndsFeed r.from r.to o f.fault s.held (drop p.read part) (length old - p.written)) e f.ends in
-      let text = f.recodes.transcodes in
-      let parts : part ≡ f.recodes.text ++ (f.fault ++ (s.held ++ drop p.read part)) = rw none at f.recodes.parts in
+      let text = f.transcodes in
+      let parts : part ≡ f.text ++ (f.fault ++ (s.held ++ drop p.read part)) = rw none at f.parts in
       let held : f.fault ++ (s.held ++ drop p.read part) ≡ s.held = rw (ends.0, ends.1, append-nil s.held) refl in
-      rw f.from (record { scalars = text.scalars; all = text.all; parts = parts ∙ ap (λ xs. f.recodes.text ++ xs) held ∙ ap (λ xs. xs ++ s.held) text.codes });
+      rw f.from (record { scalars = text.scalars; all = text.all; parts = parts ∙ ap (λ xs. f.text ++ xs) held ∙ ap (λ xs. xs ++ s.held) text.codes });
 }
 
 -- where bytes are text, they have no fault
@@ -140,12 +140,12 @@ module _ (r : Recoding) (old new : List ℕ) (p : StrictProgress) (s : Recoding)
   -- the bytes are text, and then what is left
   text_and_left : (bytes : List ℕ) → IsTextAndHeld r.from bytes r.held → IsTextAndHeld r.from bytes (f.fault ++ s.held)
   text_and_left bytes h =
-      let text = f.recodes.transcodes in
+      let text = f.transcodes in
       record {
         scalars = h.scalars ++ text.scalars;
         all = All-append IsScalar h.scalars text.scalars h.all text.all;
         parts =
-            h.parts ∙ ap (λ xs. flat_map (written r.from) h.scalars ++ xs) (f.recodes.parts ∙ ap (λ xs. xs ++ (f.fault ++ s.held)) text.codes)
+            h.parts ∙ ap (λ xs. flat_map (written r.from) h.scalars ++ xs) (f.parts ∙ ap (λ xs. xs ++ (f.fault ++ s.held)) text.codes)
             ∙ sym (append_assoc (flat_map (written r.from) h.scalars) (flat_map (written r.from) text.scalars) (f.fault ++ s.held))
             ∙ ap (λ xs. xs ++ (f.fault ++ s.held)) (sym (flat_map-append (written r.from) h.scalars text.scalars));
       }

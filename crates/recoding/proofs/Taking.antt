@@ -297,14 +297,6 @@ Finishes-none r old none =
 
 -- The same of room of a fixed size.
 
-pub FillsPlace-more : (a b c : List ℕ × ℕ) (xs ys : List ℕ) → FillsPlace a xs b → FillsPlace b ys c → FillsPlace a (xs ++ ys) c
-FillsPlace-more a b c xs ys f g = record {
-  whole = g.whole ∙ f.whole;
-  fits = g.fits;
-  len = omega (arith, f.len, g.len, length-append xs ys);
-  front = g.front ∙ ap (λ zs. zs ++ ys) f.front ∙ append_assoc (take a.1 a.0) xs ys;
-}
-
 FillsPlace-room : (a b : List ℕ × ℕ) (xs : List ℕ) → FillsPlace a xs b → length a.0 - a.1 ≤ length b.0 - b.1 + length xs
 FillsPlace-room a b xs f = omega (arith, f.whole, f.len)
 

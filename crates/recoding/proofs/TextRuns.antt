@@ -1,30 +1,27 @@
 -- Text recoded, and no fault: step by step.
-use Rattle.std.proofs.Common.{◌≡◌, ℕ, suc, lit<, ◌∷◌, length-append, ◌+◌, ◌-◌, ◌*◌, ◌/◌, ◌<◌, ◌≤◌, ⊎_elim, Bool, List, [], ◌++◌, length, get_or, take, drop, flat_map, arith, refl, ap, ap₂, sym, ◌∙◌, append_assoc, length-drop, length-take, take-append-drop, Fits, w8, IsUtf8}
+use Rattle.std.proofs.Common.{◌≡◌, ℕ, suc, lit<, ◌∷◌, length-append, ◌+◌, ◌-◌, ◌*◌, ◌/◌, ◌<◌, ◌≤◌, ⊎_elim, Bool, List, [], ◌++◌, length, get_or, take, drop, flat_map, arith, refl, ap, ap₂, sym, ◌∙◌, length-drop, length-take, take-append-drop, Fits, w8, IsUtf8}
 use Rattle.std.specs.Prelude.{All}
 use Rattle.std.proofs.lemmas.Bool.{cases_lt}
-use Rattle.std.proofs.lemmas.List.{append-nil, take_all, take_rest, take-take}
+use Rattle.std.proofs.lemmas.List.{append-nil, take_all, take_rest, take-append-le, take-take}
 use Rattle.std.proofs.lemmas.List.Concat.{flat_map-append}
 use Rattle.std.proofs.lemmas.List.Elements.{All-append, All-nil, All-cons}
 use Rattle.utf_base.proofs.TextScalars.{joined_from_text}
 use Rattle.utf_base.specs.Scalar.{IsScalar}
 use Rattle.utf_lanes.specs.BytePairs.{units_of, bytes_of, turned}
-use Rattle.utf_lanes.specs.UnitCodes.{code_at, lane_unit, WritesUnitsOf}
-use Rattle.utf_lanes.specs.Utf8ToUtf16.{concat_range, utf16_bytes}
+use Rattle.utf_lanes.specs.Utf8ToUtf16.{utf16_bytes}
 use Rattle.utf_lanes.specs.UnitBlocks.{AreCodes}
-use Rattle.recoding.specs.FilledRooms.{FillsRoom}
 use Rattle.recoding.specs.Recoded.{written}
 use Rattle.recoding.specs.Recodes.{CopiesUnits, differ}
-use Rattle.recoding.specs.Rooms.{Fills}
+use Rattle.recoding.specs.Replacing.{FillsPlace, at_place}
 use Rattle.recoding.specs.NextScalars.{HasByteOrder}
-use Rattle.recoding.specs.Strict.{Transcodes, BeginsChar, PutsText, RunsStrictly, RecodesText}
+use Rattle.recoding.specs.Strict.{Transcodes, BeginsChar, PutsText}
 use Rattle.recoding.specs.declared.form.Form.{Form}
 use Rattle.recoding.specs.declared.form.Form.TheVariants.{Utf8, Utf16Le, Utf16Be}
-use Rattle.recoding.specs.declared.room.Room.{Room}
 use Rattle.recoding.proofs.CopiedUnits.{all_written, coded_bytes, front_fits, in_order}
 use Rattle.recoding.proofs.GivenRuns.{given_codes}
 use Rattle.recoding.proofs.RoomLemmas.{take_more}
 use Rattle.recoding.proofs.Growing.{length_written}
-use Rattle.recoding.proofs.RoomRuns.{Fills-then, few_written, some_written}
+use Rattle.recoding.proofs.RoomRuns.{FillsPlace-none, few_written, some_written}
 use Rattle.utf_base.proofs.Utf8Code.{utf8-4}
 use Rattle.utf_base.proofs.Utf16Code.{utf16-1, utf16-2}
 
@@ -48,11 +45,6 @@ Transcodes-then {from} {to} f g = record {
   codes = ap₂ (λ cs ds. cs ++ ds) f.codes g.codes ∙ sym (flat_map-append (written from) f.scalars g.scalars);
   made = ap₂ (λ cs ds. cs ++ ds) f.made g.made ∙ sym (flat_map-append (written to) f.scalars g.scalars);
 }
-
--- what is written next to the end of some room is the next of the text
-pub Transcodes-more : {from to : Form} {grown : List ℕ} (bytes room new : List ℕ) (p n end next : ℕ) → Transcodes from to (take p bytes) (take end room) → Transcodes from to (take n (drop p bytes)) grown
-    → take next new ≡ take end room ++ grown → Transcodes from to (take (p + n) bytes) (take next new)
-Transcodes-more bytes room new p n end next f g e = rw (sym (take_more p n bytes), e) (Transcodes-then f g)
 
 -- How much room a text takes.
 
@@ -115,20 +107,39 @@ text_doubles {from} {to} t = omega (arith, codes_double from to t.scalars t.all,
 
 -- Appended to any output.
 
+pub PutsText-as : {O P : Type 0} {appends : O → List ℕ → O → Type 0} {other : P → List ℕ → P → Type 0} {from to : Form} {bytes : List ℕ} {a b : O} {c d : P} {n : ℕ}
+    → ((xs : List ℕ) → appends a xs b → other c xs d) → PutsText appends from to bytes a b n → PutsText other from to bytes c d n
+PutsText-as turn f = record { within = f.within; grown = f.grown; appended = turn f.grown f.appended; transcodes = f.transcodes }
+
+-- one character
+pub PutsText-one : {O : Type 0} {appends : O → List ℕ → O → Type 0} {from to : Form} {bytes : List ℕ} {old new : O} {s n : ℕ} → BeginsChar from bytes s n → appends old (written to s) new
+    → PutsText appends from to bytes old new n
+PutsText-one {from = from} {to} {s = s} d put = record { within = d.within; grown = written to s; appended = put; transcodes = rw d.code (Transcodes-one from to s d.scalar) }
+
+-- and with more after the bytes
+pub PutsText-front : {O : Type 0} {appends : O → List ℕ → O → Type 0} {from to : Form} {bytes : List ℕ} {old new : O} {n : ℕ} (x : List ℕ) → PutsText appends from to bytes old new n
+    → PutsText appends from to (bytes ++ x) old new n
+PutsText-front {bytes = bytes} {n = n} x f =
+    let within = f.within in
+    record { within = omega (arith, length-append bytes x); grown = f.grown; appended = f.appended; transcodes = rw (take-append-le n bytes x within) f.transcodes }
+
 module _ {O : Type 0} {appends : O → List ℕ → O → Type 0} {from to : Form} {bytes : List ℕ} where
   pub PutsText-none : ((a : O) → appends a [] a) → {out : O} → PutsText appends from to bytes out out 0
   PutsText-none none {out} = record { within = omega arith; grown = []; appended = none out; transcodes = Transcodes-none from to }
 
+  pub PutsText-after : ((a b c : O) (xs ys : List ℕ) → appends a xs b → appends b ys c → appends a (xs ++ ys) c) → {old mid new : O} {p n : ℕ}
+      → PutsText appends from to bytes old mid p → PutsText appends from to (drop p bytes) mid new n → PutsText appends from to bytes old new (p + n)
+  PutsText-after more {old} {mid} {new} {p} {n} f g = record {
+    within = omega (arith, f.within, g.within, length-drop p bytes);
+    grown = f.grown ++ g.grown;
+    appended = more old mid new f.grown g.grown f.appended g.appended;
+    transcodes = rw (take_more p n bytes) at (Transcodes-then f.transcodes g.transcodes);
+  }
+
+  -- the same of bytes that are the end of others
   pub PutsText-then : ((a b c : O) (xs ys : List ℕ) → appends a xs b → appends b ys c → appends a (xs ++ ys) c) → {old mid new : O} {p n : ℕ}
       → PutsText appends from to bytes old mid p → PutsText appends from to (take (length bytes - p) (drop p bytes)) mid new n → PutsText appends from to bytes old new (p + n)
-  PutsText-then more {old} {mid} {new} {p} {n} f rest =
-      let g : PutsText appends from to (drop p bytes) mid new n = rw (take_rest bytes p) at rest in
-      record {
-        within = omega (arith, f.within, g.within, length-drop p bytes);
-        grown = f.grown ++ g.grown;
-        appended = more old mid new f.grown g.grown f.appended g.appended;
-        transcodes = rw (take_more p n bytes) at (Transcodes-then f.transcodes g.transcodes);
-      }
+  PutsText-then more {p = p} f rest = PutsText-after more f (rw (take_rest bytes p) at rest)
 
   -- nothing more
   pub PutsText-done : ((a b c : O) (xs ys : List ℕ) → appends a xs b → appends b ys c → appends a (xs ++ ys) c) → {old mid new : O} {p n : ℕ}
@@ -138,17 +149,10 @@ module _ {O : Type 0} {appends : O → List ℕ → O → Type 0} {from to : For
   -- a character, told by four bytes
   pub PutsText-char : ((a b c : O) (xs ys : List ℕ) → appends a xs b → appends b ys c → appends a (xs ++ ys) c) → {old mid new : O} {p s n : ℕ}
       → PutsText appends from to bytes old mid p → BeginsChar from (take 4 (drop p bytes)) s n → appends mid (written to s) new → PutsText appends from to bytes old new (p + n)
-  PutsText-char more {old} {mid} {new} {p} {s} {n} f d put =
-      let within = d.within in
-      let le : n ≤ 4 = omega (arith, length-take 4 (drop p bytes)) in
-      let code : take n (drop p bytes) ≡ written from s = sym (take-take n 4 (drop p bytes) le) ∙ d.code in
-      let one : PutsText appends from to (drop p bytes) mid new n = record {
-        within = omega (arith, length-take 4 (drop p bytes));
-        grown = written to s;
-        appended = put;
-        transcodes = rw code (Transcodes-one from to s d.scalar);
-      } in
-      PutsText-then more f (rw (take_rest bytes p) one)
+  PutsText-char more {mid = mid} {new = new} {p = p} {n = n} f d put =
+      let one : PutsText appends from to (take 4 (drop p bytes)) mid new n = PutsText-one d put in
+      let all : PutsText appends from to (take 4 (drop p bytes) ++ drop 4 (drop p bytes)) mid new n = PutsText-front (drop 4 (drop p bytes)) one in
+      PutsText-after more f (rw (take-append-drop 4 (drop p bytes)) at all)
 
   -- the first bytes of some
   pub PutsText-part : {old new : O} {n : ℕ} (count : ℕ) → PutsText appends from to (take count bytes) old new n → PutsText appends from to bytes old new n
@@ -217,83 +221,6 @@ PutsText-units {appends} {old} {new} {from} {to} {bytes} {n} high other count re
       };
     }
 
--- Into room of a fixed size.
-
-pub RunsStrictly-of : {from to : Form} {bytes old new : List ℕ} {place n : ℕ} (a b : Room) → a.bytes.now ≡ old → a.len ≡ place → b.bytes.now ≡ new → PutsText FillsRoom from to bytes a b n
-    → RunsStrictly from to bytes old new place n b.len
-RunsStrictly-of {old} {new} {place} a b e f h run =
-    let fills = run.appended in
-    let within = b.within in
-    record {
-      within = run.within;
-      grown = run.grown;
-      fills = record {
-        ordered = omega (arith, fills.len);
-        fits = omega (arith, fills.whole, ap length e);
-        front = ap (take b.len) (sym h) ∙ fills.front ∙ ap₂ (λ k ys. take k ys ++ run.grown) f e;
-      };
-      transcodes = run.transcodes;
-    }
-
--- one character
-pub RunsStrictly-char : {from to : Form} {bytes old new : List ℕ} {place s n end : ℕ} → BeginsChar from bytes s n → Fills old new place end (written to s)
-    → RunsStrictly from to bytes old new place n end
-RunsStrictly-char {from} {to} {s} d fills = record {
-  within = d.within;
-  grown = written to s;
-  fills = fills;
-  transcodes = rw d.code (Transcodes-one from to s d.scalar);
-}
-
--- one run after another
-pub RunsStrictly-then : {from to : Form} {bytes old mid new : List ℕ} {place read wrote more end : ℕ} → RunsStrictly from to bytes old mid place read wrote → length mid ≡ length old
-    → RunsStrictly from to (drop read bytes) mid new wrote more end → RunsStrictly from to bytes old new place (read + more) end
-RunsStrictly-then {bytes} {old} {mid} {new} {place} {read} {wrote} {more} {end} f len g =
-    let within = f.within in
-    record {
-      within = omega (arith, g.within, length-drop read bytes);
-      grown = f.grown ++ g.grown;
-      fills = Fills-then old mid new f.grown g.grown place wrote end f.fills len g.fills;
-      transcodes = rw (take_more read more bytes) at (Transcodes-then f.transcodes g.transcodes);
-    }
-
--- nothing yet
-pub RunsStrictly-none : {from to : Form} {bytes old : List ℕ} {place : ℕ} → place ≤ length old → RunsStrictly from to bytes old old place 0 place
-RunsStrictly-none {from} {to} {bytes} {old} {place} fits = record {
-  within = omega arith;
-  grown = [];
-  fills = record { ordered = omega arith; fits = fits; front = sym (append-nil (take place old)) };
-  transcodes = Transcodes-none from to;
-}
-
--- a block of units more
-pub RunsStrictly-units : {from to : Form} {bytes old mid new low high : List ℕ} {place width n read end next : ℕ} → RunsStrictly from to bytes old mid place read end → length mid ≡ length old
-    → WritesUnitsOf width low high mid new end n next → next ≤ length old → read + 2 * n ≤ length bytes
-    → Transcodes from to (take (2 * n) (drop read bytes)) (concat_range (code_at (lane_unit low high)) 0 n) → RunsStrictly from to bytes old new place (read + 2 * n) next
-RunsStrictly-units {bytes = bytes} {mid = mid} {new = new} {low = low} {high = high} {n = n} {read = read} {end = end} {next = next} f len put fits within codes =
-    let more : List ℕ = concat_range (code_at (lane_unit low high)) 0 n in
-    let same = put.len in
-    let before = f.fills.fits in
-    RunsStrictly-then f len (record {
-      within = omega (arith, length-drop read bytes);
-      grown = more;
-      fills = record {
-        ordered = omega (arith, ap length put.bytes, length-append (take end mid) more, length-take end mid, length-take next new);
-        fits = omega arith;
-        front = put.bytes;
-      };
-      transcodes = codes;
-    })
-
--- The text of a call so far, and what is left.
-
-pub RecodesText-run : {from to : Form} {all left old mid new : List ℕ} {wrote read end : ℕ} → RecodesText from to all left old mid wrote → length mid ≡ length old
-    → RunsStrictly from to left mid new wrote read end → RecodesText from to all (drop read left) old new end
-RecodesText-run {all} {left} {old} {mid} {wrote} {read} {end} f len g =
-    let fills = g.fills in
-    record {
-      text = f.text ++ take read left;
-      parts = f.parts ∙ ap (λ xs. f.text ++ xs) (sym (take-append-drop read left)) ∙ sym (append_assoc f.text (take read left) (drop read left));
-      transcodes = rw fills.front (Transcodes-then f.transcodes g.transcodes);
-      fits = omega (arith, fills.fits);
-    }
+-- Into room of a fixed size, from a place on.
+pub PutsText-start : {from to : Form} {bytes old : List ℕ} {place : ℕ} → place ≤ length old → PutsText FillsPlace from to bytes (at_place old place) (at_place old place) 0
+PutsText-start {from} {to} fits = record { within = omega arith; grown = []; appended = FillsPlace-none fits; transcodes = Transcodes-none from to }

@@ -1,5 +1,5 @@
 -- Strict recoding: of text alone, up to the first fault.
-use Rattle.std.specs.Prelude.{◌≡◌, ℕ, ◌+◌, ◌-◌, ◌<◌, ◌≤◌, List, [], ◌++◌, length, take, drop, flat_map, All, Option, Some, None, min, false, true}
+use Rattle.std.specs.Prelude.{◌≡◌, ℕ, ◌+◌, ◌-◌, ◌<◌, ◌≤◌, List, [], ◌++◌, length, take, drop, flat_map, All, Option, Some, min, false, true}
 use Rattle.std.specs.Option.{option_map}
 use Rattle.utf_base.specs.Kinds.{fault_kind}
 use Rattle.utf_base.specs.Scalar.{IsScalar}
@@ -8,7 +8,7 @@ use Rattle.utf_base.specs.declared.errors.Utf8ErrorKind.TheVariants.{TooFewBytes
 use Rattle.utf_base.specs.declared.errors.units.Utf16PairError.TheVariants.{Incomplete}
 use Rattle.utf_lanes.specs.BytePairs.{units_of}
 use Rattle.recoding.specs.Recoded.{Recoding, IsRecoded, most_held, written}
-use Rattle.recoding.specs.Rooms.{BeginsLonger, Fills}
+use Rattle.recoding.specs.Rooms.{BeginsLonger}
 use Rattle.recoding.specs.NextScalars.{fault_len}
 use Rattle.recoding.specs.declared.first_pieces.FirstPiece.{FirstPiece}
 use Rattle.recoding.specs.declared.first_pieces.FirstPiece.TheVariants as piece
@@ -20,8 +20,7 @@ use Rattle.recoding.specs.declared.faults.Fault.{Fault}
 use Rattle.recoding.specs.declared.faults.Outcome.{Outcome}
 use Rattle.recoding.specs.declared.faults.Outcome.TheVariants.{AllRead, Full, Faulty}
 use Rattle.recoding.specs.declared.faults.StrictProgress.{StrictProgress}
-use Rattle.recoding.specs.declared.strict.HeldRun.{HeldRun}
-use Rattle.recoding.specs.declared.strict_runs.StrictRun.{StrictRun}
+use Rattle.recoding.specs.declared.recoder_runs.StrictRun.{StrictRun}
 
 -- Both are the codes of the same scalars, each in its form: the bytes are text, and `out` is that text.
 pub record Transcodes (from to : Form) (bytes out : List ℕ) : Type 0 where
@@ -84,13 +83,6 @@ pub record PutsText {O : Type 0} (appends : O → List ℕ → O → Type 0) (fr
   pub appended : appends old grown new
   pub transcodes : Transcodes from to (take read bytes) grown
 
--- The same into room from a place on.
-pub record RunsStrictly (from to : Form) (bytes old new : List ℕ) (place read wrote : ℕ) : Type 0 where
-  pub within : read ≤ length bytes
-  pub grown : List ℕ
-  pub fills : Fills old new place wrote grown
-  pub transcodes : Transcodes from to (take read bytes) grown
-
 -- of a character, that its code is longer than the room
 abbrev pub IsLonger : Form → ℕ → FirstPiece → Type 0
 IsLonger to room (piece.Char s n) = room < length (written to s)
@@ -101,14 +93,6 @@ IsLonger to room piece.Undecided = Unit {0}
 pub record StopsAt (from to : Form) (bytes : List ℕ) (room : ℕ) (first : FirstPiece) : Type 0 where
   pub begins : IsFirstPiece from bytes first
   pub longer : IsLonger to room first
-
--- All that there was is text, which is recoded at the front of the room now, and then what is left. What follows it in the room
--- may be anything.
-pub record RecodesText (from to : Form) (all left old new : List ℕ) (wrote : ℕ) : Type 0 where
-  pub text : List ℕ
-  pub parts : all ≡ text ++ left
-  pub transcodes : Transcodes from to text (take wrote new)
-  pub fits : wrote ≤ length old
 
 -- A call ended before a character whose code is longer than the room.
 abbrev pub IsTooLong : Form → Form → List ℕ → ℕ → Type 0
@@ -128,11 +112,14 @@ EndsFeed from to Full fault held rest room = (fault ≡ []) × IsTooLong from to
 EndsFeed from to (Faulty f) fault held rest room =
     BeginsFault from (fault ++ (held ++ rest)) f.kind (length fault) × LocatesFault f (length fault) (length held)
 
--- One call of `feed_strict_into`: what was held and the part are text, which was recoded, then a fault, if the call ended at one,
--- then what is held now, and what was not read.
+-- One call of `feed_strict_into`: what was held and the part are text, which is recoded at the front of the room now, then a fault, if
+-- the call ended at one, then what is held now, and what was not read. What follows in the room may be anything.
 pub record FeedsStrictly (r : Recoding) (part old new : List ℕ) (p : StrictProgress) (s : Recoding) : Type 0 where
+  pub text : List ℕ
   pub fault : List ℕ
-  pub recodes : RecodesText r.from r.to (r.held ++ part) (fault ++ (s.held ++ drop p.read part)) old new p.written
+  pub parts : r.held ++ part ≡ text ++ (fault ++ (s.held ++ drop p.read part))
+  pub transcodes : Transcodes r.from r.to text (take p.written new)
+  pub fits : p.written ≤ length old
   pub ends : EndsFeed r.from r.to p.outcome fault s.held (drop p.read part) (length old - p.written)
   pub within : p.read ≤ length part
   pub from : s.from ≡ r.from
@@ -140,43 +127,29 @@ pub record FeedsStrictly (r : Recoding) (part old new : List ℕ) (p : StrictPro
   pub replaced : s.replaced ≡ r.replaced
   pub few : length s.held ≤ most_held
 
--- The same of what was held alone: it is gone, or the call ended.
-abbrev pub EndsHeld : Form → Form → Option Outcome → List ℕ → List ℕ → List ℕ → ℕ → Type 0
-EndsHeld from to None fault held rest room = (fault ≡ []) × (held ≡ [])
-EndsHeld from to (Some outcome) fault held rest room = EndsFeed from to outcome fault held rest room
-
-pub record PassesHeld (r : Recoding) (part old new : List ℕ) (run : HeldRun) (s : Recoding) : Type 0 where
+-- What a run left of what was held and a part, of which so many bytes are read then: a fault, and what is held.
+pub record EndsRun (r : Recoding) (part : List ℕ) (run : StrictRun) (ended : ℕ × Outcome) (s : Recoding) : Type 0 where
   pub fault : List ℕ
-  pub recodes : RecodesText r.from r.to (r.held ++ part) (fault ++ (s.held ++ drop run.read part)) old new run.written
-  pub ends : EndsHeld r.from r.to run.outcome fault s.held (drop run.read part) (length old - run.written)
-  pub within : run.read ≤ length part
-  pub from : s.from ≡ r.from
-  pub to : s.to ≡ r.to
-  pub replaced : s.replaced ≡ r.replaced
+  pub left : drop run.read (r.held ++ part) ≡ fault ++ (s.held ++ drop ended.0 part)
+  pub ends : (room : ℕ) → IsLonger r.to room run.first → EndsFeed r.from r.to ended.1 fault s.held (drop ended.0 part) room
+  pub within : ended.0 ≤ length part
+  pub same : s ≡ record (r) { held = s.held }
   pub few : length s.held ≤ most_held
 
--- What a run left of some bytes, of which so many are read then: a fault, and what is held.
-pub record EndsRun (r : Recoding) (bytes : List ℕ) (run : StrictRun) (ended : ℕ × Outcome) (s : Recoding) : Type 0 where
-  pub fault : List ℕ
-  pub left : drop run.read bytes ≡ fault ++ (s.held ++ drop ended.0 bytes)
-  pub ends : (room : ℕ) → IsLonger r.to room run.first → EndsFeed r.from r.to ended.1 fault s.held (drop ended.0 bytes) room
-  pub within : ended.0 ≤ length bytes
-  pub from : s.from ≡ r.from
-  pub to : s.to ≡ r.to
-  pub replaced : s.replaced ≡ r.replaced
-  pub few : length s.held ≤ most_held
-
--- The same of `finish_strict_into`: what was held ends the input, and too few bytes are a fault.
+-- Why a call of `finish_strict_into` ended: what was held ends the input, and too few bytes are a fault.
 abbrev pub EndsFinish : Form → Form → Outcome → List ℕ → List ℕ → ℕ → Type 0
 EndsFinish from to AllRead fault held room = (fault ≡ []) × (held ≡ [])
 EndsFinish from to Full fault held room = (fault ≡ []) × IsTooLong from to held room
 EndsFinish from to (Faulty f) fault held room = EndsInFault from (fault ++ held) f.kind (length fault) × LocatesFault f (length fault) (length held)
 
--- One call of `finish_strict_into`: what was held is text, which was recoded, then a fault, if the call ended at one, then what is
--- held now.
+-- One call of `finish_strict_into`: what was held is text, which is recoded at the front of the room now, then a fault, if the call
+-- ended at one, then what is held now.
 pub record FinishesStrictly (r : Recoding) (old new : List ℕ) (p : StrictProgress) (s : Recoding) : Type 0 where
+  pub text : List ℕ
   pub fault : List ℕ
-  pub recodes : RecodesText r.from r.to r.held (fault ++ s.held) old new p.written
+  pub parts : r.held ≡ text ++ (fault ++ s.held)
+  pub transcodes : Transcodes r.from r.to text (take p.written new)
+  pub fits : p.written ≤ length old
   pub ends : EndsFinish r.from r.to p.outcome fault s.held (length old - p.written)
   pub from : s.from ≡ r.from
   pub to : s.to ≡ r.to

@@ -5,12 +5,12 @@ ghost use Rattle.recoding.specs.Recodes.{FitsAll};
 ghost use Rattle.recoding.specs.Replacing.{IsNext, Reaches};
 ghost use Rattle.recoding.specs.Strict.{PutsText};
 
-use crate::form::WIDEST;
-use crate::kernels::{Kernel, PART};
+use crate::form::{Form, WIDEST};
+use crate::kernels::{Copied, Kernel, Narrowed, PART, Turned, Widened, by_forms};
 use crate::next_scalar::{ShownPiece, first_four};
 use crate::output::Output;
 use crate::replacing::Replacing;
-use crate::text::Text;
+use crate::text::{Text, Utf8, Utf16};
 
 // How many bytes go with care before a run looks for text again, where no fault is among them.
 pub(crate) const STRIDE: usize = 16;
@@ -169,6 +169,28 @@ fn recode_text_within<S: Text, T: Text, O: Output>(bytes: &[u8], out: &mut O) ->
         }
     }
     read
+}
+
+// Recodes text at the front of the bytes in blocks, as far as they are text and the room is surely enough. Answers how many bytes
+// it has.
+pub(crate) fn put_text<O: Output>(from: Form, to: Form, bytes: &[u8], out: &mut O) -> usize
+    ensures { PutsText O.appends from to bytes.now out.old out.new result }
+{
+    by_forms!(from, to, put_all_text::<O>(bytes, out))
+}
+
+// The same under the types of the forms.
+fn put_all_text<S: Text, T: Text, K: Kernel<S, T>, O: Output>(bytes: &[u8], out: &mut O) -> usize
+    ensures { PutsText O.appends S.form T.form bytes.now out.old out.new result }
+{
+    let mut read = 0;
+    loop {
+        let len = K::put_text(false, &bytes[read..], out);
+        if len == 0 {
+            return read;
+        }
+        read += len;
+    }
 }
 
 // Recodes a few bytes with care, or fewer from the last fault among them on.

@@ -1,9 +1,9 @@
 //! What a form is asked that is known only when it runs: a function of its type.
-ghost use Rattle.std.specs.Prelude.{◌≡◌, ◌<◌, ◌≤◌, length, min, IfSome, IfNone, IsTrue, IsFalse, MatchResult};
+ghost use Rattle.std.specs.Prelude.{◌≡◌, ◌<◌, ◌≤◌, length, min, IfSome, IfNone, IsTrue, IsFalse};
 ghost use Rattle.recoding.specs.Recoded.{Lacks, written};
 ghost use Rattle.recoding.specs.NextScalars.{fault_len};
 ghost use Rattle.recoding.specs.Replacing.{BeginsBy, BeginsLast};
-ghost use Rattle.recoding.specs.Strict.{BeginsChar, EndsInFault, IsFirstPiece, lacking};
+ghost use Rattle.recoding.specs.Strict.{IsFirstPiece, lacking};
 
 use crate::faults::FaultKind;
 use crate::first_pieces::FirstPiece;
@@ -97,23 +97,9 @@ pub(crate) fn first_piece(from: Form, bytes: &[u8]) -> FirstPiece
     by_form!(from, first_piece(bytes))
 }
 
-// The same of some bytes that nothing follows: a character, or a fault.
-#[inline(always)]
-pub(crate) fn last_piece(from: Form, bytes: &[u8]) -> Result<(char, usize), (FaultKind, usize)>
-    requires { 0 < length bytes.now }
-    ensures { MatchResult result (λ x. BeginsChar from bytes.now x.0 x.1)
-        (λ x. EndsInFault from bytes.now x.0 x.1) }
-{
-    match first_piece(from, bytes) {
-        FirstPiece::Char(c, len) => Ok((c, len)),
-        FirstPiece::Fault(kind, len) => Err((kind, len)),
-        FirstPiece::Undecided => Err(lacking_fault(from, bytes.len())),
-    }
-}
-
 // The fault that too few bytes are.
 #[inline(always)]
-fn lacking_fault(from: Form, count: usize) -> (FaultKind, usize)
+pub(crate) fn lacking_fault(from: Form, count: usize) -> (FaultKind, usize)
     ensures kind { result.0 ≡ lacking from }
     ensures len { result.1 ≡ min (fault_len from) count }
 {

@@ -1,12 +1,12 @@
 //! What a recoder holds, with the part that follows it, and at the end.
-ghost use Rattle.std.specs.Prelude.{◌≡◌, [], ◌+◌, ◌-◌, ◌<◌, ◌≤◌, length, take, drop, ◌++◌, min, IfSome, IfNone, IsTrue, IsFalse};
+ghost use Rattle.std.specs.Prelude.{◌≡◌, [], ◌+◌, ◌-◌, ◌<◌, ◌≤◌, length, take, drop, ◌++◌, IfSome, IfNone, IsTrue, IsFalse};
 ghost use Rattle.recoding.specs.Recoded.{Lacks, most_held};
 ghost use Rattle.recoding.specs.Replacing.{BeginsBy, FillsPlace, IsFullBy, IsLastFullBy, Takes, TakesLast, at_place};
 
 use crate::engine::{Reached, ended};
 use crate::form::Form;
 use crate::form_calls::{last_of, next_of, put_fitting};
-use crate::next_scalar::NextScalar;
+use crate::next_scalar::{NextScalar, join};
 use crate::output::Output;
 use crate::recoder::Recoder;
 use crate::room::Room;
@@ -93,7 +93,11 @@ impl Recoder {
         requires few { length self.old.held + length bytes.now ≤ gone + 3 }
         ensures { self.new ≡ record (self.old) { held = drop gone (self.old.held ++ bytes.now) } }
     {
-        let (joined, len) = join(self.held(), bytes);
+        let held = self.held();
+        if held.is_empty() {
+            return self.hold(&bytes[gone..]);
+        }
+        let (joined, len) = join(held, bytes);
         self.hold(&joined[gone..len]);
     }
 }
@@ -121,19 +125,4 @@ fn next_of_both(way: Way, from: Form, held: &[u8], rest: &[u8]) -> Option<(NextS
         }
         taken += 1;
     }
-}
-
-// The held bytes and at most three that follow them.
-#[inline]
-pub(crate) fn join(held: &[u8], part: &[u8]) -> ([u8; 6], usize)
-    requires { length held.now ≤ most_held }
-    ensures len { result.1 ≡ length held.now + min 3 (length part.now) }
-    ensures bytes { take result.1 result.0 ≡ held.now ++ take 3 part.now }
-{
-    let count = held.len();
-    let taken = 3usize.min(part.len());
-    let mut joined = [0; 6];
-    joined[..count].copy_from_slice(held);
-    joined[count..count + taken].copy_from_slice(&part[..taken]);
-    (joined, count + taken)
 }

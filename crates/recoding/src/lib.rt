@@ -31,7 +31,6 @@ mod room;
 pub mod rooms;
 pub mod shards;
 pub mod strict;
-mod strict_runs;
 mod swapped;
 mod text;
 mod utf16_to_utf8;

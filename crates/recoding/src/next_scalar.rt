@@ -1,11 +1,11 @@
 //! What the front of some bytes shows.
-ghost use Rattle.std.specs.Prelude.{◌≡◌, ◌<◌, ◌≤◌, length, take, IfSome, IfNone, IsTrue, IsFalse, Some, ◌%◌};
+ghost use Rattle.std.specs.Prelude.{◌≡◌, ◌+◌, ◌<◌, ◌≤◌, ◌++◌, length, min, take, IfSome, IfNone, IsTrue, IsFalse, Some, ◌%◌};
 ghost use Rattle.utf_base.specs.Code.{utf8};
 ghost use Rattle.utf_base.specs.Kinds.{fault_kind};
 ghost use Rattle.utf_base.specs.Shown.{IsDecided};
 ghost use Rattle.utf_base.specs.declared.errors.Utf8ErrorKind.TheVariants.{TooFewBytes};
 ghost use Rattle.utf_lanes.specs.AsciiTexts.{AreAscii};
-ghost use Rattle.recoding.specs.Recoded.{Lacks, IsProperFront};
+ghost use Rattle.recoding.specs.Recoded.{Lacks, IsProperFront, most_held};
 ghost use Rattle.utf_lanes.specs.BytePairs.{units_of};
 ghost use Rattle.recoding.specs.NextScalars.{BeginsPiece, Waits, MayBeSecond, front_of, utf16_form};
 ghost use Rattle.recoding.specs.Strict.{BeginsChar, Transcodes};
@@ -248,4 +248,19 @@ pub(crate) fn first_four(bytes: &[u8]) -> &[u8]
     ensures { result.now ≡ take 4 bytes.now }
 {
     &bytes[..bytes.len().min(4)]
+}
+
+// The held bytes and at most three that follow them.
+#[inline]
+pub(crate) fn join(held: &[u8], part: &[u8]) -> ([u8; 6], usize)
+    requires { length held.now ≤ most_held }
+    ensures len { result.1 ≡ length held.now + min 3 (length part.now) }
+    ensures bytes { take result.1 result.0 ≡ held.now ++ take 3 part.now }
+{
+    let count = held.len();
+    let taken = 3usize.min(part.len());
+    let mut joined = [0; 6];
+    joined[..count].copy_from_slice(held);
+    joined[count..count + taken].copy_from_slice(&part[..taken]);
+    (joined, count + taken)
 }

@@ -1,15 +1,19 @@
 //! Runs over bytes, by the way that is quickest for the forms: to the end of a list that has room for what comes of them, or into room
 //! of a fixed size.
-ghost use Rattle.std.specs.Prelude.{◌≡◌, ◌+◌, ◌-◌, ◌<◌, ◌≤◌, length, drop, IfSome, IfNone, IsTrue, IsFalse};
+ghost use Rattle.std.specs.Prelude.{◌≡◌, ◌+◌, ◌-◌, ◌<◌, ◌≤◌, ◌++◌, length, drop, IfOk, IfErr, OnErr, IsTrue, IsFalse};
 ghost use Rattle.recoding.specs.Outputs.{Extends};
-ghost use Rattle.recoding.specs.Recoded.{Lacks, written};
+ghost use Rattle.recoding.specs.Recoded.{Lacks, most_held};
 ghost use Rattle.recoding.specs.Replacing.{FillsPlace, NextIsLonger, Recodes, at_place};
-ghost use Rattle.recoding.specs.Rooms.{Fills, HasRoomFor};
+ghost use Rattle.recoding.specs.Rooms.{HasRoomFor};
+ghost use Rattle.recoding.specs.Strict.{PutsText, StopsAt};
 
-use crate::engine::{has_room_for_all, run};
+use crate::engine::{has_room_for_all, put_text, run};
+use crate::first_pieces::FirstPiece;
 use crate::form::Form;
-use crate::form_calls::put_fitting;
+use crate::form_calls::{first_piece, put_fitting};
 use crate::kernels::{Copied, Kernel, Narrowed, Turned, Widened, by_forms};
+use crate::next_scalar::join;
+use crate::output::Output;
 use crate::replacing::{Each, Replacing, Subparts};
 use crate::room::Room;
 use crate::rooms::Progress;
@@ -121,20 +125,96 @@ pub(crate) fn progress(read: usize, written: usize, replaced: usize, is_full: bo
     }
 }
 
-// Writes the code of the character into the room from the place on, where it fits, and answers the place after it.
-#[inline(always)]
-pub(crate) fn put_at(to: Form, c: char, room: &mut [u8], place: usize) -> Option<usize>
-    requires { place ≤ length room.old }
-    ensures some { IfSome result (λ end. Fills room.old room.new place end (written to c)) }
-    ensures long { IfNone result (length room.old - place < length (written to c)) }
-    ensures short { IfNone result (length room.old < place + 4) }
-    ensures none { IfNone result (room.new ≡ room.old) }
-    ensures more { IfSome result (λ end. place < end) }
-    ensures end { IfSome result (λ end. end ≡ place + length (written to c)) }
+// How far a run to the first fault came: how many bytes it recoded, how many it wrote, and what it stopped at.
+#[derive(Clone, Copy, Drop)]
+pub(crate) struct StrictRun {
+    pub(crate) read: usize,
+    pub(crate) written: usize,
+    pub(crate) first: FirstPiece,
+}
+
+// Recodes the text at the front of what is held and a part into the room, to the first piece that is none, that what follows
+// decides, or that does not fit.
+pub(crate) fn recode_to_fault(
+    from: Form,
+    to: Form,
+    held: &[u8],
+    part: &[u8],
+    room: &mut [u8],
+) -> StrictRun
+    requires { length held.now ≤ most_held }
+    ensures puts { PutsText FillsPlace from to (held.now ++ part.now)
+        (at_place room.old 0) (at_place room.new result.written) result.read }
+    ensures stops { StopsAt from to (drop result.read (held.now ++ part.now))
+        (length room.old - result.written) result.first }
 {
-    let mut out = Room::new(room, place);
-    if put_fitting(to, c, &mut out) {
-        return Some(out.len);
+    let mut out = Room::new(room, 0);
+    let (read, first) = run_strictly::<Room<'_>>(from, to, held, part, &mut out);
+    StrictRun {
+        read,
+        written: out.len,
+        first,
     }
-    None
+}
+
+// The same to any output.
+fn run_strictly<O: Output>(
+    from: Form,
+    to: Form,
+    held: &[u8],
+    part: &[u8],
+    out: &mut O,
+) -> (usize, FirstPiece)
+    requires { length held.now ≤ most_held }
+    ensures puts { PutsText O.appends from to (held.now ++ part.now) out.old out.new result.0 }
+    ensures stops { StopsAt from to (drop result.0 (held.now ++ part.now)) (O.room out.new) result.1 }
+{
+    let mut read = 0;
+    while read < held.len() {
+        let (joined, len) = join(&held[read..], part);
+        match put_first(from, to, &joined[..len], out) {
+            Ok(count) => read += count,
+            Err(first) => return (read, first),
+        }
+    }
+    let (more, first) = run_by_pieces(from, to, &part[read - held.len()..], out);
+    (read + more, first)
+}
+
+// The same where nothing is held: in blocks, and then piece by piece.
+fn run_by_pieces<O: Output>(from: Form, to: Form, bytes: &[u8], out: &mut O) -> (usize, FirstPiece)
+    ensures puts { PutsText O.appends from to bytes.now out.old out.new result.0 }
+    ensures stops { StopsAt from to (drop result.0 bytes.now) (O.room out.new) result.1 }
+{
+    let mut read = put_text(from, to, bytes, out);
+    'pieces: loop {
+        match put_first(from, to, &bytes[read..], out) {
+            Ok(count) => read += count,
+            Err(first) => return (read, first),
+        }
+    }
+}
+
+// Appends the code of the character that begins the bytes, where one does and it fits. Answers how many bytes it has, or what
+// begins them.
+#[inline(always)]
+fn put_first<O: Output>(
+    from: Form,
+    to: Form,
+    bytes: &[u8],
+    out: &mut O,
+) -> Result<usize, FirstPiece>
+    ensures puts { IfOk result (λ n. PutsText O.appends from to bytes.now out.old out.new n) }
+    ensures moves { IfOk result (λ n. 0 < n) }
+    ensures stops { IfErr result (λ x. StopsAt from to bytes.now (O.room out.new) x) }
+    ensures kept { OnErr result (out.new ≡ out.old) }
+{
+    let first = first_piece(from, bytes);
+    let FirstPiece::Char(c, len) = first else {
+        return Err(first);
+    };
+    if put_fitting(to, c, out) {
+        return Ok(len);
+    }
+    Err(first)
 }

@@ -1,25 +1,15 @@
 //! Strict recoding of text that comes in parts: to the first faulty byte, and on from there.
-ghost use Rattle.std.specs.Prelude.{◌≡◌, ◌≢◌, ◌+◌, ◌-◌, ◌<◌, ◌≤◌, [], length, drop, Some};
+ghost use Rattle.std.specs.Prelude.{◌≡◌, ◌≢◌, ◌+◌, ◌-◌, ◌<◌, ◌≤◌, [], length, ◌++◌, drop};
 ghost use Rattle.recoding.specs.FirstFaults.{TellsFirst, TellsFirstAtEnd};
 ghost use Rattle.recoding.specs.Recoded.{most_held};
 ghost use Rattle.recoding.specs.Rooms.{ComesNearer, IsAmpleForText};
-ghost use Rattle.recoding.specs.Strict.{EndsRun, FeedsStrictly, FinishesStrictly, IsFirstPiece, PassesHeld};
+ghost use Rattle.recoding.specs.Strict.{EndsRun, FeedsStrictly, FinishesStrictly, IsFirstPiece};
 
 use crate::faults::{Fault, FaultKind, Outcome, StrictProgress};
 use crate::first_pieces::FirstPiece;
-use crate::form_calls::{first_piece, last_piece};
-use crate::held::join;
+use crate::form_calls::lacking_fault;
 use crate::recoder::Recoder;
-use crate::recoder_runs::put_at;
-use crate::strict_runs::{StrictRun, run_strictly};
-
-// How far a call came with what was held; `None` where nothing is held any more.
-#[derive(Clone, Copy, Drop)]
-pub(crate) struct HeldRun {
-    pub(crate) read: usize,
-    pub(crate) written: usize,
-    pub(crate) outcome: Option<Outcome>,
-}
+use crate::recoder_runs::{StrictRun, recode_to_fault};
 
 impl Recoder {
     /// `feed_into` that stops at the first invalid byte, and tells where it is and why it is invalid.
@@ -47,73 +37,35 @@ impl Recoder {
         ensures nearer { ComesNearer part.now room.old result.read self.old self.new }
         ensures first { TellsFirst self.old part.now result self.new }
     {
-        let passed = self.pass_held(part, room);
-        if let Some(outcome) = passed.outcome {
-            return StrictProgress {
-                read: passed.read,
-                written: passed.written,
-                outcome,
-            };
-        }
         let (from, to) = self.forms();
-        let rest = &part[passed.read..];
-        let run = run_strictly(from, to, rest, room, passed.written);
-        let (end, outcome) = self.end_run(rest, run);
+        let run = recode_to_fault(from, to, self.held(), part, room);
+        let (read, outcome) = self.end_run(run, part);
         StrictProgress {
-            read: passed.read + end,
+            read,
             written: run.written,
             outcome,
         }
     }
 
-    // Holds what a run left undecided of these bytes. Answers how many of them are read, and why the run ended.
-    fn end_run(&mut self, rest: &[u8], run: StrictRun) -> (usize, Outcome)
-        requires within { run.read ≤ length rest.now }
-        requires first { IsFirstPiece self.old.from (drop run.read rest.now) run.first }
-        requires none { self.old.held ≡ [] }
-        ensures { EndsRun self.old rest.now run result self.new }
+    // Holds no longer what a run recoded, nor the fault at which it stopped, and holds what it left undecided. Answers how many bytes
+    // of the part are read, and why the call ends.
+    fn end_run(&mut self, run: StrictRun, part: &[u8]) -> (usize, Outcome)
+        requires few { length self.old.held ≤ most_held }
+        requires within { run.read ≤ length self.old.held + length part.now }
+        requires first { IsFirstPiece self.old.from (drop run.read (self.old.held ++ part.now)) run.first }
+        ensures { EndsRun self.old part.now run result self.new }
     {
         match run.first {
-            FirstPiece::Char(_, _) => (run.read, Outcome::Full),
-            FirstPiece::Fault(kind, len) => (run.read + len, faulty(kind, len, 0)),
+            FirstPiece::Char(_, _) => (self.pass(run.read), Outcome::Full),
+            FirstPiece::Fault(kind, len) => {
+                let read = self.pass(run.read + len);
+                (read, faulty(kind, len, self.held().len()))
+            }
             FirstPiece::Undecided => {
-                self.hold(&rest[run.read..]);
-                (rest.len(), Outcome::AllRead)
+                let read = self.pass(run.read);
+                self.take_more(&part[read..], 0);
+                (part.len(), Outcome::AllRead)
             }
-        }
-    }
-
-    // `feed_strict_into` of what is held, with as many bytes of the part as it takes, until nothing is held.
-    fn pass_held(&mut self, part: &[u8], room: &mut [u8]) -> HeldRun
-        ensures { PassesHeld self.old part.now room.old room.new result self.new }
-    {
-        let (from, to) = self.forms();
-        let mut read = 0;
-        let mut written = 0;
-        while !self.held().is_empty() {
-            let (joined, len) = join(self.held(), &part[read..]);
-            match first_piece(from, &joined[..len]) {
-                FirstPiece::Char(c, count) => {
-                    let Some(end) = put_at(to, c, room, written) else {
-                        return held_run(read, written, Outcome::Full);
-                    };
-                    read += self.pass(count);
-                    written = end;
-                }
-                FirstPiece::Fault(kind, count) => {
-                    read += self.pass(count);
-                    return held_run(read, written, faulty(kind, count, self.held().len()));
-                }
-                FirstPiece::Undecided => {
-                    self.hold(&joined[..len]);
-                    return held_run(part.len(), written, Outcome::AllRead);
-                }
-            }
-        }
-        HeldRun {
-            read,
-            written,
-            outcome: None,
         }
     }
 
@@ -123,6 +75,9 @@ impl Recoder {
         ensures more { result ≡ count - length self.old.held }
     {
         let held = self.held();
+        if held.is_empty() {
+            return count;
+        }
         let gone = count.min(held.len());
         let more = count - gone;
         self.take_more(&[], gone);
@@ -144,46 +99,35 @@ impl Recoder {
         ensures enough { IsAmpleForText (length room.old) (length self.old.held) → result.outcome ≢ Outcome.Full }
         ensures first { TellsFirstAtEnd self.old result }
     {
-        let (from, to) = self.forms();
-        let mut written = 0;
-        while !self.held().is_empty() {
-            match last_piece(from, self.held()) {
-                Ok((c, count)) => {
-                    let Some(end) = put_at(to, c, room, written) else {
-                        return finished(written, Outcome::Full);
-                    };
-                    self.pass(count);
-                    written = end;
-                }
-                Err((kind, count)) => {
-                    self.pass(count);
-                    return finished(written, faulty(kind, count, self.held().len()));
-                }
-            }
+        if self.held().is_empty() {
+            return finished();
         }
-        finished(written, Outcome::AllRead)
+        let progress = self.feed_strict_into(&[], room);
+        let held = self.held().len();
+        if held == 0 {
+            return progress;
+        }
+        let Outcome::AllRead = progress.outcome else {
+            return progress;
+        };
+        let (from, _) = self.forms();
+        let (kind, len) = lacking_fault(from, held);
+        let _more = self.pass(len);
+        StrictProgress {
+            outcome: faulty(kind, len, self.held().len()),
+            ..progress
+        }
     }
 }
 
-// How far a call came that reads nothing.
-fn finished(written: usize, outcome: Outcome) -> StrictProgress
-    ensures { result ≡ record { read = 0; written = written; outcome = outcome } }
+// Nothing was held.
+fn finished() -> StrictProgress
+    ensures { result ≡ record { read = 0; written = 0; outcome = Outcome.AllRead } }
 {
     StrictProgress {
         read: 0,
-        written,
-        outcome,
-    }
-}
-
-// How far a call came that ended among the held bytes.
-fn held_run(read: usize, written: usize, outcome: Outcome) -> HeldRun
-    ensures { result ≡ record { read = read; written = written; outcome = Some outcome } }
-{
-    HeldRun {
-        read,
-        written,
-        outcome: Some(outcome),
+        written: 0,
+        outcome: Outcome::AllRead,
     }
 }
 

@@ -2,7 +2,8 @@
 //! sixteen. Each is written whole, with what is none of its bytes, which the next block overwrites.
 ghost use Rattle.std.specs.Prelude.{◌≡◌, ℕ, ◌+◌, ◌<◌, ◌≤◌, length};
 ghost use Rattle.recoding.specs.NextScalars.{utf16_form};
-ghost use Rattle.recoding.specs.Strict.{RunsStrictly};
+ghost use Rattle.recoding.specs.Replacing.{FillsPlace, at_place};
+ghost use Rattle.recoding.specs.Strict.{PutsText};
 ghost use Rattle.utf_lanes.specs.BytePairs.{unit_number};
 ghost use Rattle.utf_lanes.specs.UnitCodes.{lane_unit, AreCharacters};
 
@@ -40,8 +41,8 @@ pub(crate) fn write_blocks(
     start: usize,
 ) -> (usize, usize)
     requires { start ≤ length room.old }
-    ensures { RunsStrictly (utf16_form high_first) Form.Utf8 bytes.now room.old room.new start
-        result.0 result.1 }
+    ensures { PutsText FillsPlace (utf16_form high_first) Form.Utf8 bytes.now
+        (at_place room.old start) (at_place room.new result.1) result.0 }
 {
     if bytes.len() < LONG {
         return write_short_blocks(high_first, bytes, room, start);
@@ -60,8 +61,8 @@ fn write_all_blocks<const BIG_ENDIAN: bool>(
     start: usize,
 ) -> (usize, usize)
     requires { start ≤ length room.old }
-    ensures { RunsStrictly (utf16_form BIG_ENDIAN) Form.Utf8 bytes.now room.old room.new start
-        result.0 result.1 }
+    ensures { PutsText FillsPlace (utf16_form BIG_ENDIAN) Form.Utf8 bytes.now
+        (at_place room.old start) (at_place room.new result.1) result.0 }
 {
     let (wide, middle) = write_wide_blocks::<BIG_ENDIAN>(bytes, room, start);
     let (len, end) = write_short_blocks(BIG_ENDIAN, &bytes[wide..], room, middle);
@@ -76,8 +77,8 @@ fn write_wide_blocks<const BIG_ENDIAN: bool>(
     start: usize,
 ) -> (usize, usize)
     requires { start ≤ length room.old }
-    ensures { RunsStrictly (utf16_form BIG_ENDIAN) Form.Utf8 bytes.now room.old room.new start
-        result.0 result.1 }
+    ensures { PutsText FillsPlace (utf16_form BIG_ENDIAN) Form.Utf8 bytes.now
+        (at_place room.old start) (at_place room.new result.1) result.0 }
 {
     let mut place = 0;
     let mut end = start;
@@ -100,8 +101,8 @@ fn write_some_blocks<const BIG_ENDIAN: bool>(
     start: usize,
 ) -> (usize, usize)
     requires { start ≤ length room.old }
-    ensures { RunsStrictly (utf16_form BIG_ENDIAN) Form.Utf8 bytes.now room.old room.new start
-        result.0 result.1 }
+    ensures { PutsText FillsPlace (utf16_form BIG_ENDIAN) Form.Utf8 bytes.now
+        (at_place room.old start) (at_place room.new result.1) result.0 }
 {
     let (ascii, first) = write_ascii_blocks::<BIG_ENDIAN>(bytes, room, start);
     let (characters, second) = write_character_blocks::<BIG_ENDIAN>(&bytes[ascii..], room, first);
@@ -118,8 +119,8 @@ fn write_ascii_blocks<const BIG_ENDIAN: bool>(
     start: usize,
 ) -> (usize, usize)
     requires { start ≤ length room.old }
-    ensures { RunsStrictly (utf16_form BIG_ENDIAN) Form.Utf8 bytes.now room.old room.new start
-        result.0 result.1 }
+    ensures { PutsText FillsPlace (utf16_form BIG_ENDIAN) Form.Utf8 bytes.now
+        (at_place room.old start) (at_place room.new result.1) result.0 }
 {
     let mut place = 0;
     let mut end = start;
@@ -142,8 +143,8 @@ fn write_character_blocks<const BIG_ENDIAN: bool>(
     start: usize,
 ) -> (usize, usize)
     requires { start ≤ length room.old }
-    ensures { RunsStrictly (utf16_form BIG_ENDIAN) Form.Utf8 bytes.now room.old room.new start
-        result.0 result.1 }
+    ensures { PutsText FillsPlace (utf16_form BIG_ENDIAN) Form.Utf8 bytes.now
+        (at_place room.old start) (at_place room.new result.1) result.0 }
 {
     if bytes.len() < WIDE_BLOCK || room.len() - start < WIDE_ROOM {
         return (0, start);
@@ -169,8 +170,8 @@ fn write_characters_from<const BIG_ENDIAN: bool>(
     requires characters { AreCharacters 32 first_high }
     requires bytes { 64 ≤ length bytes.now }
     requires room { start + 112 ≤ length room.old }
-    ensures { RunsStrictly (utf16_form BIG_ENDIAN) Form.Utf8 bytes.now room.old room.new start
-        result.0 result.1 }
+    ensures { PutsText FillsPlace (utf16_form BIG_ENDIAN) Form.Utf8 bytes.now
+        (at_place room.old start) (at_place room.new result.1) result.0 }
 {
     let mut low = first_low;
     let mut high = first_high;
@@ -197,8 +198,8 @@ fn write_mixed_blocks<const BIG_ENDIAN: bool>(
     start: usize,
 ) -> (usize, usize)
     requires { start ≤ length room.old }
-    ensures { RunsStrictly (utf16_form BIG_ENDIAN) Form.Utf8 bytes.now room.old room.new start
-        result.0 result.1 }
+    ensures { PutsText FillsPlace (utf16_form BIG_ENDIAN) Form.Utf8 bytes.now
+        (at_place room.old start) (at_place room.new result.1) result.0 }
 {
     let mut place = 0;
     let mut end = start;
@@ -226,8 +227,8 @@ fn write_short_blocks(
     start: usize,
 ) -> (usize, usize)
     requires { start ≤ length room.old }
-    ensures { RunsStrictly (utf16_form high_first) Form.Utf8 bytes.now room.old room.new start
-        result.0 result.1 }
+    ensures { PutsText FillsPlace (utf16_form high_first) Form.Utf8 bytes.now
+        (at_place room.old start) (at_place room.new result.1) result.0 }
 {
     let mut place = 0;
     let mut end = start;

@@ -1,13 +1,14 @@
-use Rattle.std.proofs.Common.{drop, arith, length-drop, refl, ◌∙◌}
+use Rattle.std.proofs.Common.{drop, arith, length-drop}
 use Rattle.std.proofs.lemmas.List.{take_rest}
 use Rattle.recoding.proofs.CopiedUnits.{rest_fits}
 use Rattle.recoding.proofs.Forms.{is_utf16}
-use Rattle.recoding.proofs.Utf16ToUtf8.{Transcodes-narrowed}
-use Rattle.recoding.proofs.TextRuns.{RunsStrictly-none, RunsStrictly-units}
+use Rattle.recoding.proofs.RoomRuns.{FillsPlace-more, FillsPlace-units}
+use Rattle.recoding.proofs.TextRuns.{PutsText-after, PutsText-start}
+use Rattle.recoding.proofs.Utf16ToUtf8.{PutsText-narrowed}
 use Rattle.recoding.proofs.utf16_to_utf8.write_ascii_blocks.Goals as goal
 
 pub loop-place-init : goal.loop-place-init
-loop-place-init g c = record { runs = RunsStrictly-none c.requires; len = refl }
+loop-place-init g c = PutsText-start c.requires
 
 pub loop-place-preserved : goal.loop-place-preserved
 loop-place-preserved g c =
@@ -17,8 +18,7 @@ loop-place-preserved g c =
     let halves = rw (take_rest bytes place) at c.thirty_two_halves.ensures.units in
     let put = c.write_ascii_units-end.ensures in
     let fits = put.fits in
-    let len = before.len in
-    let codes =
-    Transcodes-narrowed _ _ (drop place bytes) _ 32 (is_utf16 _) (rest_fits bytes place c.type_inv.bytes) (omega (arith, length-drop place bytes))
-    (λ k lt. halves k lt) put.text in
-    record { runs = RunsStrictly-units before.runs len put (omega arith) (omega arith) codes; len = put.len ∙ len }
+    let block =
+    PutsText-narrowed _ _ (drop place bytes) _ 32 (is_utf16 _) (rest_fits bytes place c.type_inv.bytes) (omega (arith, length-drop place bytes))
+    (λ k lt. halves k lt) put.text (FillsPlace-units put before.appended.fits (omega arith)) in
+    PutsText-after FillsPlace-more before block

@@ -1,17 +1,17 @@
-use Rattle.std.proofs.Common.{◌+◌, drop, arith, length-drop, refl, ◌∙◌}
+use Rattle.std.proofs.Common.{◌+◌, drop, arith, length-drop}
 use Rattle.std.proofs.lemmas.List.{take_rest}
 use Rattle.recoding.proofs.CopiedUnits.{rest_fits}
 use Rattle.recoding.proofs.Forms.{is_utf16}
-use Rattle.recoding.proofs.Utf16ToUtf8.{Transcodes-narrowed}
-use Rattle.recoding.proofs.TextRuns.{RunsStrictly-none, RunsStrictly-units}
+use Rattle.recoding.proofs.RoomRuns.{FillsPlace-more, FillsPlace-units}
+use Rattle.recoding.proofs.TextRuns.{PutsText-after, PutsText-start}
+use Rattle.recoding.proofs.Utf16ToUtf8.{PutsText-narrowed}
 use Rattle.recoding.proofs.utf16_to_utf8.write_characters_from.Goals as goal
 
 pub loop-read-init : goal.loop-read-init
 loop-read-init g c = record {
   bytes = c.requires.bytes;
   room = c.requires.room;
-  runs = RunsStrictly-none (omega (arith, c.requires.room));
-  len = refl;
+  runs = PutsText-start (omega (arith, c.requires.room));
   units = c.requires.units;
   characters = c.requires.characters;
 }
@@ -24,15 +24,13 @@ loop-read-preserved g c =
     let here = before.bytes in
     let put = c.write_characters-end.ensures in
     let fits = put.fits in
-    let len = before.len in
     let same = put.len in
-    let codes =
-    Transcodes-narrowed _ _ (drop read bytes) _ 32 (is_utf16 _) (rest_fits bytes read c.type_inv.bytes) (omega (arith, length-drop read bytes)) before.units put.text in
+    let block =
+    PutsText-narrowed _ _ (drop read bytes) _ 32 (is_utf16 _) (rest_fits bytes read c.type_inv.bytes) (omega (arith, length-drop read bytes)) before.units put.text (FillsPlace-units put before.runs.appended.fits (omega arith)) in
     record {
       bytes = omega arith;
       room = omega arith;
-      runs = RunsStrictly-units before.runs len put (omega arith) (omega arith) codes;
-      len = same ∙ len;
+      runs = PutsText-after FillsPlace-more before.runs block;
       units = rw (take_rest bytes (read + 64)) at c.thirty_two_halves.ensures.units;
       characters = c.are_characters.ensures c.if-not-are_characters.false;
     }
@@ -46,7 +44,6 @@ returns g c =
     let room = before.room in
     let put = c.write_characters.ensures in
     let fits = put.fits in
-    let len = before.len in
-    let codes =
-    Transcodes-narrowed _ _ (drop read bytes) _ 32 (is_utf16 _) (rest_fits bytes read c.type_inv.bytes) (omega (arith, length-drop read bytes)) before.units put.text in
-    RunsStrictly-units before.runs len put (omega arith) (omega arith) codes
+    let block =
+    PutsText-narrowed _ _ (drop read bytes) _ 32 (is_utf16 _) (rest_fits bytes read c.type_inv.bytes) (omega (arith, length-drop read bytes)) before.units put.text (FillsPlace-units put before.runs.appended.fits (omega arith)) in
+    PutsText-after FillsPlace-more before.runs block

@@ -1,7 +1,8 @@
 use Rattle.std.proofs.Common.{◌≡◌, ℕ, ◌+◌, ◌-◌, ◌<◌, ◌≤◌, not, length, drop}
 use Rattle.std.specs.Prelude.{eqb}
 use Rattle.recoding.specs.NextScalars.{utf16_form}
-use Rattle.recoding.specs.Strict.{RunsStrictly}
+use Rattle.recoding.specs.Replacing.{FillsPlace, at_place}
+use Rattle.recoding.specs.Strict.{PutsText}
 use Rattle.recoding.specs.declared.form.Form.TheVariants.{Utf8}
 use Rattle.utf_lanes.specs.BytePairs.{unit_number}
 use Rattle.utf_lanes.specs.UnitCodes.{lane_unit, AreCharacters}
@@ -11,8 +12,7 @@ abbrev pub invariant-loop-read : goal.invariant-loop-read
 invariant-loop-read g l = record {
   bytes : l.read + 64 ≤ length l.bytes;
   room : l.end + 112 ≤ length l.room;
-  runs : RunsStrictly (utf16_form (not (eqb g.row.BIG_ENDIAN 0))) Utf8 l.bytes l.fn.room l.room l.start l.read l.end;
-  len : length l.room ≡ length l.fn.room;
+  runs : PutsText FillsPlace (utf16_form (not (eqb g.row.BIG_ENDIAN 0))) Utf8 l.bytes (at_place l.fn.room l.start) (at_place l.room l.end) l.read;
   units : (k : ℕ) → k < 32 → lane_unit l.low l.high k ≡ unit_number (not (eqb g.row.BIG_ENDIAN 0)) (drop l.read l.bytes) k;
   characters : AreCharacters 32 l.high;
 }

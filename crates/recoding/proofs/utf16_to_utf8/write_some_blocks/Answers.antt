@@ -1,12 +1,8 @@
-use Rattle.std.proofs.Common.{◌+◌, ◌∙◌}
-use Rattle.std.proofs.lemmas.List.{take_rest}
-use Rattle.recoding.proofs.TextRuns.{RunsStrictly-then}
+use Rattle.recoding.proofs.RoomRuns.{FillsPlace-more}
+use Rattle.recoding.proofs.TextRuns.{PutsText-then}
 use Rattle.recoding.proofs.utf16_to_utf8.write_some_blocks.Goals as goal
 
 pub returns : goal.returns
 returns g c =
-    let bytes = c.args.bytes.now in
-    let ascii = c.write_ascii_blocks-ascii in
-    let characters = c.write_character_blocks-characters in
-    let both = RunsStrictly-then ascii.ensures ascii.auto.room (rw (take_rest bytes ascii.result.0) at characters.ensures) in
-    RunsStrictly-then both (characters.auto.room ∙ ascii.auto.room) (rw (take_rest bytes (ascii.result.0 + characters.result.0)) at c.write_mixed_blocks-mixed.ensures)
+    let both = PutsText-then FillsPlace-more c.write_ascii_blocks-ascii.ensures c.write_character_blocks-characters.ensures in
+    PutsText-then FillsPlace-more both c.write_mixed_blocks-mixed.ensures

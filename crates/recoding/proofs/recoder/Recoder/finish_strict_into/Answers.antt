@@ -1,55 +1,39 @@
-use Rattle.std.proofs.Common.{rules, ◌-◌, ◌<◌, length, arith, ap, ◌∙◌, length-drop}
-use Rattle.std.proofs.lemmas.Grind.{common_steps}
-use Rattle.recoding.specs.Recoded.{written}
+use Rattle.std.proofs.Common.{rules, ◌≡◌, ◌<◌, length, min, arith, ap, ap₂, ◌∙◌}
+use Rattle.std.proofs.lemmas.List.{drop_all}
+use Rattle.recoding.specs.NextScalars.{fault_len}
+use Rattle.recoding.specs.Strict.{lacking}
 use Rattle.recoding.proofs.StrictFaults.{tells_first_at_end}
-use Rattle.recoding.proofs.StrictSteps.{RecodesText-char, FinishesStrictly-fault, enough_room}
+use Rattle.recoding.proofs.StrictSteps.{FinishesStrictly-lacking, FinishesStrictly-none, FinishesStrictly-of}
 use Rattle.recoding.proofs.recoder.Recoder.finish_strict_into.Goals as goal
 
-pub loop-from-preserved : goal.loop-from-preserved
-loop-from-preserved c =
-    let v = c.loop-from.invariant in
-    let len = v.len in
-    let few = v.few in
-    let passed = c.pass.ensures.held in
-    let held = ap (λ x. x.held) passed in
-    let d = rw c.held-in-loop-from.ensures.bytes at c.in-Ok.ensures in
-    record {
-      recodes = rw held (RecodesText-char v.recodes v.len d c.in-Some.ensures.some);
-      from = ap (λ x. x.from) passed ∙ v.from;
-      to = ap (λ x. x.to) passed ∙ v.to;
-      replaced = ap (λ x. x.replaced) passed ∙ v.replaced;
-      few = omega (arith, ap length held, length-drop c.in-Ok.count c.loop-from.self.held);
-      len = omega (arith, c.put_at.auto.room);
-    }
+pub returns-then-is_empty-clause-finishes : goal.returns-then-is_empty-clause-finishes
+returns-then-is_empty-clause-finishes c =
+    let zero : length c.held.result.now ≡ 0 = search rules in
+    rw c.finished.ensures (FinishesStrictly-none c.args.self.now c.args.room.now (drop_all 0 _ (omega (arith, zero, ap length c.held.ensures.bytes))))
 
-pub returns-in-Err-clause-finishes : goal.returns-in-Err-clause-finishes
-returns-in-Err-clause-finishes c =
-    let v = c.loop-from.invariant in
-    let f = rw c.held-in-loop-from.ensures.bytes at c.in-Err.ensures in
-    rw (c.finished-in-Err.ensures, c.faulty.ensures, c.held-in-Err.ensures.bytes)
-    (FinishesStrictly-fault c.args.self.now c.loop-from.self c.pass-in-Err.new.self c.forms-from.result.0 c.forms-from.result.1 c.args.room.now c.loop-from.room c.loop-from.written c.in-Err.count c.in-Err.kind
-    c.forms-from.ensures.from c.forms-from.ensures.to v.from v.to v.replaced v.few v.recodes f c.pass-in-Err.ensures.held)
+pub returns-then-is_empty-clause-first : goal.returns-then-is_empty-clause-first
+returns-then-is_empty-clause-first c = tells_first_at_end _ c.args.room.now _ _ _ (returns-then-is_empty-clause-finishes c)
 
-pub returns-in_default-clause-enough : goal.returns-in_default-clause-enough
-returns-in_default-clause-enough c fits full =
-    let v = c.loop-from.invariant in
-    let len = v.len in
-    let d = rw c.held-in-loop-from.ensures.bytes at c.in-Ok.ensures in
-    let long = c.in_default.ensures.long in
-    let longer : length c.args.room.now - c.loop-from.written < length (written c.forms-from.result.1 c.in-Ok.c) = omega arith in
-    enough_room v.recodes len fits (record { scalar = c.in-Ok.c; len = c.in-Ok.count; begins = d; longer = longer })
+pub returns-then-held-eq0-clause-finishes : goal.returns-then-held-eq0-clause-finishes
+returns-then-held-eq0-clause-finishes c =
+    FinishesStrictly-of c.feed_strict_into-progress.ensures.feeds (λ e. drop_all 0 _ (omega (arith, c.if-held-eq0.true, ap length c.held-held.ensures.bytes)))
+
+pub returns-then-held-eq0-clause-first : goal.returns-then-held-eq0-clause-first
+returns-then-held-eq0-clause-first c = tells_first_at_end _ c.args.room.now _ _ _ (returns-then-held-eq0-clause-finishes c)
 
 pub returns-in_default-clause-finishes : goal.returns-in_default-clause-finishes
-returns-in_default-clause-finishes c = search rules
+returns-in_default-clause-finishes c = FinishesStrictly-of c.feed_strict_into-progress.ensures.feeds (λ e. search rules)
 
 pub returns-in_default-clause-first : goal.returns-in_default-clause-first
-returns-in_default-clause-first c = tells_first_at_end c.args.self.now c.args.room.now _ _ _ (returns-in_default-clause-finishes c)
-
-pub returns-in-Err-clause-first : goal.returns-in-Err-clause-first
-returns-in-Err-clause-first c = tells_first_at_end c.args.self.now c.args.room.now _ _ _ (returns-in-Err-clause-finishes c)
+returns-in_default-clause-first c = tells_first_at_end _ c.args.room.now _ _ _ (returns-in_default-clause-finishes c)
 
 pub returns-clause-finishes : goal.returns-clause-finishes
-returns-clause-finishes c = grind (arith, common_steps)
+returns-clause-finishes c =
+    let fed = c.feed_strict_into-progress in
+    let kind = c.lacking_fault-kind.ensures.kind ∙ ap lacking (c.forms-from.ensures.from ∙ fed.ensures.feeds.from) in
+    let len = c.lacking_fault-kind.ensures.len ∙ ap₂ (λ x n. min (fault_len x) n) (c.forms-from.ensures.from ∙ fed.ensures.feeds.from) (ap length c.held-held.ensures.bytes) in
+    let some : 0 < length fed.new.self.held = omega (arith, ap length c.held-held.ensures.bytes) in
+    rw (c.faulty.ensures, kind, c.held-2.ensures.bytes) (FinishesStrictly-lacking fed.ensures.feeds c.in-AllRead.is some len c.pass-more.ensures.held)
 
 pub returns-clause-first : goal.returns-clause-first
-returns-clause-first c = tells_first_at_end c.args.self.now c.args.room.now _ _ _ (returns-clause-finishes c)
+returns-clause-first c = tells_first_at_end _ c.args.room.now _ _ _ (returns-clause-finishes c)

@@ -1,6 +1,7 @@
 use Rattle.std.proofs.Common.{length, arith, ap, sym, length-drop, length-take}
 use Rattle.std.proofs.lemmas.List.{take_rest}
-use Rattle.recoding.proofs.Taking.{FillsPlace-more, IsFullBy-then, Takes-then}
+use Rattle.recoding.proofs.RoomRuns.{FillsPlace-more}
+use Rattle.recoding.proofs.Taking.{IsFullBy-then, Takes-then}
 use Rattle.recoding.proofs.recoder.Recoder.take_joined.Goals as goal
 
 pub overflow_add-result-2 : goal.overflow_add-result-2

@@ -2,7 +2,7 @@ use Rattle.std.proofs.Common.{◌≡◌, ◌+◌, ◌≤◌, ◌++◌, ℕ, List
 use borrow.Rule.Slice.PartMut.{put_mid}
 use Rattle.std.proofs.lemmas.List.{take_at, take_min}
 use Rattle.std.proofs.lemmas.Slice.{take-put_mid}
-use Rattle.recoding.proofs.held.join.Goals as goal
+use Rattle.recoding.proofs.next_scalar.join.Goals as goal
 
 -- one list written after another
 joined : (held part ys zs room : List ℕ) (m n k : ℕ) → ys ≡ held → zs ≡ take m part → m ≡ min 3 (length part) → n ≡ length held + m

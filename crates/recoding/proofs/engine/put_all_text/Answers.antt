@@ -1,5 +1,5 @@
 use Rattle.recoding.proofs.TextRuns.{PutsText-done, PutsText-none, PutsText-then}
-use Rattle.recoding.proofs.strict_runs.put_all_text.Goals as goal
+use Rattle.recoding.proofs.engine.put_all_text.Goals as goal
 
 pub loop-read-init : goal.loop-read-init
 loop-read-init g c = PutsText-none g.met.O.Output.appends_none
