@@ -7,19 +7,28 @@ use Rattle.cuts.specs.Recoded.{most_held}
 use Rattle.c_api.specs.Api.{IsForm, fault_number, form_of}
 use Rattle.c_api.specs.declared.decoders.NodyDecoder.{NodyDecoder}
 use Rattle.c_api.specs.declared.decoders.NodyLocated.{NodyLocated}
+use Rattle.c_api.specs.declared.decoders.NodyMark.{NodyMark}
 use Rattle.c_api.specs.declared.decoders.NodyTold.{NodyTold}
 
+-- the mark of a character of so many bytes
+abbrev pub character_mark_of : ℕ → NodyMark
+character_mark_of n = record { len = n; kind = 0; rest = 0 }
+
 -- a scalar has the kind 0, and a fault its number and no scalar
-abbrev pub told_for_c : Result ℕ FaultKind → ℕ → NodyTold
-told_for_c (Ok s) n = record { scalar = s; len = n; kind = 0 }
-told_for_c (Err k) n = record { scalar = 0; len = n; kind = fault_number k }
+abbrev pub scalar_for_c : Result ℕ FaultKind → ℕ
+scalar_for_c (Ok s) = s
+scalar_for_c (Err k) = 0
+
+abbrev pub mark_for_c : Result ℕ FaultKind → ℕ → NodyMark
+mark_for_c (Ok s) n = character_mark_of n
+mark_for_c (Err k) n = record { len = n; kind = fault_number k; rest = 0 }
 
 abbrev pub located_for_c : LocatedPiece → NodyLocated
-located_for_c p = record { offset = p.offset; told = told_for_c p.answer p.len }
+located_for_c p = record { offset = p.offset; scalar = scalar_for_c p.answer; mark = mark_for_c p.answer p.len }
 
 -- what an ASCII character is
 abbrev pub ascii_told_of : ℕ → NodyTold
-ascii_told_of byte = record { scalar = byte; len = 1; kind = 0 }
+ascii_told_of byte = record { scalar = byte; mark = character_mark_of 1 }
 
 -- The struct is a decoder.
 pub record IsDecoder (d : NodyDecoder) : Type 0 where

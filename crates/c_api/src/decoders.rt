@@ -2,7 +2,7 @@
 ghost use Rattle.std.specs.Prelude.{◌≡◌, true, [], ◌∷◌, ◌<◌, ◌≤◌, length};
 ghost use Rattle.cuts.specs.Located.{FeedsPieces, FinishesPieces, HasNoPlace, IsOpen};
 ghost use Rattle.c_api.specs.Api.{form_of};
-ghost use Rattle.c_api.specs.Decoders.{IfDecoder, IsDecoder, ascii_told_of, decoder_of, located_for_c};
+ghost use Rattle.c_api.specs.Decoders.{IfDecoder, IsDecoder, ascii_told_of, character_mark_of, decoder_of, located_for_c};
 
 use crate::kinds::fault_number_of;
 use crate::recodings::{DONE, FULL, REFUSED, form_of};
@@ -22,16 +22,16 @@ pub struct NodyDecoder {
     pub offset: u64,
 }
 
-/// What a piece is.
+/// How many bytes a piece has, and whether it is a character.
 #[repr(C)]
 #[derive(Clone, Copy, Drop)]
-pub struct NodyTold {
-    /// The scalar, or 0 for a fault.
-    pub scalar: u32,
+pub struct NodyMark {
     /// How many bytes it has.
     pub len: u8,
     /// 0 for a character, else the number of the error.
     pub kind: u8,
+    /// 0, where C has nothing: so these four bytes are loaded and stored at once.
+    pub rest: u16,
 }
 
 /// A piece and its offset.
@@ -40,13 +40,30 @@ pub struct NodyTold {
 pub struct NodyLocated {
     /// The offset of its first byte, modulo 2^64.
     pub offset: u64,
-    /// What it is: eight bytes, which are loaded and stored at once.
-    pub told: NodyTold,
+    /// The scalar, or 0 for a fault.
+    pub scalar: u32,
+    /// What else it is.
+    pub mark: NodyMark,
+}
+
+// What an ASCII character is.
+#[repr(C)]
+#[derive(Clone, Copy, Drop)]
+struct NodyTold {
+    scalar: u32,
+    mark: NodyMark,
+}
+
+macro_rules! marks {
+    ($($len:literal),* $(,)?) => { [$(NodyMark { len: $len, kind: 0, rest: 0 }),*] };
 }
 
 macro_rules! told {
-    ($($byte:literal),* $(,)?) => { [$(NodyTold { scalar: $byte, len: 1, kind: 0 }),*] };
+    ($($byte:literal),* $(,)?) => { [$(NodyTold { scalar: $byte, mark: NodyMark { len: 1, kind: 0, rest: 0 } }),*] };
 }
+
+// The marks of characters, by how many bytes they have.
+static MARKS: [NodyMark; 5] = marks![0, 1, 2, 3, 4];
 
 // What each ASCII character is, sixteen a line.
 #[rattlefmt::skip]
@@ -70,11 +87,8 @@ impl FromPiece for NodyLocated {
     fn from_character(offset: u64, c: char, len: usize) -> NodyLocated {
         NodyLocated {
             offset,
-            told: NodyTold {
-                scalar: c as u32,
-                len: len as u8,
-                kind: 0,
-            },
+            scalar: c as u32,
+            mark: character_mark(len),
         }
     }
 
@@ -82,21 +96,33 @@ impl FromPiece for NodyLocated {
     fn from_fault(offset: u64, kind: FaultKind, len: usize) -> NodyLocated {
         NodyLocated {
             offset,
-            told: NodyTold {
-                scalar: 0,
+            scalar: 0,
+            mark: NodyMark {
                 len: len as u8,
                 kind: fault_number_of(kind),
+                rest: 0,
             },
         }
     }
 
     #[inline(always)]
     fn from_ascii(offset: u64, byte: u8) -> NodyLocated {
+        let told = ascii_told(byte);
         NodyLocated {
             offset,
-            told: ascii_told(byte),
+            scalar: told.scalar,
+            mark: told.mark,
         }
     }
+}
+
+// The mark of a character of so many bytes.
+#[inline(always)]
+fn character_mark(len: usize) -> NodyMark
+    requires { len ≤ 4 }
+    ensures { result ≡ character_mark_of len }
+{
+    MARKS[len]
 }
 
 // What an ASCII character is.

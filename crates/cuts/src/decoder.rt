@@ -1,6 +1,6 @@
 //! A decoder for input that comes in parts, which may be cut anywhere, also inside of a character: the pieces of all of it, each
 //! with its offset.
-ghost use Rattle.std.specs.Prelude.{◌≡◌, ◌<◌, ◌≤◌, ◌+◌, ◌-◌, ◌^◌, [], ◌++◌, length, take, drop, min, IsTrue, IsFalse, IfSome, IfNone};
+ghost use Rattle.std.specs.Prelude.{◌≡◌, ◌<◌, ◌≤◌, ◌+◌, ◌-◌, ◌^◌, [], ◌++◌, length, take, drop, get_or, min, IsTrue, IsFalse, IfSome, IfNone};
 ghost use Rattle.recoding.specs.Recoded.{most_held};
 ghost use Rattle.cuts.specs.Located.{BeginsKept, Decoding, FeedsFaults, FeedsKept, FeedsPieces, FeedsRest, FinishesFaults, FinishesKept, FinishesPieces, HasNoPlace, HasNoPlaceFor, HasNoPlaceForFault, IsOpen, IsWithin, wrapped};
 
@@ -128,9 +128,7 @@ impl Decoder {
     {
         self.offset = offset;
         self.count = bytes.len();
-        if !bytes.is_empty() {
-            self.held[..bytes.len()].copy_from_slice(bytes);
-        }
+        self.held = three_of(bytes);
     }
 
     /// Takes the next part, and writes its pieces, from the front of the room on. The other places
@@ -287,10 +285,14 @@ impl Decoder {
         ensures more { result ≡ len - length self.old.held }
     {
         let offset = self.offset().wrapping_add(len as u64);
-        let (held, count) = held_and_more(self.held(), &[]);
-        let gone = len.min(count);
-        self.hold_at(&held[gone..count], offset);
-        len - gone
+        let count = self.held_len();
+        if count <= len {
+            self.hold_at(&[], offset);
+            return len - count;
+        }
+        let (held, end) = held_and_more(self.held(), &[]);
+        self.hold_at(&held[len..end], offset);
+        0
     }
 
     /// Ends the input: writes the pieces of what is held, which nothing follows. `read` is 0. Room for
@@ -362,9 +364,37 @@ fn held_and_more(held: &[u8], part: &[u8]) -> ([u8; 6], usize)
     ensures bytes { take result.1 result.0 ≡ held.now ++ take 3 part.now }
 {
     let count = held.len();
-    let taken = 3usize.min(part.len());
-    let mut joined = [0; 6];
-    joined[..count].copy_from_slice(held);
-    joined[count..count + taken].copy_from_slice(&part[..taken]);
-    (joined, count + taken)
+    let mut joined = [
+        byte_or_zero(held, 0),
+        byte_or_zero(held, 1),
+        byte_or_zero(held, 2),
+        0,
+        0,
+        0,
+    ];
+    joined[count] = byte_or_zero(part, 0);
+    joined[count + 1] = byte_or_zero(part, 1);
+    joined[count + 2] = byte_or_zero(part, 2);
+    (joined, count + 3usize.min(part.len()))
+}
+
+// The bytes, of which there are at most three, and zeros after them: one by one, since to copy so few by a call takes longer.
+#[inline(always)]
+fn three_of(bytes: &[u8]) -> [u8; 3]
+    requires { length bytes.now ≤ 3 }
+    ensures { take (length bytes.now) result ≡ bytes.now }
+{
+    [
+        byte_or_zero(bytes, 0),
+        byte_or_zero(bytes, 1),
+        byte_or_zero(bytes, 2),
+    ]
+}
+
+// The byte at a place, or zero where there is none.
+#[inline(always)]
+fn byte_or_zero(bytes: &[u8], place: usize) -> u8
+    ensures { result ≡ get_or bytes.now place 0 }
+{
+    if place < bytes.len() { bytes[place] } else { 0 }
 }

@@ -82,8 +82,22 @@ fn front_of_utf8(bytes: &[u8]) -> Option<Front>
 {
     match front_of_text(bytes) {
         Some((c, len)) => Some(Front::Char(c, len)),
-        None => front_with_care(bytes),
+        None => other_front(bytes),
     }
+}
+
+// The same where no character of four bytes is found: ASCII first, which the last bytes of a part mostly are.
+#[inline(always)]
+fn other_front(bytes: &[u8]) -> Option<Front>
+    ensures begins { IfSome result (λ x. Begins Utf8 bytes.now (told_of x)) }
+    ensures waits { IfNone result (0 < length bytes.now → IsOpen Utf8 bytes.now) }
+    ensures last { IfNone result (0 < length bytes.now → first_told Utf8 bytes.now ≡ lacking_told Utf8 (length bytes.now)) }
+    ensures few { IfNone result (length bytes.now ≤ 3) }
+{
+    if 0 < bytes.len() && bytes[0] < 0x80 {
+        return Some(Front::Char(char::from(bytes[0]), 1));
+    }
+    front_with_care(bytes)
 }
 
 // The same of bytes that may be anything.

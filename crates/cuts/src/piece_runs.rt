@@ -17,6 +17,9 @@ use utf_lanes::unit_blocks::units_len;
 // How many bytes of ASCII are put at once.
 const BLOCK: usize = 8;
 
+// From how many characters on one count bounds them.
+const MANY: usize = 64;
+
 // How many pieces are put with care before text is looked for again.
 const STRIDE: usize = 32;
 
@@ -267,22 +270,58 @@ fn put_ascii_block<P: FromPiece>(bytes: &[u8], room: &mut [P], from: Spot) -> Sp
     at
 }
 
-// Puts the characters that begin the bytes of UTF-8, up to what is none. There are no more than a character for each four bytes: so
-// one count bounds both.
-#[inline(always)]
+// Puts the characters that begin the bytes of UTF-8, up to what is none, or as far as four bytes are left. It stands apart, so that
+// its loops keep all that they use in registers.
+#[inline(never)]
 fn put_located_characters<P: FromPiece>(bytes: &[u8], room: &mut [P], from: Spot) -> Spot
     requires { IsWithin from bytes.now room.old }
     ensures { Puts P.made Utf8 bytes.now room.old room.new from result }
 {
+    let mut at = put_many_characters(bytes, room, from);
+    while at.written < room.len() && 4 <= bytes.len() - at.read {
+        let Some(next) = put_character(bytes, room, at) else {
+            return at;
+        };
+        at = next;
+    }
+    at
+}
+
+// The same of many. There are no more than a character for each four bytes: so one count bounds both.
+#[inline(always)]
+fn put_many_characters<P: FromPiece>(bytes: &[u8], room: &mut [P], from: Spot) -> Spot
+    requires { IsWithin from bytes.now room.old }
+    ensures { Puts P.made Utf8 bytes.now room.old room.new from result }
+{
     let most = (room.len() - from.written).min((bytes.len() - from.read) / 4);
+    if most < MANY {
+        return from;
+    }
     let end = from.written + most;
     let mut at = from;
     while at.written < end {
-        let Some((c, len)) = front_of_text(&bytes[at.read..at.read + 4]) else {
+        let Some(next) = put_character(bytes, room, at) else {
             return at;
         };
-        room[at.written] = P::from_character(at.offset, c, len);
-        at = at.after(len);
+        at = next;
     }
     at
+}
+
+// Puts the character that begins the bytes from a spot on, by four of them, and answers the next spot; `None` where none does.
+#[inline(always)]
+fn put_character<P: FromPiece>(bytes: &[u8], room: &mut [P], at: Spot) -> Option<Spot>
+    requires read { at.read + 4 ≤ length bytes.now }
+    requires written { at.written < length room.old }
+    ensures puts { IfSome result (λ to. Puts P.made Utf8 bytes.now room.old room.new at to) }
+    ensures one { IfSome result (λ to. to.written ≡ at.written + 1) }
+    ensures moves { IfSome result (λ to. at.read < to.read) }
+    ensures few { IfSome result (λ to. to.read ≤ at.read + 4) }
+    ensures stays { IfNone result (room.new ≡ room.old) }
+{
+    let Some((c, len)) = front_of_text(&bytes[at.read..at.read + 4]) else {
+        return None;
+    };
+    room[at.written] = P::from_character(at.offset, c, len);
+    Some(at.after(len))
 }
