@@ -20,11 +20,14 @@ class Project:
 
     def __init__(self, consts):
         self.unsafe, self.traits, self.macros, self.consts, self.narrowed, self.seen = set(), set(), set(), consts, set(), set()
+        self.promising = set()
 
     def read(self, text):
         for it in text.functions():
             if it.requires and it.name.endswith("_unchecked"):
                 self.unsafe.add(it.name)
+            if it.inside and it.inside.kind == "trait" and it.inside.sees == "pub" and len(it.clauses) > len(it.requires):
+                self.promising.add(it.inside.name)
         for i in range(len(text.t)):
             if text.text(i) == "trait" and text.kind(text.next(i)) == "word":
                 self.traits.add(text.text(text.next(i)))
@@ -162,6 +165,8 @@ class Eraser(Text):
     def ghost_item(self, i):
         """`ghost use ..;`, and a member of a trait, an impl or a struct, with the comment above it. Answers its end."""
         word = self.text(self.next(i))
+        if self.kind(self.next(i)) != "word" or self.text(self.around(i)) in ("(", "["):
+            self.stop(i, "`ghost` stands before no item, and no member")
         if word in ("let", "fn", "struct", "enum", "mod", "trait", "impl", "const", "static"):
             self.stop(i, f"`ghost {word}` is not known")
         start = self.before(i) if self.text(self.before(i)) == "pub" else i
@@ -255,12 +260,43 @@ class Eraser(Text):
                 self.call(i, after)
             elif word == "extern":
                 export(self, i)
+            elif word == "unsafe" and self.text(b) != "[":
+                self.of_std_alone(i, after)
+            elif word == "static" and self.text(after) == "mut":
+                self.stop(i, "`static mut` is not known")
+            elif word in self.project.promising:
+                self.is_no_bound(i, after)
+            elif (word, self.text(after)) == ("Error", "for") and self.text(b) == "impl":
+                self.describe(self.until(after, "{"))
             elif self.text(after) == "!" and self.text(self.next(after)) in OPEN and word not in rules.MACROS | self.project.macros:
                 self.stop(i, f"the macro `{word}!` is not known")
         for it in self.lists:
             if it.names & set(rules.GATED) and not self.gone[it.at]:
                 self.front[it.start] = GATE + self.front.get(it.start, "")
         self.gate_containers()
+
+    def of_std_alone(self, i, left):
+        """`unsafe { f(..) }`, where std says what `f` asks."""
+        kind = self.next(left)
+        name = self.next(self.next(kind))
+        is_call = self.text(left) == "{" and self.text(self.next(name)) == "(" and (self.text(kind), self.text(name)) in rules.UNSAFE_OF_STD
+        if not is_call or self.next(self.closing(self.next(name))) != self.closing(left):
+            self.stop(i, "an `unsafe` of another form")
+
+    def is_no_bound(self, i, after):
+        """What a public trait promises, code that is not proved may break: so proved text does not go by it."""
+        first = i
+        while self.text(self.before(first)) == "::":
+            first = self.before(self.before(first))
+        is_bound = self.text(self.before(first)) in (":", "+", "impl", "dyn") and self.text(after) != "for"
+        if is_bound and not any(it.endswith(f":{self.text(i)}") for it in rules.OWN_TRAITS):
+            self.stop(i, f"any code may implement {self.text(i)}, and break what it promises: make the trait pub(crate)")
+
+    def describe(self, left):
+        """std's trait has a method of old, whose text is that of the type's own method of this name."""
+        if self.closing(left) != self.next(left):
+            self.stop(left, "an `impl Error` that is not empty")
+        self.back[left] = "\n    fn description(&self) -> &str {\n        Self::description(self)\n    }\n"
 
     def gate_containers(self):
         for i in range(len(self.t)):
@@ -371,6 +407,7 @@ class Eraser(Text):
             word, b, a = self.text(i), self.text(self.before(i)), self.next(i)
             if word in rules.NOT_THERE and b != "fn":
                 self.stop(i, f"{word} is not known")
+            self.of_known_root(i, word, b, self.text(a))
             if word in rules.PRELUDE:
                 self.uses.add(f"support::memory::{word}")
             if self.text(a) != "::" or b in ("::", "."):
@@ -386,8 +423,20 @@ class Eraser(Text):
             elif word == "std":
                 self.of_std(self.next(a))
 
+    def of_known_root(self, i, word, b, after):
+        """Each path begins with a crate or a name, and `std` has no other name."""
+        head = self.before(self.before(i))
+        is_path = self.kind(head) == "word" and self.text(head) not in KEYWORDS | {"use"}
+        if b == "::" and not is_path and self.text(head) != ">":
+            self.stop(i, f"::{word} is not known")
+        if b not in ("::", ".") and (word in rules.OTHER_ROOTS and after == "::" or word == "std" and after != "::"):
+            self.stop(i, f"`{word}` is not known here")
+
     def of_std(self, module):
         """`std` is src/support there, which has of std's names those that are known."""
+        group = range(module, self.closing(module)) if self.text(module) == "{" else [module]
+        if any(self.text(k) == "*" for k in group):
+            self.stop(module, "std::* is not known")
         self.uses.add("support as std")
         after = self.next(self.next(module))
         names = {self.text(k) for k in range(module, self.closing(module) if self.text(module) == "{" else module + 1) if self.kind(k) == "word"}

@@ -31,6 +31,11 @@ NOT_THERE = {"Arc", "Box", "Cow", "HashMap", "Rc", "ToOwned", "ToString", "to_ow
 # Functions of a primitive type that Rust has there since 1.87, and before that in a module.
 OLDER = {("str", "from_utf8_unchecked"): "core::str"}
 
+# What of std is `unsafe` in Rattle too: a source calls it in a block of its own, and has nothing else that is unsafe.
+UNSAFE_OF_STD = {("char", "from_u32_unchecked"), ("str", "from_utf8_unchecked")}
+# Rust's own names of what std is made of: a source has `std` alone.
+OTHER_ROOTS = {"alloc", "core"}
+
 # Words that no erased text holds. (`invariant` is a ghost member, which goes with its `ghost`.)
 GHOST_WORDS = {"assumption", "decreases", "ensures", "ghost", "ground", "invariant", "requires"}
 
@@ -67,6 +72,7 @@ ASSERTED = {
 OWN = {
     "utf_base/errors.rt": {"is_kind", "is_kind_of", "new"},
     "utf_chars/utf8_char.rt": {"as_bytes", "eq_char", "eq_utf16", "eq_u8", "cmp_char", "cmp_utf16"},
+    "encode_unicode/decoding_iterators.rt": {"next_back_counted"},
     "utf_chars/utf16_char.rt": {"eq_char", "eq_utf8", "eq_u8", "eq_u16", "cmp_char", "cmp_utf8", "as_units"},
 }
 

@@ -73,6 +73,13 @@ class Text:
             k -= 1
         return self.stop(i, "a bracket is not opened")
 
+    def around(self, i):
+        """The bracket that the token at i stands in, or -1."""
+        k = self.before(i)
+        while k >= 0 and not (self.kind(k) == "mark" and self.text(k) in OPEN):
+            k = self.before(self.opening(k) if self.kind(k) == "mark" and self.text(k) in OPEN.values() else k)
+        return k
+
     def attributes(self, i):
         """The attributes above the item at i: where each begins and ends."""
         found = []

@@ -1,9 +1,16 @@
 #!/usr/bin/env python3
-"""Tests of the eraser: for each rule what it refuses, and what it writes. The last line is 'N passed, M failed'."""
+"""Tests of the eraser: for each rule what it refuses, and what it writes; and that scripts/erase takes no other files away.
+
+  erased/tests.py
+
+The last line is 'N passed, M failed'."""
 import os
 import re
+import subprocess
 import sys
+import tempfile
 
+TOP = os.path.dirname(os.path.dirname(os.path.abspath(__file__)))
 sys.dont_write_bytecode = True
 sys.path.insert(0, os.path.dirname(os.path.abspath(__file__)))
 from eraser import Eraser, Project  # noqa: E402
@@ -53,6 +60,25 @@ REFUSED = [
     ("an `extern` of another form", '#[unsafe(no_mangle)]\nextern "C" fn f(x: u8) {}'),
     ("an `extern` function with another attribute first", '#[inline]\npub extern "C" fn f(x: u8) {}'),
     ("Utf16CharMerger has no field held", "struct Utf16CharMerger {\n    other: u8,\n}", "encode_unicode/utf16_merger.rt"),
+    ("an `unsafe` of another form", "unsafe impl Send for S {}"),
+    ("an `unsafe` of another form", "fn f() { unsafe { *p } }"),
+    ("an `unsafe` of another form", "fn f() { unsafe { char::from_u32_unchecked(*p) + 1 } }"),
+    ("an `unsafe` of another form", "pub unsafe fn f() {}"),
+    ("`static mut` is not known", "static mut X: u8 = 1;"),
+    ("`core` is not known here", "use core::ptr;"),
+    ("`alloc` is not known here", "fn f() { alloc::vec::from_elem(1, 2) }"),
+    ("`std` is not known here", "use std as s;"),
+    ("std::* is not known", "use std::*;"),
+    ("std::* is not known", "use std::{fmt, *};"),
+    ("::std is not known", "fn f() { ::std::process::exit(1) }"),
+    ("::std is not known", "use ::std::fs;"),
+    ("`ghost` stands before no item", "fn f() { g(x, ghost y); }"),
+    ("`ghost` stands before no item", "fn f(ghost x: u8, y: u8) {}"),
+    ("`ghost` stands before no item", "fn f() { x.map(ghost |x| x) }"),
+    ("`ghost` stands before no item", "fn f() { let x = ghost { 1 }; }"),
+    ("any code may implement T", "pub trait T {\n    fn f(self) -> u8\n        ensures { result < 4 };\n}\nfn g<A: crate::a::T>(a: A, x: &[u8]) {}"),
+    ("any code may implement T", "pub trait T {\n    fn f(self) -> u8\n        ensures { result < 4 };\n}\nfn g(a: impl T) {}"),
+    ("an `impl Error` that is not empty", "impl Error for S {\n    fn cause(&self) {}\n}"),
     ("a bracket closes another", "fn f() { (] }"),
     ("a bracket closes none", "fn f() {} }"),
     ("a bracket is not closed", "fn f() {"),
@@ -83,6 +109,10 @@ WRITTEN = [
     ("fn f<'a>(x: &'a [u8]) -> u8 { x[0] // ghost {\n}\n", None),
     ("fn f() { str::from_utf8_unchecked(x) }\n", "fn f() { core::str::from_utf8_unchecked(x) }\n"),
     ("fn to_vec(&self) {}\n", None),
+    ("impl Error for S {}\n", "impl Error for S {\n    fn description(&self) -> &str {\n        Self::description(self)\n    }\n}\n"),
+    ("fn f() { (unsafe { char::from_u32_unchecked(g(x)) }, 1) }\n", None),
+    ("pub trait T {\n    fn f(self)\n        ensures { x };\n}\nimpl<A> crate::T for S {}\nfn f() { <u8 as T>::f(x); [1]; }\n",
+     "pub trait T {\n    fn f(self);\n}\nimpl<A> crate::proved::utf_base::T for S {}\nfn f() { <u8 as T>::f(x); [1]; }\n"),
     ("fn f() -> io::Result<u8> {}\n", '#[cfg(feature = "std")]\nfn f() -> io::Result<u8> {}\n'),
 ]
 
@@ -228,8 +258,21 @@ def asks():
     return None if is_right else f"it writes {have!r} and {copy!r}"
 
 
+def keeps_other_files():
+    """scripts/erase takes away what it made before, and writes into no folder that has other files."""
+    with tempfile.TemporaryDirectory() as folder:
+        open(f"{folder}/other", "w", encoding="utf-8").close()
+        ran = subprocess.run([f"{TOP}/scripts/erase", folder], capture_output=True, text=True)
+        is_kept = os.listdir(folder) == ["other"] and ran.returncode == 1 and "which is not made here" in ran.stderr
+        return None if is_kept else f"it says {ran.stderr!r}, and there is {os.listdir(folder)}"
+
+
 def main():
-    tried = [(why, refuses(why, *rest)) for why, *rest in REFUSED]
+    if len(sys.argv) > 1:
+        print(__doc__)
+        return 0 if sys.argv[1] in ("-h", "--help") else 2
+    tried = [("other files stay", keeps_other_files())]
+    tried += [(why, refuses(why, *rest)) for why, *rest in REFUSED]
     tried += [(text, widens(text, wanted)) for text, wanted in WIDENED]
     tried += [("which copy answers is asked once", asks()), ("a group of files is not copied", copies_no_group())]
     tried += [(text, writes(text, wanted)) for text, wanted in WRITTEN]

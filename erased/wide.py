@@ -10,7 +10,7 @@ from shape import Text
 from tokens import Stop
 from windows import called
 
-GATE = '#[cfg(all(target_arch = "x86_64", feature = "std", not(noddychest_narrow)))]\n'
+GATE = '#[cfg(all(target_arch = "x86_64", target_feature = "sse2", feature = "std", not(noddychest_narrow)))]\n'
 FEATURES = "avx2,bmi1,bmi2,lzcnt,popcnt"
 
 

@@ -1,8 +1,11 @@
-//! In the repository: makes `src/proved` of the proved sources, by `scripts/erase`. In the package it is there, and nothing is done.
+//! In the repository: makes `src/proved` of the proved sources, by `scripts/erase`. The package has that folder, and no build script.
 
 use std::env;
 use std::path::Path;
 use std::process::{self, Command};
+
+/// What tells the repository: where one of these is missing, no script beside this folder is run.
+const OF_REPOSITORY: [&str; 4] = ["scripts/erase", "erased/eraser.py", "crates.txt", "crates/utf_base/src/lib.rt"];
 
 /// Ends the build with one sentence.
 fn stop(what: &str) -> ! {
@@ -12,11 +15,9 @@ fn stop(what: &str) -> ! {
 
 fn main() {
     println!("cargo:rerun-if-changed=build.rs");
-    println!("cargo:rustc-check-cfg=cfg(noddychest_narrow)");
     let here = env::var("CARGO_MANIFEST_DIR").unwrap_or_default();
     let (top, made) = (Path::new(&here).join(".."), Path::new(&here).join("src/proved"));
-    let script = top.join("scripts/erase");
-    if !script.is_file() {
+    if !OF_REPOSITORY.iter().all(|it| top.join(it).is_file()) {
         if !made.join("MANIFEST").is_file() {
             stop("src/proved is missing: it is part of the package, and scripts/erase makes it in the repository.");
         }
@@ -26,7 +27,7 @@ fn main() {
         println!("cargo:rerun-if-changed={}", top.join(it).display());
     }
     let python = env::var("PYTHON").unwrap_or_else(|_| "python3".to_string());
-    match Command::new(&python).arg(&script).arg(&made).output() {
+    match Command::new(&python).arg(top.join("scripts/erase")).arg(&made).output() {
         Ok(ran) if ran.status.success() => {}
         Ok(ran) => stop(&format!("scripts/erase failed: {}", String::from_utf8_lossy(&ran.stderr).trim())),
         Err(error) => stop(&format!("`{python}`, which runs scripts/erase, cannot be run: {error}.")),

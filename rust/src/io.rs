@@ -15,6 +15,7 @@
 mod decoding;
 
 use crate::{Fault, Recoder, Status};
+use std::fmt;
 use std::io::{Error, ErrorKind, Read, Result, Write};
 
 pub use decoding::{faults, pieces, Faults, Pieces};
@@ -24,7 +25,6 @@ const BLOCK: usize = 8192;
 const ENOUGH: usize = 16;
 
 /// Bytes of which those from `begin` to `end` are of use.
-#[derive(Debug)]
 struct Block {
     bytes: Box<[u8]>,
     begin: usize,
@@ -38,6 +38,13 @@ impl Block {
 
     fn left(&self) -> &[u8] {
         &self.bytes[self.begin..self.end]
+    }
+}
+
+/// How many bytes are of use, and how many there is room for: not each of them.
+impl fmt::Debug for Block {
+    fn fmt(&self, f: &mut fmt::Formatter<'_>) -> fmt::Result {
+        write!(f, "{}/{}", self.left().len(), self.bytes.len())
     }
 }
 
@@ -106,6 +113,7 @@ impl<R: Read> RecodingReader<R> {
     fn make(&mut self) -> Result<()> {
         if self.part.left().is_empty() && !self.is_full && !self.has_ended {
             let count = self.inner.read(&mut self.part.bytes)?;
+            assert!(count <= self.part.bytes.len(), "the reader says that it read more than there was room for");
             (self.part.begin, self.part.end) = (0, count);
             self.has_ended = count == 0;
         }
@@ -171,7 +179,7 @@ pub struct RecodingWriter<W: Write> {
     /// What was recoded, and from where on it was not written yet.
     made: Block,
     fault: Option<Fault>,
-    /// While the inner writer writes: where that panics, nothing is written once more.
+    /// While the inner writer writes: where that panics, or ends with what cannot be, nothing is written once more.
     is_writing: bool,
 }
 
@@ -234,7 +242,12 @@ impl<W: Write> RecodingWriter<W> {
     fn drain(&mut self) -> Result<()> {
         while let (Some(inner), false) = (&mut self.inner, self.made.left().is_empty()) {
             self.is_writing = true;
-            let written = inner.write(self.made.left());
+            let left = self.made.left();
+            let written = inner.write(left);
+            assert!(
+                written.as_ref().map_or(true, |count| *count <= left.len()),
+                "the writer says that it wrote more than there was"
+            );
             self.is_writing = false;
             match written {
                 Ok(0) => return Err(ErrorKind::WriteZero.into()),

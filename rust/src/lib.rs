@@ -46,7 +46,7 @@
 //!
 //! # Platforms
 //!
-//! It is written for every target of rustc, and was run on Linux on x86-64.
+//! It is written for every target of rustc of 32 or 64 bits, and was run on Linux on x86-64.
 //! On ARM64 the library for C, the programs, the Rust crate's calls for C and the package for Python ran in QEMU alone.
 //!
 //! [`String::from_utf8_lossy`]: https://doc.rust-lang.org/std/string/struct.String.html#method.from_utf8_lossy
@@ -55,6 +55,9 @@
 
 #[cfg(feature = "alloc")]
 extern crate alloc;
+
+#[cfg(target_pointer_width = "16")]
+compile_error!("a target of 16 bits is too small: the code of a character is kept in a `usize`");
 
 #[cfg(all(feature = "trusted", not(target_pointer_width = "64")))]
 compile_error!("the feature `trusted` is for targets of 64 bits: in the proofs a `usize` has 64");

@@ -231,3 +231,51 @@ fn a_dropped_writer_ignores_errors_and_writes_nothing_after_a_panic_of_the_inner
     assert!(told.is_err());
     assert!(panicking.bytes.take().is_empty());
 }
+
+/// Says of each call that it did more than it was asked for.
+#[derive(Debug)]
+struct Boaster;
+
+impl Read for Boaster {
+    fn read(&mut self, room: &mut [u8]) -> Result<usize> {
+        Ok(room.len() + 1)
+    }
+}
+
+impl Write for Boaster {
+    fn write(&mut self, part: &[u8]) -> Result<usize> {
+        Ok(part.len() + 1)
+    }
+
+    fn flush(&mut self) -> Result<()> {
+        Ok(())
+    }
+}
+
+/// One panic says what is wrong. (A second one, of the writer that is dropped while the first goes on, would end the process.)
+#[test]
+fn a_count_that_cannot_be_panics_once() {
+    let mut reader = RecodingReader::new(Boaster, Recoder::new(Form::Utf8, Form::Utf8));
+    for _ in 0..2 {
+        let told = catch_unwind(AssertUnwindSafe(|| reader.read(&mut [0; 4]))).unwrap_err();
+        assert_eq!(told.downcast_ref(), Some(&"the reader says that it read more than there was room for"));
+    }
+    let told = catch_unwind(|| {
+        let mut writer = RecodingWriter::new(Boaster, Recoder::new(Form::Utf8, Form::Utf8));
+        let _ = writer.write(b"a").and_then(|_| writer.flush());
+    });
+    assert_eq!(told.unwrap_err().downcast_ref(), Some(&"the writer says that it wrote more than there was"));
+}
+
+/// `{:?}` says how much is held, and does not list it.
+#[test]
+fn what_is_shown_is_short() {
+    let reader = format!("{:?}", RecodingReader::new(Boaster, Recoder::new(Form::Utf8, Form::Utf8)));
+    assert!(reader.len() < 500 && reader.contains("part: 0/8192"), "{reader}");
+    let writer = format!("{:?}", RecodingWriter::new(Vec::new(), Recoder::new(Form::Utf8, Form::Utf8)));
+    assert!(writer.len() < 500 && writer.contains("made: 0/8192"), "{writer}");
+    let mut pieces = noddychest::io::pieces(&b"abc"[..], Form::Utf8);
+    assert!(pieces.next().is_some());
+    let pieces = format!("{pieces:?}");
+    assert!(pieces.len() < 300 && pieces.contains("gathered: 2"), "{pieces}");
+}

@@ -1,5 +1,6 @@
 //! What the types are, and what they show.
 
+use noddychest::encode_unicode::{error, iterator, Utf8Char};
 use noddychest::{io, units, Decoder, Fault, FaultKind, Faults, Form, Piece, Pieces, Progress, Recoder, Status};
 use std::collections::HashSet;
 use std::error::Error;
@@ -37,6 +38,14 @@ fn types_have_their_traits() {
     goes_on::<units::Faults<'static>>();
     ends::<io::Pieces<&[u8]>>();
     ends::<io::Faults<&[u8]>>();
+    ends::<iterator::Utf8CharDecoder<'static>>();
+    ends::<iterator::Utf16CharDecoder<'static>>();
+    ends::<iterator::Utf8CharIndices<'static>>();
+    ends::<iterator::Utf8Chars<'static>>();
+    ends::<iterator::Utf16CharIndices<'static>>();
+    ends::<iterator::Utf16Chars<'static>>();
+    ends::<iterator::Utf8Iterator>();
+    ends::<iterator::Utf16Iterator>();
     is_error::<Fault>();
     is_error::<Fault<u64>>();
     is_error::<noddychest::UnknownForm>();
@@ -44,6 +53,25 @@ fn types_have_their_traits() {
     is_sent::<io::RecodingWriter<Vec<u8>>>();
     is_sent::<io::Pieces<std::io::BufReader<std::io::Stdin>>>();
     is_sent::<io::Faults<std::io::BufReader<std::fs::File>>>();
+}
+
+/// Asked as any error, it has the text that it has of its own.
+#[test]
+#[allow(deprecated)]
+fn errors_describe_themselves() {
+    let errors: [(&dyn Error, &str); 7] = [
+        (&error::EmptyStrError, error::EmptyStrError.description()),
+        (&error::NonAsciiError, "not an ASCII character"),
+        (&error::NonBmpError, error::NonBmpError.description()),
+        (&error::FromStrError::Empty, "is empty"),
+        (&error::CodepointError::TooHigh, "is higher than the highest codepoint"),
+        (&error::Utf16PairError::Incomplete, error::Utf16PairError::Incomplete.description()),
+        (&Utf8Char::from_slice_start(b"").unwrap_err(), "too few bytes"),
+    ];
+    for (error, text) in errors {
+        assert_eq!(error.description(), text);
+        assert_eq!(error.to_string(), text);
+    }
 }
 
 #[test]

@@ -1,10 +1,11 @@
 //! Methods of iterators, slices and text.
 use super::adapters::{Utf16CharMerger, Utf16CharSplitter, Utf8CharMerger, Utf8CharSplitter};
 use crate::proved::encode_unicode::iterator::{
-    Utf16CharDecoder, Utf16CharIndices, Utf16Chars, Utf8CharDecoder, Utf8CharIndices, Utf8Chars,
+    Utf16CharDecoder, Utf16CharIndices, Utf16Chars, Utf16Iterator, Utf8CharDecoder, Utf8CharIndices, Utf8Chars, Utf8Iterator,
 };
 use crate::proved::encode_unicode::{Utf16Char, Utf8Char};
 use core::borrow::Borrow;
+use core::iter::FusedIterator;
 use core::ops::{Index, RangeFull};
 
 /// Methods of iterators that convert between bytes, units and characters.
@@ -183,3 +184,12 @@ impl StrExt for str {
         Utf16CharIndices::from(self)
     }
 }
+
+// What goes over a slice, a text or a character ends where nothing is left of it.
+macro_rules! fused {
+    ($($kind:ty),*) => { $(
+        impl FusedIterator for $kind {}
+    )* };
+}
+fused!(Utf8CharDecoder<'_>, Utf16CharDecoder<'_>, Utf8CharIndices<'_>, Utf8Chars<'_>, Utf16CharIndices<'_>, Utf16Chars<'_>);
+fused!(Utf8Iterator, Utf16Iterator);

@@ -1,6 +1,7 @@
 //! The pieces of what a reader gives.
 
 use crate::{Decoder, Fault, Form, Piece, Progress};
+use std::fmt;
 use std::io::{BufRead, ErrorKind, Result};
 use std::iter::FusedIterator;
 
@@ -43,7 +44,6 @@ pub fn faults<R: BufRead>(reader: R, form: Form) -> Faults<R> {
 }
 
 /// A reader, and the pieces that were gathered of it and not given yet.
-#[derive(Debug)]
 struct Source<R> {
     reader: R,
     decoder: Decoder,
@@ -51,6 +51,15 @@ struct Source<R> {
     begin: usize,
     end: usize,
     has_ended: bool,
+}
+
+/// The reader and the decoder, and how many pieces were gathered: not each of them.
+impl<R: fmt::Debug> fmt::Debug for Source<R> {
+    fn fmt(&self, f: &mut fmt::Formatter<'_>) -> fmt::Result {
+        let mut shown = f.debug_struct("Source");
+        shown.field("reader", &self.reader).field("decoder", &self.decoder).field("gathered", &(self.end - self.begin));
+        shown.field("has_ended", &self.has_ended).finish()
+    }
 }
 
 impl<R> Source<R> {

@@ -2,7 +2,7 @@
 //! it (x86-64-v3), the one that is compiled for that. Compiled with `--cfg noddychest_narrow`, there is one copy alone, for tests of it.
 
 /// Whether the processor has what the copy for x86-64-v3 takes: it is asked once.
-#[cfg(all(target_arch = "x86_64", feature = "std", not(noddychest_narrow)))]
+#[cfg(all(target_arch = "x86_64", target_feature = "sse2", feature = "std", not(noddychest_narrow)))]
 #[inline(always)]
 pub(crate) fn is_wide() -> bool {
     use core::sync::atomic::{AtomicU8, Ordering};
@@ -25,7 +25,7 @@ pub(crate) fn is_wide() -> bool {
     }
 }
 
-#[cfg(not(all(target_arch = "x86_64", feature = "std", not(noddychest_narrow))))]
+#[cfg(not(all(target_arch = "x86_64", target_feature = "sse2", feature = "std", not(noddychest_narrow))))]
 pub(crate) fn is_wide() -> bool {
     false
 }
@@ -36,7 +36,7 @@ pub(crate) const LONG: usize = 64;
 /// Where the input is long and the processor has it, the function that this stands in answers what the copy of it for x86-64-v3 does.
 macro_rules! wide {
     ($len:expr, $answer:expr) => {
-        #[cfg(all(target_arch = "x86_64", feature = "std", not(noddychest_narrow)))]
+        #[cfg(all(target_arch = "x86_64", target_feature = "sse2", feature = "std", not(noddychest_narrow)))]
         {
             if crate::support::processor::LONG <= $len && crate::support::processor::is_wide() {
                 return $answer;
@@ -47,14 +47,14 @@ macro_rules! wide {
 pub(crate) use wide;
 
 /// A call of what is compiled for that processor.
-#[cfg(all(target_arch = "x86_64", feature = "std", not(noddychest_narrow)))]
+#[cfg(all(target_arch = "x86_64", target_feature = "sse2", feature = "std", not(noddychest_narrow)))]
 macro_rules! apart {
     ($call:expr) => {
         // SAFETY: only the copy for that processor has such calls, and who comes into it has asked.
         unsafe { $call }
     };
 }
-#[cfg(all(target_arch = "x86_64", feature = "std", not(noddychest_narrow)))]
+#[cfg(all(target_arch = "x86_64", target_feature = "sse2", feature = "std", not(noddychest_narrow)))]
 pub(crate) use apart;
 
 /// Whether the library for C runs on this processor: always.

@@ -1,8 +1,9 @@
 //! Vectors of lanes, as Rattle's `std::simd` has them, on stable Rust.
 //!
-//! A vector is an array, and a call goes over it by blocks of sixteen bytes: through the vectors of the processor, where it has those that
-//! are needed, and else lane by lane. The calls that the proofs ask for are those of Rattle's std, at the conditions that are asserted here
-//! in debug: all lanes are shifted by the same number, and a place of sixteen is below 16 or from 128 on.
+//! A vector is an array, and a call goes over it by blocks of sixteen bytes: through the vectors of the processor, where the target has those
+//! that are needed, and else lane by lane, as in kernels, which are compiled for no registers of vectors. The calls that the proofs ask for
+//! are those of Rattle's std, at the conditions that are asserted here in debug: all lanes are shifted by the same number, and a place of
+//! sixteen is below 16 or from 128 on.
 //!
 //! On x86-64 there is a second set of these types, in `wide`, whose calls go by thirty-two bytes where a vector has as many: for the copy
 //! of the proved text that runs where the processor has AVX2.
@@ -10,7 +11,10 @@
 use core::ops::{Add, BitAnd, BitOr, BitXor, Shl, Shr};
 
 // Calls of two blocks, of which each is one instruction: for the modules below.
-#[cfg(any(target_arch = "x86_64", all(target_arch = "aarch64", target_endian = "little")))]
+#[cfg(any(
+    all(target_arch = "x86_64", target_feature = "sse2"),
+    all(target_arch = "aarch64", target_feature = "neon", target_endian = "little")
+))]
 macro_rules! instructions {
     ($($name:ident = $by:ident;)*) => { $(
         #[inline(always)]
@@ -22,7 +26,7 @@ macro_rules! instructions {
 }
 
 // The other calls, at either width of x86-64: by these instructions.
-#[cfg(target_arch = "x86_64")]
+#[cfg(all(target_arch = "x86_64", target_feature = "sse2"))]
 macro_rules! others_of_x86 {
     ($and:ident, $and_not:ident, $or:ident, $high_bits:ident, $splat:ident, $left:ident, $right:ident) => {
         #[inline(always)]
@@ -63,43 +67,43 @@ macro_rules! others_of_x86 {
     };
 }
 
-#[cfg(target_arch = "x86_64")]
+#[cfg(all(target_arch = "x86_64", target_feature = "sse2"))]
 mod avx2;
 #[cfg(any(
     test,
-    all(target_arch = "x86_64", not(target_feature = "ssse3")),
+    all(target_arch = "x86_64", target_feature = "sse2", not(target_feature = "ssse3")),
     not(any(
-        target_arch = "x86_64",
-        all(target_arch = "aarch64", target_endian = "little"),
+        all(target_arch = "x86_64", target_feature = "sse2"),
+        all(target_arch = "aarch64", target_feature = "neon", target_endian = "little"),
         all(target_arch = "wasm32", target_feature = "simd128")
     ))
 ))]
 mod lane_by_lane;
-#[cfg(all(target_arch = "aarch64", target_endian = "little"))]
+#[cfg(all(target_arch = "aarch64", target_feature = "neon", target_endian = "little"))]
 mod neon;
 #[cfg(all(target_arch = "wasm32", target_feature = "simd128"))]
 mod simd128;
-#[cfg(target_arch = "x86_64")]
+#[cfg(all(target_arch = "x86_64", target_feature = "sse2"))]
 mod sse2;
 #[cfg(test)]
 mod tests;
 
 #[cfg(not(any(
-    target_arch = "x86_64",
-    all(target_arch = "aarch64", target_endian = "little"),
+    all(target_arch = "x86_64", target_feature = "sse2"),
+    all(target_arch = "aarch64", target_feature = "neon", target_endian = "little"),
     all(target_arch = "wasm32", target_feature = "simd128")
 )))]
 use lane_by_lane as by;
-#[cfg(all(target_arch = "aarch64", target_endian = "little"))]
+#[cfg(all(target_arch = "aarch64", target_feature = "neon", target_endian = "little"))]
 use neon as by;
 #[cfg(all(target_arch = "wasm32", target_feature = "simd128"))]
 use simd128 as by;
-#[cfg(target_arch = "x86_64")]
+#[cfg(all(target_arch = "x86_64", target_feature = "sse2"))]
 use sse2 as by;
 // Elsewhere nothing is of the second set, and what it would go by is only named.
-#[cfg(target_arch = "x86_64")]
+#[cfg(all(target_arch = "x86_64", target_feature = "sse2"))]
 use avx2 as by_32;
-#[cfg(not(target_arch = "x86_64"))]
+#[cfg(not(all(target_arch = "x86_64", target_feature = "sse2")))]
 use by as by_32;
 
 macro_rules! names {
@@ -438,7 +442,7 @@ impl<const N: usize, const BY_32: bool> Simd<u8, N, BY_32> {
     // What sixteen bytes have at sixteen places.
     #[inline(always)]
     fn at(a: Block, places: Block) -> Block {
-        #[cfg(target_arch = "x86_64")]
+        #[cfg(all(target_arch = "x86_64", target_feature = "sse2"))]
         if BY_32 {
             return by_32::at_16(a, places);
         }
@@ -455,7 +459,7 @@ impl<const N: usize, const BY_32: bool> Simd<u8, N, BY_32> {
             }
             return out;
         }
-        #[cfg(target_arch = "x86_64")]
+        #[cfg(all(target_arch = "x86_64", target_feature = "sse2"))]
         if BY_32 && Rows::<M, N, P>::WITHIN {
             let [first, second] = Rows::<M, N, P>::BOTH_32.map(|rows| Simd::<[u8; 16], 2, true>(rows).block_32(0));
             out.put_32(0, by_32::or(by_32::at(self.block_32(0), first), by_32::at(other.block_32(0), second)));

@@ -1,5 +1,5 @@
-//! Sixteen bytes at a time on x86-64, whose every processor has SSE2. One call needs SSSE3, which those since 2006 have: where this is
-//! not compiled for it, std asks the processor; without std that call goes lane by lane.
+//! Sixteen bytes at a time on x86-64, whose every processor has SSE2, where the target uses it. One call needs SSSE3, which those since
+//! 2006 have: where this is not compiled for it, std asks the processor; without std that call goes lane by lane.
 //!
 //! Each `unsafe` here calls an instruction that the processor has.
 use core::arch::x86_64::*;

@@ -63,7 +63,7 @@ fn all_places() {
             let x = some(&mut seed);
             let places = core::array::from_fn(|k| if k == lane { place } else { k as u8 });
             assert_eq!(bytes_of(by::at(block_of(&x), block_of(&places))), lane_by_lane::at(x, places));
-            #[cfg(target_arch = "x86_64")]
+            #[cfg(all(target_arch = "x86_64", target_feature = "sse2"))]
             assert_eq!(bytes_of(by::at_one_by_one(block_of(&x), block_of(&places))), lane_by_lane::at(x, places));
         }
     }
@@ -84,7 +84,7 @@ fn all_shifts() {
 }
 
 /// The second set of vectors beside the first, on each call and width that the proved text takes.
-#[cfg(all(target_arch = "x86_64", feature = "std", not(noddychest_narrow)))]
+#[cfg(all(target_arch = "x86_64", target_feature = "sse2", feature = "std", not(noddychest_narrow)))]
 mod both_sets {
     use super::super::{Places, Simd};
     use super::some;
