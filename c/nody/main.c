@@ -50,8 +50,24 @@ static int takers_of(int option) {
 
 static struct output out;
 
+/* Says on standard error what is wrong with something. */
 void complain(const char *name, const char *why) {
-    fprintf(stderr, "nody: %s: %s\n", name, why);
+    hide_progress();
+    put_text(&err, "nody: ");
+    put_name(&err, name);
+    put_text(&err, ": ");
+    put_text(&err, why);
+    put_byte(&err, '\n');
+    flush_output(&err);
+}
+
+static void complain_of_value(const char *option, const char *value) {
+    put_text(&err, "nody: --");
+    put_text(&err, option);
+    put_text(&err, " does not take '");
+    put_name(&err, value);
+    put_text(&err, "'\n");
+    flush_output(&err);
 }
 
 /* What kept a run from its end. A closed pipe is not told of: nobody reads there. */
@@ -118,7 +134,10 @@ static bool takes_value(struct request *request, int option, const char *value) 
         if (!is_number(value, 1, &number)) return false;
         request->jobs = number < 1000 ? (size_t)number : 1000;
         return true;
-    default: request->into = value; return true;
+    default:
+        request->file = descriptor_of(value);
+        request->into = request->file < 0 ? value : NULL;
+        return true;
     }
 }
 
@@ -151,7 +170,7 @@ static bool takes_options(struct request *request, int which, int argc, char **a
         }
         if (!optarg) take_flag(request, option);
         else if (!takes_value(request, option, optarg)) {
-            fprintf(stderr, "nody: --%s does not take '%s'\n", name_of_option(option), optarg);
+            complain_of_value(name_of_option(option), optarg);
             return false;
         }
     }
@@ -164,7 +183,7 @@ static const char *wrong_with(const struct request *request, int bit, int count,
     for (int i = 0; i < count; i++) has_input |= strcmp(files[i], "-") == 0;
     if (bit == AT && count != 2) return "at takes a FILE and an OFFSET";
     if (request->is_followed && count > 1) return "--follow takes one FILE";
-    if (request->is_in_place && request->into) return "--in-place and -o do not go together";
+    if (request->is_in_place && (request->into || request->file >= 0)) return "--in-place and -o do not go together";
     if (request->is_in_place && (count == 0 || has_input)) return "--in-place takes files";
     if (bit == RECODE && !request->is_in_place && count > 1) return "recode takes one FILE, and more with --in-place";
     return NULL;
@@ -229,16 +248,10 @@ static void open_streams(void) {
 }
 
 static void set_signals(bool is_followed) {
-    struct sigaction action;
+    static const int numbers[] = {SIGINT, SIGTERM};
     signal(SIGPIPE, SIG_IGN);
     signal(SIGXFSZ, SIG_IGN);
-    memset(&action, 0, sizeof action);
-    sigemptyset(&action.sa_mask);
-    action.sa_handler = end_followed;
-    if (is_followed) {
-        sigaction(SIGINT, &action, NULL);
-        sigaction(SIGTERM, &action, NULL);
-    }
+    if (is_followed) on_signals(numbers, sizeof numbers / sizeof *numbers, end_followed);
 }
 
 static int show_alone(const char *word) {
@@ -259,9 +272,14 @@ static bool takes_words(struct request *request, int which, int argc, char **arg
 }
 
 int main(int argc, char **argv) {
-    struct request request = {NODY_FORM_UTF8, NODY_FORM_UTF8, false, REPLACE, false, false, false, false, UINT64_MAX, 0, NULL};
+    struct request request = {NODY_FORM_UTF8, NODY_FORM_UTF8, false, REPLACE, false, false, false, false, UINT64_MAX, 0, NULL, -1};
     const char *word = argc > 1 ? argv[1] : "";
     open_streams();
+    if (!nody_supported() || !open_output(&err, STDERR_FILENO)) {
+        fputs(nody_supported() ? "nody: there is no memory\n" : "nody: this processor lacks x86-64-v2\n", stderr);
+        return HAS_FAILED;
+    }
+    err.is_shown = false; /* (who writes there takes the bar away first) */
     if (strcmp(word, "--version") == 0 || strcmp(word, "--help") == 0 || strcmp(word, "-h") == 0) return show_alone(word);
     int which = number_of_command(word);
     if (which < 0) {
@@ -269,13 +287,14 @@ int main(int argc, char **argv) {
         return IS_WRONG;
     }
     if (!takes_words(&request, which, argc, argv)) return IS_WRONG;
-    if (!nody_supported() || !open_output(&out, STDOUT_FILENO)) {
-        fputs(nody_supported() ? "nody: there is no memory\n" : "nody: this processor lacks x86-64-v2\n", stderr);
+    if (!open_output(&out, request.file < 0 ? STDOUT_FILENO : request.file)) {
+        fputs("nody: there is no memory\n", stderr);
         return HAS_FAILED;
     }
     if (commands[which].bit & (LIST | AT)) request.jobs = 1;
     set_signals(request.is_followed);
     enum status status = run_all(&request, which, argc - optind, argv + optind);
     close_output(&out);
+    close_output(&err);
     return (int)status;
 }
