@@ -39,12 +39,13 @@ static const struct option options[] = {
 /* The commands that take an option. */
 static int takers_of(int option) {
     switch (option) {
-    case 'f': case 'h': return CHECK | LIST | COUNT | AT | RECODE;
+    case 'f': case 'h': case 'V': return CHECK | LIST | COUNT | AT | RECODE;
     case 'q': return CHECK | LIST | COUNT | RECODE;
     case 'J': return CHECK | LIST | COUNT | AT;
     case 'j': return CHECK | COUNT | RECODE;
     case 'm': case 'F': return CHECK;
-    default: return RECODE;
+    case 't': case 'e': case 'o': case 'i': return RECODE;
+    default: return 0;
     }
 }
 
@@ -94,6 +95,11 @@ static void show_help(int which) {
          "also bom: what the byte order mark says, and UTF-8 where there is none. man nody has more.");
 }
 
+static void show_version(void) {
+    uint32_t version = nody_version();
+    printf("nody %u.%u.%u\n", version / 1000000, version / 1000 % 1000, version % 1000);
+}
+
 static int number_of_command(const char *name) {
     for (int i = 0; i < COMMANDS; i++)
         if (strcmp(commands[i].name, name) == 0) return i;
@@ -134,10 +140,11 @@ static bool takes_value(struct request *request, int option, const char *value) 
         if (!is_number(value, 1, &number)) return false;
         request->jobs = number < 1000 ? (size_t)number : 1000;
         return true;
-    default:
+    case 'o':
         request->file = descriptor_of(value);
         request->into = request->file < 0 ? value : NULL;
         return true;
+    default: return false;
     }
 }
 
@@ -146,7 +153,7 @@ static void take_flag(struct request *request, int option) {
     case 'q': request->is_quiet = true; break;
     case 'J': request->is_json = true; break;
     case 'F': request->is_followed = true; break;
-    default: request->is_in_place = true; break;
+    case 'i': request->is_in_place = true; break;
     }
 }
 
@@ -164,10 +171,9 @@ static bool takes_options(struct request *request, int which, int argc, char **a
             fprintf(stderr, "nody: %s does not take --%s\n", commands[which].name, name_of_option(option));
             return false;
         }
-        if (option == 'h') {
-            show_help(which);
-            exit(fflush(stdout) == 0 ? IS_VALID : HAS_FAILED);
-        }
+        if (option == 'h') show_help(which);
+        if (option == 'V') show_version();
+        if (option == 'h' || option == 'V') exit(fflush(stdout) == 0 ? IS_VALID : HAS_FAILED);
         if (!optarg) take_flag(request, option);
         else if (!takes_value(request, option, optarg)) {
             complain_of_value(name_of_option(option), optarg);
@@ -255,8 +261,7 @@ static void set_signals(bool is_followed) {
 }
 
 static int show_alone(const char *word) {
-    uint32_t version = nody_version();
-    if (strcmp(word, "--version") == 0) printf("nody %u.%u.%u\n", version / 1000000, version / 1000 % 1000, version % 1000);
+    if (strcmp(word, "--version") == 0) show_version();
     else show_help(-1);
     return fflush(stdout) == 0 ? IS_VALID : HAS_FAILED;
 }

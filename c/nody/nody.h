@@ -64,6 +64,7 @@ struct output {
 /* Standard error, where messages go. */
 extern struct output err;
 
+bool has_waited(int file, short event);
 bool open_output(struct output *out, int file);
 bool flush_output(struct output *out);
 void close_output(struct output *out);

@@ -365,7 +365,11 @@ def check_words(program, name):
         says([program, "at", name, "--", offset], 2, b"", b"an OFFSET is a number")
     says([program, "at", name, "6"], 2, b"", b"it ends before this offset")
     says([program, "at", name, "18446744073709551615"], 2, b"", b"it ends before this offset")
-    expect(re.fullmatch(rb"nody \d+\.\d+\.\d+\n", run([program, "--version"])[1]), "--version")
+    version, had = run([program, "--version"])[1], contents(name)
+    expect(re.fullmatch(rb"nody \d+\.\d+\.\d+\n", version), "--version")
+    for command in ("check", "list", "count", "at", "recode"):
+        says([program, command, name, "--version"], 0, version, b"")
+    expect(contents(name) == had, "a file that is named beside --version")
     expect(run([program, "--help"])[1].count(b"usage: nody ") == 5 and run([program, "at", "--help"])[1].count(b"usage: nody ") == 1, "--help")
 
 
@@ -723,6 +727,37 @@ def check_follow_input(folder, program):
     ran.communicate(timeout=10)
 
 
+def check_unblocked(program):
+    """Pipes that somebody made ones that do not block, as the shells of some programs do: what is not ready is waited for."""
+    data = b"caf\xc3\xa9 text\n" * 20000
+    source, sink = os.pipe(), os.pipe()
+    for it in (*source, *sink):
+        os.set_blocking(it, False)
+    ran = subprocess.Popen([program, "recode", "--to", "utf-16le"], stdin=source[0], stdout=sink[1], stderr=subprocess.PIPE)
+    os.close(source[0])
+    os.close(sink[1])
+    got, left, end = b"", data, time.time() + 60
+    while time.time() < end:
+        if left:
+            try:
+                left = left[os.write(source[1], left[:30000]):]
+            except (BlockingIOError, BrokenPipeError):
+                pass
+            if not left:
+                os.close(source[1])
+        time.sleep(0.001)
+        try:
+            part = os.read(sink[0], 1 << 16)
+        except BlockingIOError:
+            continue
+        if not part:
+            break
+        got += part
+    os.close(sink[0])
+    said = ran.communicate(timeout=10)[1]
+    expect((ran.returncode, said) == (0, b"") and got == data.decode().encode("utf-16-le"), f"pipes that do not block: {ran.returncode} {said} {len(got)}")
+
+
 def check_slow(program):
     """From a pipe each invalid byte is told of at once."""
     ran = subprocess.Popen([program, "check"], stdin=subprocess.PIPE, stdout=subprocess.PIPE)
@@ -849,6 +884,7 @@ def main():
             check_passed_over(folder, built)
             check_follow_input(folder, built)
             check_slow(built)
+            check_unblocked(built)
             check_progress(built)
             check_progress_of_file(folder, built)
             check_far(folder, built)
