@@ -5,7 +5,8 @@
 #   make check-python  installs the package for Python into a folder that goes away again, and tests it there
 #   make wheel       makes wheels of it in build/wheels, for Linux on both processors and for Windows, as far as compilers are there
 #   make install     puts it below PREFIX, which has to be given, as PREFIX=/usr/local, in DESTDIR where that is given, with the man
-#                    pages of the programs, which are nody-pieces, nody-recode and nody there, and says what it wrote
+#                    pages of the programs, which are nody-pieces, nody-recode and nody there, and says what it wrote.
+#                    CC, CPPFLAGS, CFLAGS and LDFLAGS that it is not told are those of the last make
 #   make uninstall   takes it away again, for the same PREFIX and DESTDIR
 #   make dist        packs the sources, and what make builds of them, in build/dist
 #   make dist-windows
@@ -30,6 +31,16 @@
 # has to answer there, 16 or 32.
 
 BUILD ?= build
+# `make install` takes what was built: the compiler and the flags that it is not told are those of the last make.
+ifneq ($(filter install,$(MAKECMDGOALS)),)
+LAST = $(shell sed -n $(1)p "$(BUILD)/target" 2>/dev/null)
+ifeq ($(origin CC),default)
+CC := $(or $(call LAST,2),$(CC))
+endif
+CPPFLAGS ?= $(call LAST,3)
+CFLAGS ?= $(or $(call LAST,4),-O2)
+LDFLAGS ?= $(call LAST,5)
+endif
 CFLAGS ?= -O2
 AR = `$(CC) $(CFLAGS) -print-prog-name=ar`
 unexport CDPATH
@@ -65,6 +76,9 @@ PROTECTED =
 DYNAMIC = $(IN)/libnoddychest.1.dylib
 endif
 
+# A text as one word of the shell, whatever it has.
+QUOTED = '$(subst ','\'',$(1))'
+
 all: $(IN)/libnoddychest.a $(DYNAMIC) $(IN)/pieces$(EXE) $(IN)/recode$(EXE) $(NODY)
 
 # The processor, and with what all is compiled: another compiler, or other flags, make all anew.
@@ -76,7 +90,7 @@ $(IN)/target: always
 	if [ ! -e "generated/pieces-$$processor$(SYSTEM).s" ]; then \
 		echo "make: $(CC) $(CFLAGS) compiles for another processor: generated/ has x86_64 and aarch64, each with 64 bits" >&2; exit 1; \
 	fi; \
-	printf '%s\n' "$$processor" "$(CC)" "$(CPPFLAGS)" "$(CFLAGS)" "$(LDFLAGS)" >"$@.new"; \
+	printf '%s\n' "$$processor" $(call QUOTED,$(CC)) $(call QUOTED,$(CPPFLAGS)) $(call QUOTED,$(CFLAGS)) $(call QUOTED,$(LDFLAGS)) >"$@.new"; \
 	if cmp -s "$@.new" "$@"; then rm "$@.new"; else mv "$@.new" "$@"; fi
 
 always:

@@ -15,8 +15,8 @@
 //     words        name, sentence
 //     library      supported, version
 //
-// BYTES. Text in bytes is taken as nody::bytes, which is made of a std::string_view, a std::string, a literal, and in C++20 of a
-// std::u8string_view and a std::span of std::byte, of char or of unsigned char. Like a view it holds nothing: what it shows has to live as
+// BYTES. Text in bytes is taken as nody::bytes, which is made of a std::string_view, a std::string or std::pmr::string, a literal, and in
+// C++20 of a std::u8string, a std::u8string_view and a std::span of std::byte, of char or of unsigned char. Like a view it holds nothing: what it shows has to live as
 // long as it is used.
 //
 // ERRORS. What is invalid is no exception: it is told by std::optional and by enums. Calls that make a std::string throw what that
@@ -135,6 +135,8 @@ public:
     constexpr bytes(const std::uint8_t *data, std::size_t size) noexcept : data_(data), size_(size) {}
     bytes(std::string_view text) noexcept : bytes(text.data(), text.size()) {}
     bytes(const std::string &text) noexcept : bytes(text.data(), text.size()) {}
+    template <class Char, class Allocator, class = std::enable_if_t<sizeof(Char) == 1>>
+    bytes(const std::basic_string<Char, std::char_traits<Char>, Allocator> &text) noexcept : data_(reinterpret_cast<const std::uint8_t *>(text.data())), size_(text.size()) {}
     bytes(const char *text) noexcept : bytes(std::string_view(text)) {}
     bytes(const char *data, std::size_t size) noexcept : data_(reinterpret_cast<const std::uint8_t *>(data)), size_(size) {}
     bytes(const std::byte *data, std::size_t size) noexcept : data_(reinterpret_cast<const std::uint8_t *>(data)), size_(size) {}
@@ -254,8 +256,10 @@ private:
     typename Code::view text_;
 };
 
-// Calls that would keep a view of a temporary string are refused.
-template <class Text, class String> using if_temporary = std::enable_if_t<std::is_same_v<std::remove_const_t<Text>, String>>;
+// Calls that would keep a view of a temporary string are refused, of whatever letters and memory it is.
+template <class Text> struct is_string : std::false_type {};
+template <class Char, class Traits, class Allocator> struct is_string<std::basic_string<Char, Traits, Allocator>> : std::true_type {};
+template <class Text> using if_temporary = std::enable_if_t<is_string<std::remove_const_t<Text>>::value>;
 
 } // namespace detail
 
@@ -269,14 +273,12 @@ template <class Text, class String> using if_temporary = std::enable_if_t<std::i
 // A temporary string is refused: the range has only a view of it.
 inline detail::range<detail::utf8, detail::way::front> pieces(std::string_view text) noexcept { return detail::range<detail::utf8, detail::way::front>(text); }
 inline detail::range<detail::utf16, detail::way::front> pieces(std::u16string_view text) noexcept { return detail::range<detail::utf16, detail::way::front>(text); }
-template <class Text, class = detail::if_temporary<Text, std::string>> void pieces(Text &&) = delete;
-template <class Text, class = detail::if_temporary<Text, std::u16string>, class = void> void pieces(Text &&) = delete;
+template <class Text, class = detail::if_temporary<Text>> void pieces(Text &&) = delete;
 
 // The same pieces from the back. Where a fault lies is the same; its kind is judged without the bytes after it.
 inline detail::range<detail::utf8, detail::way::back> pieces_back(std::string_view text) noexcept { return detail::range<detail::utf8, detail::way::back>(text); }
 inline detail::range<detail::utf16, detail::way::back> pieces_back(std::u16string_view text) noexcept { return detail::range<detail::utf16, detail::way::back>(text); }
-template <class Text, class = detail::if_temporary<Text, std::string>> void pieces_back(Text &&) = delete;
-template <class Text, class = detail::if_temporary<Text, std::u16string>, class = void> void pieces_back(Text &&) = delete;
+template <class Text, class = detail::if_temporary<Text>> void pieces_back(Text &&) = delete;
 
 // The faults alone, from the front: the pieces that are no characters, with the same offsets and kinds. Text between them is passed as fast
 // as it is validated, and no further than to the fault that is asked for.
@@ -285,8 +287,7 @@ template <class Text, class = detail::if_temporary<Text, std::u16string>, class 
 //     for (const nody::piece &it : nody::faults(text)) report(it.offset, nody::sentence(it.kind));
 inline detail::range<detail::utf8, detail::way::faults> faults(std::string_view text) noexcept { return detail::range<detail::utf8, detail::way::faults>(text); }
 inline detail::range<detail::utf16, detail::way::faults> faults(std::u16string_view text) noexcept { return detail::range<detail::utf16, detail::way::faults>(text); }
-template <class Text, class = detail::if_temporary<Text, std::string>> void faults(Text &&) = delete;
-template <class Text, class = detail::if_temporary<Text, std::u16string>, class = void> void faults(Text &&) = delete;
+template <class Text, class = detail::if_temporary<Text>> void faults(Text &&) = delete;
 
 // ---- Whether text is valid
 
@@ -754,7 +755,7 @@ private:
 // A part is read as its range is gone through, once: a range that nobody goes through reads nothing. At each piece the decoder stands after
 // it: offset() is that of the next piece, and copy() goes on from there. So a loop may be left, by an exception too: what was not read is
 // the range's rest(). If the decoder is fed inside of such a loop, those bytes come after the piece at hand, and the rest of the part after
-// them. Decoder and part have to live as long as the range: with a decoder or a std::string that is a temporary it does not compile, and of
+// them. Decoder and part have to live as long as the range: with a decoder or a string that is a temporary it does not compile, and of
 // a range that is dropped compilers warn.
 //
 // The kinds are those of pieces() of the whole but in one case, which noddychest.h tells at nody_decoder_feed.
@@ -790,12 +791,12 @@ public:
     // A range over the pieces of the next part, and at the end of the input one over those of the bytes that are held, which are faults.
     [[nodiscard]] detail::located_range<detail::way::front> feed(bytes part) & noexcept { return {&it_, part, false}; }
     [[nodiscard]] detail::located_range<detail::way::front> finish() & noexcept { return {&it_, {}, true}; }
-    template <class Text, class = detail::if_temporary<Text, std::string>> void feed(Text &&) & = delete;
+    template <class Text, class = detail::if_temporary<Text>> void feed(Text &&) & = delete;
 
     // The same ranges without the characters. Text between faults is passed as fast as it is validated. You may mix both.
     [[nodiscard]] detail::located_range<detail::way::faults> feed_faults(bytes part) & noexcept { return {&it_, part, false}; }
     [[nodiscard]] detail::located_range<detail::way::faults> finish_faults() & noexcept { return {&it_, {}, true}; }
-    template <class Text, class = detail::if_temporary<Text, std::string>> void feed_faults(Text &&) & = delete;
+    template <class Text, class = detail::if_temporary<Text>> void feed_faults(Text &&) & = delete;
 
     // Into a room: where it is full, empty it, and feed the rest of the part, even if nothing is left of it. Places after the pieces that
     // were written keep what they had.

@@ -67,7 +67,7 @@ void put_found(struct run *run, struct output *out, const struct block *block, c
         put_found_json(out, run->source.name, &place, block->at + found->at, &found->piece);
         return;
     }
-    put_text(out, run->source.name);
+    put_name(out, run->source.name);
     put_member(out, ":", place.lines + 1);
     put_member(out, ":", place.columns + 1);
     put_member(out, ": offset ", block->at + found->at);
@@ -96,7 +96,7 @@ static void put_summary_json(struct run *run) {
 }
 
 static void put_summary(struct run *run) {
-    put_text(run->out, run->source.name);
+    put_name(run->out, run->source.name);
     put_text(run->out, run->invalid ? ": not valid " : ": valid ");
     put_text(run->out, name_of_form(run->source.form));
     if (run->invalid) {

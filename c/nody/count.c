@@ -34,7 +34,7 @@ static void put_member(struct output *out, const char *before, uint64_t number, 
 
 static void put_counts(struct run *run) {
     struct output *out = run->out;
-    put_text(out, run->source.name);
+    put_name(out, run->source.name);
     put_member(out, ": ", run->bytes, run->bytes == 1 ? " byte" : " bytes");
     put_member(out, ", ", run->characters, run->characters == 1 ? " character" : " characters");
     put_member(out, ", ", run->place.lines, run->place.lines == 1 ? " line, " : " lines, ");

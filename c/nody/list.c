@@ -4,12 +4,6 @@
 #include <string.h>
 #include <unistd.h>
 
-/* Whether a character can be shown on a line of its own: no control, no mark of direction, no other end of a line. */
-static bool is_shown(uint32_t scalar) {
-    if (scalar < 0x20 || (scalar >= 0x7F && scalar < 0xA0) || scalar == 0xFEFF || scalar == 0x061C) return false;
-    return !((scalar >= 0x200B && scalar <= 0x200F) || (scalar >= 0x2028 && scalar <= 0x202E) || (scalar >= 0x2060 && scalar <= 0x206F));
-}
-
 static void put_character(struct output *out, uint32_t scalar) {
     uint8_t bytes[4];
     if (is_shown(scalar)) put(out, bytes, nody_utf8_encode(scalar, bytes, sizeof bytes));
@@ -142,12 +136,14 @@ static void look_around(struct run *run, struct worker *worker) {
     }
 }
 
-/* Where it can be done, reading begins shortly before the offset. The first pieces then may be wrong, and those that are told are not. */
+/* Where it can be done, reading begins shortly before the offset, or before the end. The first pieces then may be wrong, and those that are
+ * told are not. */
 static void jump(struct source *source, uint64_t offset) {
     uint8_t front[3];
-    uint64_t begin = (offset - BEFORE) & ~(uint64_t)1, size = size_of_source(source);
     off_t origin = lseek(source->file, 0, SEEK_CUR);
-    if (origin < 0 || size < (uint64_t)origin || offset <= BEFORE || offset >= size - (uint64_t)origin) return;
+    uint64_t size = size_of_source(source), len = origin < 0 || size < (uint64_t)origin ? 0 : size - (uint64_t)origin;
+    uint64_t there = offset < len ? offset : len, begin = (there - BEFORE) & ~(uint64_t)1;
+    if (there <= BEFORE) return;
     ssize_t count = source->is_by_bom ? pread(source->file, front, sizeof front, origin) : 0;
     if (count < 0 || lseek(source->file, origin + (off_t)begin, SEEK_SET) < 0) return;
     nody_form_of_bom(front, (size_t)count, &source->form);

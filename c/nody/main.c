@@ -39,19 +39,36 @@ static const struct option options[] = {
 /* The commands that take an option. */
 static int takers_of(int option) {
     switch (option) {
-    case 'f': case 'h': return CHECK | LIST | COUNT | AT | RECODE;
+    case 'f': case 'h': case 'V': return CHECK | LIST | COUNT | AT | RECODE;
     case 'q': return CHECK | LIST | COUNT | RECODE;
     case 'J': return CHECK | LIST | COUNT | AT;
     case 'j': return CHECK | COUNT | RECODE;
     case 'm': case 'F': return CHECK;
-    default: return RECODE;
+    case 't': case 'e': case 'o': case 'i': return RECODE;
+    default: return 0;
     }
 }
 
 static struct output out;
 
+/* Says on standard error what is wrong with something. */
 void complain(const char *name, const char *why) {
-    fprintf(stderr, "nody: %s: %s\n", name, why);
+    hide_progress();
+    put_text(&err, "nody: ");
+    put_name(&err, name);
+    put_text(&err, ": ");
+    put_text(&err, why);
+    put_byte(&err, '\n');
+    flush_output(&err);
+}
+
+static void complain_of_value(const char *option, const char *value) {
+    put_text(&err, "nody: --");
+    put_text(&err, option);
+    put_text(&err, " does not take '");
+    put_name(&err, value);
+    put_text(&err, "'\n");
+    flush_output(&err);
 }
 
 /* What kept a run from its end. A closed pipe is not told of: nobody reads there. */
@@ -76,6 +93,11 @@ static void show_help(int which) {
         if (which < 0 || which == i) show_usage(stdout, i);
     puts("ENCODING is utf-8 (which nody takes where none is told), utf-16le, utf-16be or another label of the Encoding Standard; with --from\n"
          "also bom: what the byte order mark says, and UTF-8 where there is none. man nody has more.");
+}
+
+static void show_version(void) {
+    uint32_t version = nody_version();
+    printf("nody %u.%u.%u\n", version / 1000000, version / 1000 % 1000, version % 1000);
 }
 
 static int number_of_command(const char *name) {
@@ -118,7 +140,11 @@ static bool takes_value(struct request *request, int option, const char *value) 
         if (!is_number(value, 1, &number)) return false;
         request->jobs = number < 1000 ? (size_t)number : 1000;
         return true;
-    default: request->into = value; return true;
+    case 'o':
+        request->file = descriptor_of(value);
+        request->into = request->file < 0 ? value : NULL;
+        return true;
+    default: return false;
     }
 }
 
@@ -127,7 +153,7 @@ static void take_flag(struct request *request, int option) {
     case 'q': request->is_quiet = true; break;
     case 'J': request->is_json = true; break;
     case 'F': request->is_followed = true; break;
-    default: request->is_in_place = true; break;
+    case 'i': request->is_in_place = true; break;
     }
 }
 
@@ -145,13 +171,12 @@ static bool takes_options(struct request *request, int which, int argc, char **a
             fprintf(stderr, "nody: %s does not take --%s\n", commands[which].name, name_of_option(option));
             return false;
         }
-        if (option == 'h') {
-            show_help(which);
-            exit(fflush(stdout) == 0 ? IS_VALID : HAS_FAILED);
-        }
+        if (option == 'h') show_help(which);
+        if (option == 'V') show_version();
+        if (option == 'h' || option == 'V') exit(fflush(stdout) == 0 ? IS_VALID : HAS_FAILED);
         if (!optarg) take_flag(request, option);
         else if (!takes_value(request, option, optarg)) {
-            fprintf(stderr, "nody: --%s does not take '%s'\n", name_of_option(option), optarg);
+            complain_of_value(name_of_option(option), optarg);
             return false;
         }
     }
@@ -164,7 +189,7 @@ static const char *wrong_with(const struct request *request, int bit, int count,
     for (int i = 0; i < count; i++) has_input |= strcmp(files[i], "-") == 0;
     if (bit == AT && count != 2) return "at takes a FILE and an OFFSET";
     if (request->is_followed && count > 1) return "--follow takes one FILE";
-    if (request->is_in_place && request->into) return "--in-place and -o do not go together";
+    if (request->is_in_place && (request->into || request->file >= 0)) return "--in-place and -o do not go together";
     if (request->is_in_place && (count == 0 || has_input)) return "--in-place takes files";
     if (bit == RECODE && !request->is_in_place && count > 1) return "recode takes one FILE, and more with --in-place";
     return NULL;
@@ -229,21 +254,14 @@ static void open_streams(void) {
 }
 
 static void set_signals(bool is_followed) {
-    struct sigaction action;
+    static const int numbers[] = {SIGINT, SIGTERM};
     signal(SIGPIPE, SIG_IGN);
     signal(SIGXFSZ, SIG_IGN);
-    memset(&action, 0, sizeof action);
-    sigemptyset(&action.sa_mask);
-    action.sa_handler = end_followed;
-    if (is_followed) {
-        sigaction(SIGINT, &action, NULL);
-        sigaction(SIGTERM, &action, NULL);
-    }
+    if (is_followed) on_signals(numbers, sizeof numbers / sizeof *numbers, end_followed);
 }
 
 static int show_alone(const char *word) {
-    uint32_t version = nody_version();
-    if (strcmp(word, "--version") == 0) printf("nody %u.%u.%u\n", version / 1000000, version / 1000 % 1000, version % 1000);
+    if (strcmp(word, "--version") == 0) show_version();
     else show_help(-1);
     return fflush(stdout) == 0 ? IS_VALID : HAS_FAILED;
 }
@@ -259,9 +277,14 @@ static bool takes_words(struct request *request, int which, int argc, char **arg
 }
 
 int main(int argc, char **argv) {
-    struct request request = {NODY_FORM_UTF8, NODY_FORM_UTF8, false, REPLACE, false, false, false, false, UINT64_MAX, 0, NULL};
+    struct request request = {NODY_FORM_UTF8, NODY_FORM_UTF8, false, REPLACE, false, false, false, false, UINT64_MAX, 0, NULL, -1};
     const char *word = argc > 1 ? argv[1] : "";
     open_streams();
+    if (!nody_supported() || !open_output(&err, STDERR_FILENO)) {
+        fputs(nody_supported() ? "nody: there is no memory\n" : "nody: this processor lacks x86-64-v2\n", stderr);
+        return HAS_FAILED;
+    }
+    err.is_shown = false; /* (who writes there takes the bar away first) */
     if (strcmp(word, "--version") == 0 || strcmp(word, "--help") == 0 || strcmp(word, "-h") == 0) return show_alone(word);
     int which = number_of_command(word);
     if (which < 0) {
@@ -269,13 +292,14 @@ int main(int argc, char **argv) {
         return IS_WRONG;
     }
     if (!takes_words(&request, which, argc, argv)) return IS_WRONG;
-    if (!nody_supported() || !open_output(&out, STDOUT_FILENO)) {
-        fputs(nody_supported() ? "nody: there is no memory\n" : "nody: this processor lacks x86-64-v2\n", stderr);
+    if (!open_output(&out, request.file < 0 ? STDOUT_FILENO : request.file)) {
+        fputs("nody: there is no memory\n", stderr);
         return HAS_FAILED;
     }
     if (commands[which].bit & (LIST | AT)) request.jobs = 1;
     set_signals(request.is_followed);
     enum status status = run_all(&request, which, argc - optind, argv + optind);
     close_output(&out);
+    close_output(&err);
     return (int)status;
 }

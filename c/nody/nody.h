@@ -4,8 +4,9 @@
  *   labels.c     names of encodings                places.c    lines and columns
  *   source.c     reads blocks                      check.c     nody check
  *   workers.c    threads over blocks, in order     count.c     nody count
- *   output.c     buffered output, safe files       list.c      nody list, nody at
- *   progress.c   the progress bar                  recode.c    nody recode
+ *   output.c     buffered output                   list.c      nody list, nody at
+ *   files.c      files that are replaced           recode.c    nody recode
+ *   progress.c   the progress bar
  *
  * The input is read in blocks, each of which ends where a piece ends that no later byte changes. So blocks are worked on one by one, by
  * any number of threads, and what came of them is put out in order. */
@@ -48,6 +49,7 @@ struct request {
     uint64_t most; /* how many invalid bytes are told of */
     size_t jobs;
     const char *into; /* the file to write, or NULL */
+    int file;         /* the open descriptor to write, or -1 */
 };
 
 /* ---- Output */
@@ -59,6 +61,10 @@ struct output {
     char *room;
 };
 
+/* Standard error, where messages go. */
+extern struct output err;
+
+bool has_waited(int file, short event);
 bool open_output(struct output *out, int file);
 bool flush_output(struct output *out);
 void close_output(struct output *out);
@@ -68,6 +74,11 @@ void put_byte(struct output *out, char byte);
 void put_number(struct output *out, uint64_t number);
 void put_hex(struct output *out, uint64_t number, int digits);
 void put_json(struct output *out, const char *text);
+void put_name(struct output *out, const char *name);
+
+bool is_shown(uint32_t scalar);
+enum { SHOWN_ROOM = 16 };
+size_t show_piece(char *shown, const char *bytes, const nody_piece_t *piece);
 
 /* A file that is written beside its final name, and gets that name once all is written. */
 struct replacement {
@@ -76,9 +87,11 @@ struct replacement {
     int file;
 };
 
-bool open_replacement(struct replacement *it, const char *name);
+bool open_replacement(struct replacement *it, const char *name, bool is_in_place);
 bool keep_replacement(struct replacement *it);
 void drop_replacement(struct replacement *it);
+int descriptor_of(const char *name);
+void on_signals(const int *numbers, size_t count, void (*act)(int number));
 
 /* ---- Input */
 

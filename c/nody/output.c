@@ -1,16 +1,15 @@
-/* Output in a buffer, and files that get their names once they are written. */
+/* Output in a buffer, and names as messages show them. */
 #include "nody.h"
 
 #include <errno.h>
-#include <fcntl.h>
-#include <limits.h>
-#include <signal.h>
-#include <stdio.h>
+#include <poll.h>
 #include <stdlib.h>
 #include <string.h>
 #include <unistd.h>
 
 enum { ROOM = 1 << 16 };
+
+struct output err;
 
 bool open_output(struct output *out, int file) {
     out->file = file;
@@ -25,6 +24,15 @@ void close_output(struct output *out) {
     free(out->room);
 }
 
+/* After a call that failed, whether it can be tried again: a signal interrupted it; or somebody made the descriptor one that does not block,
+ * and now it is ready. */
+bool has_waited(int file, short event) {
+    struct pollfd it = {file, event, 0};
+    if (errno == EINTR) return true;
+    if (errno != EAGAIN) return false;
+    return poll(&it, 1, -1) > 0 || errno == EINTR;
+}
+
 /* Writes all bytes, or keeps the error of the first write that failed. */
 static void write_all(struct output *out, const char *bytes, size_t len) {
     if (out->is_shown && len > 0) hide_progress();
@@ -33,7 +41,7 @@ static void write_all(struct output *out, const char *bytes, size_t len) {
         if (count > 0) {
             bytes += count;
             len -= (size_t)count;
-        } else if (count == 0 || errno != EINTR) {
+        } else if (count == 0 || !has_waited(out->file, POLLOUT)) {
             out->error = count == 0 ? EIO : errno;
         }
     }
@@ -78,6 +86,16 @@ void put_hex(struct output *out, uint64_t number, int digits) {
     while (more-- > 0) put_byte(out, "0123456789abcdef"[number >> (4 * more) & 15]);
 }
 
+static bool is_control(uint32_t scalar) {
+    return scalar < 0x20 || (scalar >= 0x7F && scalar < 0xA0);
+}
+
+/* Whether a character can be shown on a line of its own: no control, no mark of direction, no other end of a line. */
+bool is_shown(uint32_t scalar) {
+    if (is_control(scalar) || scalar == 0xFEFF || scalar == 0x061C) return false;
+    return !((scalar >= 0x200B && scalar <= 0x200F) || (scalar >= 0x2028 && scalar <= 0x202E) || (scalar >= 0x2060 && scalar <= 0x206F));
+}
+
 /* A text as JSON has it. Bytes of it that are not UTF-8 become U+FFFD. */
 void put_json(struct output *out, const char *text) {
     nody_bytes_t left = nody_bytes((const uint8_t *)text, strlen(text));
@@ -86,7 +104,7 @@ void put_json(struct output *out, const char *text) {
         const char *bytes = (const char *)left.bytes - piece.len;
         if (piece.kind != NODY_KIND_OK) {
             put_text(out, "\xEF\xBF\xBD");
-        } else if (piece.scalar < 0x20) {
+        } else if (is_control(piece.scalar)) {
             put_text(out, "\\u");
             put_hex(out, piece.scalar, 4);
         } else {
@@ -97,96 +115,25 @@ void put_json(struct output *out, const char *text) {
     put_byte(out, '"');
 }
 
-/* ---- Files */
-
-/* The temporary file that a signal which ends the program takes away. */
-static char *volatile unfinished;
-
-static void drop_and_end(int number) {
-    if (unfinished) unlink(unfinished);
-    signal(number, SIG_DFL);
-    raise(number);
-}
-
-static void watch_signals(void) {
-    static const int numbers[] = {SIGINT, SIGTERM, SIGHUP};
-    struct sigaction had, action;
-    memset(&action, 0, sizeof action);
-    action.sa_handler = drop_and_end;
-    sigemptyset(&action.sa_mask);
-    for (size_t i = 0; i < sizeof numbers / sizeof *numbers; i++)
-        if (sigaction(numbers[i], NULL, &had) == 0 && had.sa_handler != SIG_IGN) sigaction(numbers[i], &action, NULL);
-}
-
-/* The modes that a new file gets here. */
-static mode_t new_mode(void) {
-    mode_t mask = umask(0);
-    umask(mask);
-    return 0666 & ~mask;
-}
-
-/* Makes a file in the folder of the name, with the mode and where possible the owner that the name has. */
-static bool make_temporary(struct replacement *it, const struct stat *about) {
-    static const char ending[] = ".XXXXXX";
-    if (!(it->temporary = malloc(strlen(it->name) + sizeof ending))) return false;
-    strcat(strcpy(it->temporary, it->name), ending);
-    if ((it->file = mkstemp(it->temporary)) < 0) return false;
-    unfinished = it->temporary;
-    watch_signals();
-    if (about && (about->st_uid != geteuid() || about->st_gid != getegid()) && fchown(it->file, about->st_uid, about->st_gid) != 0) {
-        /* (the file is then one of who runs this) */
+/* A piece of a name as messages show it: a character that can be shown, or each byte as a backslash and three octal digits. So no name
+ * commands a terminal, or has the look of two lines. */
+size_t show_piece(char *shown, const char *bytes, const nody_piece_t *piece) {
+    if (piece->kind == NODY_KIND_OK && is_shown(piece->scalar)) {
+        memcpy(shown, bytes, piece->len);
+        return piece->len;
     }
-    return fchmod(it->file, about ? about->st_mode & 07777 : new_mode()) == 0;
-}
-
-/* Opens what will have the name. Where that is a link, what it leads to is replaced, and no link: one that leads nowhere fails. */
-bool open_replacement(struct replacement *it, const char *name) {
-    struct stat about, link;
-    bool is_there = stat(name, &about) == 0;
-    memset(it, 0, sizeof *it);
-    it->file = -1;
-    it->is_direct = is_there && !S_ISREG(about.st_mode);
-    it->name = is_there || lstat(name, &link) == 0 ? realpath(name, NULL) : strdup(name);
-    if (!it->name) return false;
-    if (!it->is_direct) return make_temporary(it, is_there ? &about : NULL);
-    it->file = open(name, O_WRONLY | O_CLOEXEC);
-    return it->file >= 0;
-}
-
-/* Sees to it that the new name is there after a failure of power. (not all systems can, and the file itself is then safe) */
-static void keep_folder(const char *name) {
-    char *folder = strdup(name), *end = folder ? strrchr(folder, '/') : NULL;
-    if (end) end[end == folder] = 0;
-    int file = folder ? open(end ? folder : ".", O_RDONLY | O_CLOEXEC) : -1;
-    if (file >= 0) {
-        fsync(file);
-        close(file);
+    for (size_t i = 0; i < piece->len; i++) {
+        unsigned byte = (unsigned char)bytes[i];
+        char digits[] = {'\\', (char)('0' + (byte >> 6)), (char)('0' + (byte >> 3 & 7)), (char)('0' + (byte & 7))};
+        memcpy(shown + sizeof digits * i, digits, sizeof digits);
     }
-    free(folder);
+    return 4 * piece->len;
 }
 
-/* Gives the file its name, once all of it is on the disk. */
-bool keep_replacement(struct replacement *it) {
-    int file = it->file;
-    it->file = -1;
-    if (it->is_direct) return close(file) == 0;
-    bool is_kept = fsync(file) == 0;
-    is_kept = close(file) == 0 && is_kept;
-    if (!is_kept || rename(it->temporary, it->name) != 0) return false;
-    unfinished = NULL;
-    keep_folder(it->name);
-    return true;
-}
-
-/* Ends with it: what did not get its name goes. */
-void drop_replacement(struct replacement *it) {
-    int error = errno;
-    if (it->file >= 0) close(it->file);
-    if (unfinished && unfinished == it->temporary) {
-        unlink(unfinished);
-        unfinished = NULL;
-    }
-    free(it->temporary);
-    free(it->name);
-    errno = error;
+/* A name of a file, or another word that somebody else wrote. */
+void put_name(struct output *out, const char *name) {
+    char shown[SHOWN_ROOM];
+    nody_bytes_t left = nody_bytes((const uint8_t *)name, strlen(name));
+    for (nody_piece_t piece; (piece = nody_utf8_next(&left)).kind != NODY_KIND_NONE;)
+        put(out, shown, show_piece(shown, (const char *)left.bytes - piece.len, &piece));
 }

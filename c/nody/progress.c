@@ -2,7 +2,9 @@
 #include "nody.h"
 
 #include <stdio.h>
+#include <stdlib.h>
 #include <string.h>
+#include <sys/ioctl.h>
 #include <time.h>
 #include <unistd.h>
 
@@ -18,10 +20,22 @@ static double now(void) {
     return (double)it.tv_sec + 1e-9 * (double)it.tv_nsec;
 }
 
+/* Whether standard error is a terminal that can go back in a line. */
+static bool can_go_back(void) {
+    const char *kind = getenv("TERM");
+    return isatty(STDERR_FILENO) == 1 && !(kind && strcmp(kind, "dumb") == 0);
+}
+
 void start_progress(bool is_quiet) {
-    is_wanted = !is_quiet && isatty(STDERR_FILENO) == 1;
+    is_wanted = !is_quiet && can_go_back();
     if (is_wanted) begun = now();
     said = begun + before_first - between;
+}
+
+/* How many columns the terminal has. */
+static size_t columns(void) {
+    struct winsize size;
+    return ioctl(STDERR_FILENO, TIOCGWINSZ, &size) == 0 && size.ws_col > 0 ? size.ws_col : 80;
 }
 
 /* A number of bytes, as 1.5 GB. */
@@ -32,23 +46,46 @@ static void tell_bytes(char *out, size_t room, double bytes) {
     snprintf(out, room, unit ? "%.1f %s" : "%.0f %s", bytes, units[unit]);
 }
 
-/* The bar itself, where the whole is known. */
-static void say_part(const char *whole, double part) {
-    static const char bar[] = "##############################";
-    int width = (int)sizeof bar - 1, done = (int)(part * width);
-    fprintf(stderr, " of %s [%-*.*s] %d%%", whole, width, done, bar, (int)(100 * part));
+/* As much of a name as has its place in so many columns. (characters from U+1100 on may be two wide) */
+static void say_name(const char *name, size_t most) {
+    char shown[SHOWN_ROOM];
+    nody_bytes_t left = nody_bytes((const uint8_t *)name, strlen(name));
+    for (nody_piece_t piece; (piece = nody_utf8_next(&left)).kind != NODY_KIND_NONE;) {
+        size_t len = show_piece(shown, (const char *)left.bytes - piece.len, &piece);
+        size_t width = len == piece.len && piece.kind == NODY_KIND_OK ? piece.scalar < 0x1100 ? 1 : 2 : len;
+        if (width > most) return;
+        most -= width;
+        put(&err, shown, len);
+    }
 }
 
-static void say(const struct run *run, double seconds) {
-    char done[32], speed[32], size[32];
+/* What the bar says behind the name: how far it is, where the whole is known of how much, and how fast. */
+static void tell_state(char *out, size_t room, const struct run *run, double seconds, int width) {
+    static const char bar[] = "##############################";
+    char done[32], speed[32], size[32], part[96] = "";
     uint64_t whole = size_of_source(&run->source);
+    double share = whole > 0 ? (double)run->bytes / (double)whole : 2;
     tell_bytes(done, sizeof done, (double)run->bytes);
     tell_bytes(speed, sizeof speed, (double)run->bytes / seconds);
     tell_bytes(size, sizeof size, (double)whole);
-    fprintf(stderr, "\r%.60s: %s", run->source.name, done);
-    if (whole >= run->bytes && whole > 0) say_part(size, (double)run->bytes / (double)whole);
-    fprintf(stderr, ", %s/s\033[K", speed);
-    fflush(stderr);
+    if (share <= 1 && width > 0) snprintf(part, sizeof part, " of %s [%-*.*s] %d%%", size, width, (int)(share * width), bar, (int)(100 * share));
+    else if (share <= 1) snprintf(part, sizeof part, " of %s %d%%", size, (int)(100 * share));
+    snprintf(out, room, ": %s%s, %s/s", done, part, speed);
+}
+
+/* All in one line: what has no place in it is left out, the bar first, and then the end of the name. */
+static void say(const struct run *run, double seconds) {
+    enum { MOST_WIDTH = 30, MOST_NAME = 60, LEAST_NAME = 8 };
+    char state[192];
+    size_t most = columns() - 1;
+    tell_state(state, sizeof state, run, seconds, MOST_WIDTH);
+    if (strlen(state) + LEAST_NAME > most) tell_state(state, sizeof state, run, seconds, 0);
+    size_t len = strlen(state) < most ? strlen(state) : most, left = most - len;
+    put_byte(&err, '\r');
+    say_name(run->source.name, left < MOST_NAME ? left : MOST_NAME);
+    put(&err, state, len);
+    put_text(&err, "\033[K");
+    flush_output(&err);
     is_there = true;
 }
 
@@ -63,7 +100,7 @@ void show_progress(const struct run *run) {
 /* Takes the bar away, before anything else is written. */
 void hide_progress(void) {
     if (!is_there) return;
-    fputs("\r\033[K", stderr);
-    fflush(stderr);
     is_there = false;
+    put_text(&err, "\r\033[K");
+    flush_output(&err);
 }

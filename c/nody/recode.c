@@ -2,10 +2,7 @@
 #include "nody.h"
 
 #include <errno.h>
-#include <inttypes.h>
-#include <stdio.h>
 #include <string.h>
-#include <unistd.h>
 
 #ifdef __APPLE__
 #define st_mtim st_mtimespec
@@ -54,13 +51,11 @@ static void recode(struct worker *worker) {
 
 /* Strictly: what is before the first invalid byte is written, and then that is told on standard error. */
 static void tell_first(struct run *run, struct worker *worker) {
-    struct output err;
     run->has_stopped = true;
-    if (!flush_output(run->out) || !open_output(&err, STDERR_FILENO)) return;
+    if (!flush_output(run->out)) return;
     hide_progress();
     put_found(run, &err, &worker->block, &worker->found[0]);
     flush_output(&err);
-    close_output(&err);
 }
 
 static void put_recoded(struct run *run, struct worker *worker) {
@@ -71,7 +66,14 @@ static void put_recoded(struct run *run, struct worker *worker) {
 
 static void tell_replaced(const struct run *run) {
     if (run->request->is_quiet || run->request->errors != REPLACE || !run->invalid) return;
-    fprintf(stderr, "nody: %s: %" PRIu64 " %s became U+FFFD\n", run->source.name, run->invalid, noun_of_invalid(run->source.form, run->invalid));
+    put_text(&err, "nody: ");
+    put_name(&err, run->source.name);
+    put_text(&err, ": ");
+    put_number(&err, run->invalid);
+    put_text(&err, " ");
+    put_text(&err, noun_of_invalid(run->source.form, run->invalid));
+    put_text(&err, " became U+FFFD\n");
+    flush_output(&err);
 }
 
 /* Recodes to where `out` goes. */
@@ -113,7 +115,7 @@ static enum status keep(struct run *run, struct replacement *new, const char *in
 static enum status recode_into(struct run *run, const char *into) {
     struct replacement new;
     struct output out;
-    if (!open_replacement(&new, into)) {
+    if (!open_replacement(&new, into, run->request->is_in_place)) {
         enum status failure = fails(into);
         drop_replacement(&new);
         return failure;

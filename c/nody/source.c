@@ -3,6 +3,7 @@
 
 #include <errno.h>
 #include <fcntl.h>
+#include <poll.h>
 #include <signal.h>
 #include <string.h>
 #include <time.h>
@@ -60,9 +61,9 @@ static size_t read_some(struct source *source, uint8_t *bytes, size_t room) {
     for (;;) {
         ssize_t count = read(source->file, bytes, room);
         if (count > 0) return (size_t)count;
-        if (count < 0 && errno == EINTR && !is_at_end) continue;
+        if (count < 0 && has_waited(source->file, POLLIN) && !is_at_end) continue;
         if (count == 0 && waits_for_more(source)) continue;
-        source->error = count < 0 && errno != EINTR ? errno : 0;
+        source->error = count < 0 && errno != EINTR && errno != EAGAIN ? errno : 0;
         source->has_ended = true;
         return 0;
     }

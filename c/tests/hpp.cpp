@@ -6,6 +6,7 @@
 #include <cstdio>
 #include <cstring>
 #include <random>
+#include <memory_resource>
 #include <string>
 #include <vector>
 
@@ -42,6 +43,7 @@ template <class Text, class = void> struct lists : std::false_type {};
 template <class Text> struct lists<Text, std::void_t<decltype(nody::faults(std::declval<Text>()))>> : std::true_type {};
 static_assert(takes<std::string &>::value && takes<std::string_view>::value && takes<const char *>::value && takes<std::u16string &>::value);
 static_assert(!takes<std::string>::value && !takes<std::u16string>::value && !lists<std::string>::value && !lists<std::u16string>::value);
+static_assert(takes<std::pmr::string &>::value && !takes<std::pmr::string>::value && !takes<const std::pmr::u16string>::value && !lists<std::pmr::string>::value);
 static_assert(!takes<const std::string>::value && !takes<const std::u16string>::value && !lists<const std::string>::value && !lists<const std::u16string>::value);
 
 // Whether a decoder, which is no temporary or is one, gives ranges over a part of that type.
@@ -52,6 +54,7 @@ template <class Decoder, class Text> struct feeds_faults<Decoder, Text, std::voi
 static_assert(feeds<nody::decoder &, std::string &>::value && feeds<nody::decoder &, std::string_view>::value && feeds_faults<nody::decoder &, const char *>::value);
 static_assert(!feeds<nody::decoder &, std::string>::value && !feeds_faults<nody::decoder &, std::string>::value);
 static_assert(!feeds<nody::decoder &, const std::string>::value && !feeds_faults<nody::decoder &, const std::string>::value);
+static_assert(feeds<nody::decoder &, std::pmr::string &>::value && !feeds<nody::decoder &, std::pmr::string>::value && !feeds_faults<nody::decoder &, std::pmr::string>::value);
 static_assert(!feeds<nody::decoder, std::string_view>::value && !feeds_faults<nody::decoder, std::string_view>::value);
 
 #if __cplusplus >= 202002L
@@ -68,6 +71,8 @@ static void try_spans() {
     expect(nody::valid_up_to(nody::form::utf8, std::span(raw)) == 1, "a span of unsigned char");
     expect(nody::is_valid(nody::form::utf8, std::span(blank)) && nody::is_valid(nody::form::utf8, std::span<const char>(chars)), "spans of bytes and of char");
     expect(nody::is_valid(nody::form::utf8, u8"\u00E9"sv), "a u8string_view");
+    static_assert(feeds<nody::decoder &, std::u8string &>::value && !feeds<nody::decoder &, std::u8string>::value && !feeds_faults<nody::decoder &, const std::u8string>::value);
+    expect(nody::is_valid(nody::form::utf8, std::u8string(u8"\u00E9")) && nody::recode(nody::form::utf8, nody::form::utf16le, std::u8string(u8"a")).size() == 2, "a u8string");
     expect(!nody::form_of_bom(std::span(raw)) && nody::undecided_len(nody::form::utf16le, std::span(raw).first(1)) == 1, "a mark, and an end, of spans");
     expect(std::ranges::distance(nody::faults("a\xFF" "b\xFE"sv)) == 2, "an algorithm of ranges over faults");
     const nody::piece &longest = *std::ranges::max_element(nody::pieces("a\xC3\xA9" "b"sv), {}, &nody::piece::length);

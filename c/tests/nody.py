@@ -9,17 +9,21 @@ pipes, signals, reads that are interrupted. It needs Linux; what needs root, or 
 last line is 'N passed, M failed'.
 """
 import codecs
+import fcntl
 import json
 import os
 import pty
 import random
 import re
 import resource
+import select
 import shutil
 import signal
+import struct
 import subprocess
 import sys
 import tempfile
+import termios
 import time
 from concurrent.futures import ThreadPoolExecutor
 
@@ -294,9 +298,26 @@ def check_options(folder, program, reasons):
     odd = os.fsencode(folder) + b"/\"\\\n\xff"
     shutil.copy(name, odd)
     expect(json.loads(run([program, "count", "--json", odd])[1])["file"] == os.fsdecode(folder) + "/\"\\\n\ufffd", "a file of a strange name in JSON")
+    check_names(folder, program, reasons)
     check_origin(folder, program, reasons)
     check_marks(program)
     check_words(program, name)
+
+
+def check_names(folder, program, reasons):
+    """A name that commands a terminal, has several lines, or is no text: messages have it in one line that can be shown."""
+    odd = os.fsencode(folder) + "/\033]0;é\007\n\u202e\u0085".encode() + b"\xe9\\"
+    shown = folder.encode() + "/\\033]0;é\\007\\012\\342\\200\\256\\302\\205\\351\\".encode()
+    with open(odd, "wb") as file:
+        file.write(b"\xff")
+    first = b"%s:1:1: offset 0: %s\n" % (shown, reasons["NonUtf8Byte"].encode())
+    says([program, "check", odd], 1, first + shown + b": not valid UTF-8: 1 invalid byte\n", b"")
+    expect(run([program, "count", odd])[1].startswith(shown + b": 1 byte, "), "count names a file that commands a terminal")
+    expect(run([program, "recode", odd])[2] == b"nody: %s: 1 invalid byte became U+FFFD\n" % shown, "recode names it")
+    expect(run([program, "recode", "--errors", "strict", odd])[2] == first, "recode names it strictly")
+    expect(run([program, "check", odd + b"?"])[2] == b"nody: %s?: No such file or directory\n" % shown, "a message names it")
+    expect(run([program, "check", "--max", "\033[2J"])[2].startswith(b"nody: --max does not take '\\033[2J'\n"), "a value that commands a terminal")
+    expect(b"\\u0085" in run([program, "check", "--json", odd])[1], "JSON has no control character as it is")
 
 
 def check_origin(folder, program, reasons):
@@ -344,7 +365,11 @@ def check_words(program, name):
         says([program, "at", name, "--", offset], 2, b"", b"an OFFSET is a number")
     says([program, "at", name, "6"], 2, b"", b"it ends before this offset")
     says([program, "at", name, "18446744073709551615"], 2, b"", b"it ends before this offset")
-    expect(re.fullmatch(rb"nody \d+\.\d+\.\d+\n", run([program, "--version"])[1]), "--version")
+    version, had = run([program, "--version"])[1], contents(name)
+    expect(re.fullmatch(rb"nody \d+\.\d+\.\d+\n", version), "--version")
+    for command in ("check", "list", "count", "at", "recode"):
+        says([program, command, name, "--version"], 0, version, b"")
+    expect(contents(name) == had, "a file that is named beside --version")
     expect(run([program, "--help"])[1].count(b"usage: nody ") == 5 and run([program, "at", "--help"])[1].count(b"usage: nody ") == 1, "--help")
 
 
@@ -452,7 +477,69 @@ def check_replaced(folder, program):
     says([program, "recode", "--in-place", place, f"{place}/none", name, "--from", "utf-16"], 3, b"", b"Is a directory")
     expect(contents(name) == recoded(data, "utf-8", "utf-8", "replace"), "in place, after files that cannot be")
     expect(sorted(os.listdir(place)) == ["link", "new", "out", "text"], f"what is left: {os.listdir(place)}")
+    check_owners(place, program)
+    check_descriptors(place, program)
     check_limits(place, program)
+
+
+def check_owners(place, program):
+    """Names as long as they can be, groups, and what others own."""
+    long = f"{place}/{255 * 'n'}"
+    with open(long, "wb") as file:
+        file.write(b"\xff")
+    says([program, "recode", "-q", "--in-place", long], 0, b"", b"")
+    says([program, "recode", "-q", "--to", "utf-16be", "-o", long, long], 0, b"", b"")
+    expect(contents(long) == b"\xff\xfd", "a file of a long name")
+    os.remove(long)
+    if os.geteuid() != 0:
+        print("nody.py: left out: files of others that are replaced, which takes root")
+        return
+    shared, name = f"{place}/shared", f"{place}/shared/text"
+    for it in (place, os.path.dirname(place), os.path.dirname(os.path.dirname(place))):
+        os.chmod(it, 0o755)
+    os.mkdir(shared)
+    os.chown(shared, 65534, 12345)
+    os.chmod(shared, 0o2755)
+    for owner, group, mode, user in ((0, 0, 0o6755, 0), (7, 8, 0o4640, 0), (0, 12345, 0o4754, 65534), (65534, 0, 0o2754, 65534)):
+        with open(name, "wb") as file:
+            file.write(b"text")
+        os.chown(name, owner, group)
+        os.chmod(name, mode)
+        says([program, "recode", "--in-place", name], 0, b"", b"", user=user, group=12345 if user else 0, extra_groups=[])
+        about = os.stat(name)
+        want = (owner, group, mode) if user == 0 else (65534, 12345, mode & 0o777)
+        expect((about.st_uid, about.st_gid, about.st_mode & 0o7777) == want, f"a file of {owner}:{group} {oct(mode)}: {about}, not {want}")
+    os.chown(name, 0, 0)
+    says([program, "recode", name, "-o", name], 3, b"", f"nody: {name}: Permission denied\n".encode(), user=65534)
+    expect(contents(name) == b"text" and os.listdir(shared) == ["text"], "-o on a file that may not be written")
+    shutil.rmtree(shared)
+
+
+def check_descriptors(place, program):
+    """-o with another name of an open descriptor writes there: what a file had stays, where it is appended to."""
+    log, data, link = f"{place}/log", f"{place}/data", f"{place}/leads"
+    with open(data, "wb") as file:
+        file.write(b"more\n")
+    os.symlink("/dev/stdout", link)
+    for into in ("-", "/dev/stdout", "/dev/fd/1", "/proc/self/fd/1", link):
+        with open(log, "wb") as file:
+            file.write(b"had\n")
+        with open(log, "ab") as end:
+            ran = subprocess.run([program, "recode", data, "-o", into], stdout=end, stderr=subprocess.PIPE)
+            expect(ran.returncode == 0 and ran.stderr == b"", f"-o {into}: {ran}")
+            ran = subprocess.run([program, "recode", log, "-o", into], stdout=end, stderr=subprocess.PIPE)
+            expect(ran.returncode == 3 and ran.stderr == f"nody: {log}: it is the output too\n".encode(), f"-o {into} to the input: {ran}")
+        expect(contents(log) == b"had\nmore\n", f"-o {into}, of a file that is appended to: {contents(log)}")
+    with open(log, "r+b", buffering=0) as file:
+        file.seek(4)
+        says([program, "recode", data, "-o", f"/dev/fd/{file.fileno()}"], 0, b"", b"", pass_fds=[file.fileno()])
+        says([program, "recode", data, "--output=/dev/stderr"], 0, b"", b"more\n")
+        closed = file.fileno()
+    expect(contents(log) == b"had\nmore\n", "-o with the number of a descriptor")
+    says([program, "recode", data, "-o", f"/dev/fd/{closed + 90}"], 3, b"", b"No such file or directory")
+    says([program, "recode", "--in-place", "-o", "-", data], 2, b"", b"usage: nody ")
+    for it in (log, data, link):
+        os.remove(it)
 
 
 def check_limits(place, program):
@@ -485,6 +572,7 @@ def check_killed(folder, program):
     name, old = f"{place}/text", b"caf\xc3\xa9 \xff text\n" * 300000
     new = recoded(old[:13], "utf-8", "utf-16le", "replace") * 300000
     seen, took = {"old": 0, "new": 0}, 0
+    gentle = [signal.SIGTERM, signal.SIGINT, signal.SIGHUP, signal.SIGQUIT, signal.SIGALRM, signal.SIGXCPU]
     for i in range(60):
         with open(name, "wb") as file:
             file.write(old)
@@ -494,13 +582,13 @@ def check_killed(folder, program):
             ran.wait()
             took = time.time() - took
         time.sleep(chance.random() * 1.5 * took)
-        ran.send_signal(signal.SIGKILL if i % 2 else signal.SIGTERM)
+        ran.send_signal(signal.SIGKILL if i % 2 else gentle[i // 2 % len(gentle)])
         ran.wait()
         is_old, is_new = contents(name) == old, contents(name) == new
         seen["new" if is_new else "old"] += 1
         expect(is_old or is_new, "a file that is not whole has the final name")
         left = [it for it in os.listdir(place) if it != "text"]
-        expect(i % 2 or not left, f"SIGTERM left {left}")
+        expect(i % 2 or not left, f"{gentle[i // 2 % len(gentle)]} left {left}")
         for it in left:
             os.remove(f"{place}/{it}")
     print(f"nody.py: of 60 that were ended {seen['old']} left the old file, {seen['new']} the new one")
@@ -610,6 +698,18 @@ def check_follow(folder, program, reasons):
     expect(said == f"nody: {name}: it became shorter, and is read from its front again\n".encode(), f"--follow says {said}")
 
 
+def check_passed_over(folder, program):
+    """A signal that is to be passed over, as SIGINT of a job in the background of a script, ends no input that is followed."""
+    ran = subprocess.Popen([program, "check", "--follow", f"{folder}/growing"], stdout=subprocess.PIPE, preexec_fn=lambda: signal.signal(signal.SIGINT, signal.SIG_IGN))
+    reads(ran.stdout, 1)
+    ran.send_signal(signal.SIGINT)
+    time.sleep(0.5)
+    expect(ran.poll() is None, "SIGINT that is to be passed over")
+    ran.terminate()
+    ran.communicate(timeout=10)
+    expect(ran.returncode == 1, f"SIGTERM then ends it: {ran.returncode}")
+
+
 def check_follow_input(folder, program):
     """Standard input that is a file of which the front was read already, and which becomes shorter."""
     name = f"{folder}/input"
@@ -625,6 +725,37 @@ def check_follow_input(folder, program):
     expect(told.startswith(b"-: not valid UTF-8: 2 invalid bytes\n-:1:4: offset 3: "), f"standard input is read from its front again: {told}")
     ran.send_signal(signal.SIGTERM)
     ran.communicate(timeout=10)
+
+
+def check_unblocked(program):
+    """Pipes that somebody made ones that do not block, as the shells of some programs do: what is not ready is waited for."""
+    data = b"caf\xc3\xa9 text\n" * 20000
+    source, sink = os.pipe(), os.pipe()
+    for it in (*source, *sink):
+        os.set_blocking(it, False)
+    ran = subprocess.Popen([program, "recode", "--to", "utf-16le"], stdin=source[0], stdout=sink[1], stderr=subprocess.PIPE)
+    os.close(source[0])
+    os.close(sink[1])
+    got, left, end = b"", data, time.time() + 60
+    while time.time() < end:
+        if left:
+            try:
+                left = left[os.write(source[1], left[:30000]):]
+            except (BlockingIOError, BrokenPipeError):
+                pass
+            if not left:
+                os.close(source[1])
+        time.sleep(0.001)
+        try:
+            part = os.read(sink[0], 1 << 16)
+        except BlockingIOError:
+            continue
+        if not part:
+            break
+        got += part
+    os.close(sink[0])
+    said = ran.communicate(timeout=10)[1]
+    expect((ran.returncode, said) == (0, b"") and got == data.decode().encode("utf-16-le"), f"pipes that do not block: {ran.returncode} {said} {len(got)}")
 
 
 def check_slow(program):
@@ -650,20 +781,75 @@ def told_on(main):
     return said
 
 
+def progress(program, words, columns, kind):
+    """What comes to a terminal of so many columns while a pipe is slow."""
+    main, terminal = pty.openpty()
+    fcntl.ioctl(terminal, termios.TIOCSWINSZ, struct.pack("HHHH", 24, columns, 0, 0))
+    ran = subprocess.Popen([program, "check", *words], stdin=subprocess.PIPE, stdout=subprocess.PIPE, stderr=terminal, env=dict(os.environ, TERM=kind))
+    for _ in range(16):
+        ran.stdin.write(b"text\n" * 1000)
+        ran.stdin.flush()
+        time.sleep(0.1)
+    ran.stdin.close()
+    ran.wait()
+    os.close(terminal)
+    return told_on(main)
+
+
 def check_progress(program):
-    """On a terminal there is a progress bar after a second, which goes again; with --quiet there is none."""
-    for words, is_there in (([], True), (["--quiet"], False)):
+    """On a terminal there is a progress bar after a second, which goes again, and has its place in a line; with --quiet there is none."""
+    jobs = [([], 80, "xterm", True), (["--quiet"], 80, "xterm", False), ([], 80, "dumb", False), ([], 17, "xterm", True)]
+    with ThreadPoolExecutor(len(jobs)) as pool:
+        for (words, columns, kind, is_there), said in zip(jobs, pool.map(lambda it: progress(program, *it[:3]), jobs)):
+            holds = b"B/s"[: 3 if columns > 70 else 0] in said and said.endswith(b"\r\x1b[K") and said.count(b"\r") > 2
+            expect(holds if is_there else said == b"", f"progress {words} on {kind} of {columns}: {said}")
+            expect(all(len(it.replace(b"\x1b[K", b"")) < columns for it in said.split(b"\r")), f"lines on {columns} columns: {said}")
+
+
+def check_progress_of_file(folder, program):
+    """The bar of a file whose name is long and commands a terminal, where the whole is known, on terminals that are narrow and wide."""
+    name = f"{folder}/" + 40 * "é" + "\u6587\033[31m"
+    with open(name, "wb") as file:
+        file.truncate(3 << 30)
+    for columns in (40, 79, 200):
         main, terminal = pty.openpty()
-        ran = subprocess.Popen([program, "check", *words], stdin=subprocess.PIPE, stdout=subprocess.PIPE, stderr=terminal)
-        for _ in range(16):
-            ran.stdin.write(b"text\n" * 1000)
-            ran.stdin.flush()
-            time.sleep(0.1)
-        ran.stdin.close()
+        fcntl.ioctl(terminal, termios.TIOCSWINSZ, struct.pack("HHHH", 24, columns, 0, 0))
+        ran = subprocess.Popen(["nice", program, "list", name], stdout=subprocess.DEVNULL, stderr=terminal)
+        select.select([main], [], [], 60)
+        ran.kill()
         ran.wait()
         os.close(terminal)
-        said = told_on(main)
-        expect((b"\r-: " in said and said.endswith(b"\r\x1b[K")) if is_there else said == b"", f"progress {words}: {said}")
+        lines = told_on(main).decode(errors="replace").replace("\033[K", "").split("\r")[1:]
+        expect(lines and all(len(it) + it.count("\u6587") < columns and "\033" not in it and " of 3.2 GB" in it for it in lines), f"progress of a file on {columns}: {lines}")
+    os.remove(name)
+
+
+def check_far(folder, program):
+    """Offsets beyond 4 GiB, and beyond the end: nothing but what is around them is read."""
+    name, far = f"{folder}/far", 5_000_000_000
+    with open(name, "wb") as file:
+        file.truncate(5 << 30)
+        file.seek(far)
+        file.write(b"\xffA")
+    brief = lambda: resource.setrlimit(resource.RLIMIT_CPU, (2, 2))
+    got = run([program, "at", name, str(far)], preexec_fn=brief)
+    expect(got[0] == 1 and f"> {far} 1 ff NonUtf8Byte".encode() in got[1] and f"  {far + 1} 1 41 U+0041 A\n".encode() in got[1], f"an offset beyond 4 GiB: {got}")
+    for offset in (5 << 30, 1 << 62, (1 << 64) - 1):
+        says([program, "at", name, hex(offset)], 2, b"", b"it ends before this offset", preexec_fn=brief)
+    os.remove(name)
+
+
+def check_completion():
+    """What bash offers: commands in their place alone, options of the command, encodings, and no option after --."""
+    if not shutil.which("bash"):
+        print("nody.py: left out: bash is not there")
+        return
+    script = '. "$0"; COMP_WORDS=("$@") COMP_CWORD=$(($# - 1)); _nody; echo "${COMPREPLY[*]}"'
+    for words, want in (("nody c", "check count"), ("nody check nody ", ""), ("nody check nody -", "--from --quiet --max --json --follow --jobs --help"),
+                        ("nody recode --errors m", "maximal"), ("nody check --from = utf-16l", "utf-16le"), ("nody check --from =", "utf-8 utf-16le utf-16be bom"),
+                        ("nody at --from b", "bom"), ("nody check -- -", ""), ("nody recode -o ", ""), ("nody --v", "--version"), ("nody recode --to ", "utf-8 utf-16le utf-16be")):
+        got = run(["bash", "-c", script, f"{os.path.dirname(C)}/packaging/completions/nody", *words.split(" ")])
+        expect(got == (0, f"{want}\n".encode(), b""), f"completion of {words!r}: {got}, not {want}")
 
 
 def compiles(compiler, program, block, build, flags):
@@ -695,9 +881,14 @@ def main():
             check_faults(folder, [built], compiler, build)
             check_races(folder, compiler, build)
             check_follow(folder, built, reasons)
+            check_passed_over(folder, built)
             check_follow_input(folder, built)
             check_slow(built)
+            check_unblocked(built)
             check_progress(built)
+            check_progress_of_file(folder, built)
+            check_far(folder, built)
+            check_completion()
     print(f"{passed} passed, {failed} failed")
     return int(failed > 0)
 
