@@ -97,8 +97,8 @@ function wayOf(options = {}) {
 
 // An offset that a caller gives.
 function wholeOf(at) {
-    if (Number.isSafeInteger(at) && at >= 0) return at;
-    throw new RangeError(`noddychest: an offset is a whole number from 0 on, and not ${String(at)}`);
+    if (Number.isSafeInteger(at) && at >= 0) return at + 0; // (-0 becomes 0)
+    throw new RangeError(`noddychest: an offset is a whole number from 0 on, and ${typeof at === "number" ? `not ${at}` : `no ${typeof at}`}`);
 }
 
 // A piece of the codec, which began at the offset `base`, as callers see it.
@@ -537,7 +537,13 @@ export class Decoder {
 
 // The text of whole pieces, in one way or another.
 function textOf(bytes, form, way) {
-    return new TextDecoder("utf-16le", { ignoreBOM: true }).decode(joined(codec.recode(form, UTF16LE, bytes, { mode: way })));
+    const units = joined(codec.recode(form, UTF16LE, bytes, { mode: way }));
+    try {
+        return new TextDecoder("utf-16le", { ignoreBOM: true }).decode(units);
+    } catch {
+        // (these units are valid: V8 says of those that fit in no string that they are not)
+        throw new RangeError(`noddychest: a text of ${units.length / 2} units of UTF-16 is too long for a string here: take streamText, or recode`);
+    }
 }
 
 export function decode(data, encoding = "utf-8", options) {

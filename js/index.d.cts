@@ -168,7 +168,10 @@ export function recode(data: Bytes, from: Encoding, to: Encoding, options?: Reco
 /** How many bytes `recode` gives, with one U+FFFD for each invalid byte. O(n). */
 export function recodedLength(data: Bytes, from: Encoding, to: Encoding): number;
 
-/** The text as a string, and the list of what was wrong, one entry for each invalid byte. A byte order mark stays in the text. O(n). */
+/**
+ * The text as a string, and the list of what was wrong, one entry for each invalid byte. A byte order mark stays in the text. A text that is
+ * longer than a string can be (in V8 about 2^29 units of UTF-16) is a `RangeError`. O(n).
+ */
 export function decode(data: Bytes, encoding?: Encoding, options?: RecodeOptions): { text: string; faults: Fault[] };
 
 /**

@@ -520,6 +520,8 @@ each("encodings by their labels, and options", () => {
     for (const it of [ofHex("41"), new Uint8Array(50_000_000)]) assert.throws(() => new Decoder(it), { name: "TypeError", message: 'noddychest: an encoding is a string, as "utf-8", and no bytes' });
     for (const it of [undefined, {}, { offset: undefined }, { offset: 0 }, Object.create(null)]) assert.equal(new Decoder("utf-8", it).offset, 0);
     for (const [it, name] of [[null, "null"], [7, "a number"], ["7", "a string"]]) assert.throws(() => new Decoder("utf-8", it), { name: "TypeError", message: `noddychest: options are an object, as { offset: 0 }, or left out, and not ${name}` });
+    const zero = new Decoder("utf-8", { offset: -0 });
+    assert.deepStrictEqual([zero.offset, zero.held], [0, 0]);
     for (const offset of [-1, 0.5, NaN, Infinity, "1", 1n, null, 2 ** 53]) assert.throws(() => new Decoder("utf-8", { offset }), { name: "RangeError", message: /an offset is a whole number/ });
     assert.throws(() => Decoder("utf-8"), TypeError);
 });

@@ -3,7 +3,7 @@ import assert from "node:assert/strict";
 import { readFileSync } from "node:fs";
 import test from "node:test";
 import { Codec, UTF16LE, UTF8 } from "../codec.js";
-import { Ends, FaultError, Recoder, boundaryAfter, boundaryBefore, changedRange, charCount, decode, faults, firstFault, isValid, numberOf, offsetOf, pieces, piecesBack, recode, recodedLength, sentence } from "noddychest";
+import { Ends, FaultError, Recoder, boundaryAfter, boundaryBefore, changedRange, charCount, decode, faults, firstFault, isValid, numberOf, offsetOf, pieces, piecesBack, recode, recodedLength, sentence, streamText } from "noddychest";
 import { chances, damaged, hexOf, ofHex } from "./help.js";
 
 const FORMS = ["utf-8", "utf-16le", "utf-16be"];
@@ -123,7 +123,9 @@ test("a boundary is no offset inside of a piece", () => {
             assert.equal(boundaryAfter(bytes, at, encoding), at > bytes.length ? bytes.length : Math.min(...starts.filter((it) => it >= at)));
         }
     }
-    for (const at of [-1, 0.5, NaN, Infinity, "1", 1n, undefined, null]) assert.throws(() => boundaryBefore(ofHex("41"), at), { name: "RangeError", message: /an offset is a whole number/ });
+    const never = { toString: () => assert.fail("asked") };
+    for (const at of [-1, 0.5, NaN, Infinity, "1", 1n, undefined, null, never, Object.create(null), Symbol("1")]) assert.throws(() => boundaryBefore(ofHex("41"), at), { name: "RangeError", message: /an offset is a whole number/ });
+    for (const [at, told] of [[1n, /, and no bigint$/], ["1", /, and no string$/], [0.5, /, and not 0.5$/]]) assert.throws(() => boundaryBefore(ofHex("41"), at), { message: told });
 });
 
 test("pieces by their numbers", () => {
@@ -227,6 +229,20 @@ test("a string with the list of what was wrong", () => {
         assert.equal(text, [...pieces(bytes, encoding)].map((it) => it.char ?? "\ufffd").join(""));
         assert.deepEqual(found, [...faults(bytes, encoding)]);
     }
+});
+
+test("a text that is too long for a string", async (t) => {
+    const before = globalThis.TextDecoder;
+    t.after(() => (globalThis.TextDecoder = before));
+    // What TextDecoder of V8 does for so long a text, which takes gigabytes here.
+    globalThis.TextDecoder = class {
+        decode() {
+            throw new TypeError("The encoded data was not valid for encoding utf-16le");
+        }
+    };
+    const told = { name: "RangeError", message: /a text of 3 units of UTF-16 is too long for a string here/ };
+    assert.throws(() => decode(ofHex("61ff62")), told);
+    await assert.rejects(async () => streamText([ofHex("61ff62")]).next(), told);
 });
 
 test("words for errors that are none", () => {

@@ -161,7 +161,7 @@ export const READERS = { hexadecimal, decimal, octal, binary, escapes, percent, 
 // A link of the scheme data.
 function dataLink(text) {
     const found = text.match(/^data:([^,]*),([^]*)$/i);
-    if (!found) return null;
+    if (!found) return wrong("A data: address has a comma before its data.");
     const data = percent(found[2]);
     if (!data.bytes || !/;base64$/i.test(found[1])) return data.bytes ? { ...data, took: "a data: address" } : data;
     const made = base64(new TextDecoder().decode(data.bytes));
@@ -199,8 +199,13 @@ function ofNumbers(text) {
     return eights.bytes ? eights : tens;
 }
 
-// Letters of base64 in fours: padded, or at least eight of them, one of which is no hexadecimal digit.
-const looksLikeBase64 = (text) => text.length % 4 === 0 && (/^[\w+/-]+={1,2}$/.test(text) || (/^[\w+/-]{8,}$/.test(text) && /[g-z]/i.test(text)));
+// Letters of base64 in fours: padded, or at least eight of them, one of which is no hexadecimal digit. (What is none of them is looked for:
+// of megabytes that have to match as a whole, browsers give up)
+function looksLikeBase64(text) {
+    const letters = text.replace(/={1,2}$/, "");
+    if (text.length % 4 || !letters || /[^\w+/-]/.test(letters)) return false;
+    return letters.length < text.length || (text.length >= 8 && /[g-z]/i.test(text));
+}
 
 // By the first of these that a text looks like.
 const LOOKS = [
@@ -222,7 +227,7 @@ export function bytesOf(given, reader = "") {
     if (given.length > 8 * MOST) return TOO_MANY;
     const text = given.trim();
     // (the offsets of a dump stand in columns: what is before the first one counts)
-    const lines = given.replace(/^(?:[ \t]*\r?\n)+|\s+$/g, "");
+    const lines = given.replace(/^(?:[ \t]*\r?\n)+/, "").trimEnd();
     const shown = (read) => ([dump, decimal, octal].includes(read) ? lines : text);
     const read = READERS[reader] ?? (text ? LOOKS.find(([fits, it]) => fits(shown(it)))[1] : hexadecimal);
     const made = read(shown(read));

@@ -305,10 +305,24 @@ async function open(file) {
 async function edgeOf(file, at, form) {
     if (at <= 0 || at >= file.size) return Math.max(Math.min(at, file.size), 0);
     const from = at - EDGE;
-    codec.fill(new Uint8Array(await file.slice(from, at + SEEN).arrayBuffer()), form);
+    const bytes = new Uint8Array(await file.slice(from, at + SEEN).arrayBuffer());
+    return from + aside(bytes, form, edge);
+}
+
+// What a call tells of other bytes than those that are shown, which stand in the module again after it: they are drawn meanwhile.
+function aside(bytes, form, call) {
+    const [shown, its] = [codec.bytes.slice(), codec.form];
+    codec.fill(bytes, form);
+    const told = call();
+    codec.fill(shown, its);
+    return told;
+}
+
+// The end of the last character up to EDGE, or a boundary.
+function edge() {
     const near = codec.pieces(codec.boundary(SEEN), EDGE).filter((it) => it.kind === OK && it.place + it.len <= EDGE);
     const last = near[near.length - 1];
-    return from + (last ? last.place + last.len : codec.boundary(EDGE));
+    return last ? last.place + last.len : codec.boundary(EDGE);
 }
 
 // Shows the part of a large file that has an offset.

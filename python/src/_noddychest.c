@@ -668,9 +668,7 @@ static PyObject *recoder_replaced(PyObject *self, void *closure) {
 /* The pieces of some bytes, in order. They cross in blocks; those from the back one by one, each with the error that the forward
  * cut names. */
 typedef struct {
-    PyObject_HEAD
-    Py_buffer view;
-    Maker maker;
+    READER_HEAD
     nody_form_t form;
     size_t offset; /* of the next piece; from the back, its end */
     size_t read;   /* where the next block begins */
@@ -678,13 +676,6 @@ typedef struct {
     size_t at, count;
     nody_piece_t block[BLOCK];
 } Run;
-
-static void run_dealloc(PyObject *object) {
-    Run *self = (Run *)object;
-    maker_end(&self->maker);
-    PyBuffer_Release(&self->view);
-    plain_dealloc(object);
-}
 
 /* Run(form, data, type, errors, at, back): from the offset on, or all from the back. */
 static PyObject *run_new(PyTypeObject *type, PyObject *args, PyObject *names) {
@@ -712,19 +703,25 @@ static PyObject *run_new(PyTypeObject *type, PyObject *args, PyObject *names) {
 
 static PyObject *run_back(Run *self) {
     const uint8_t *bytes = self->view.buf;
-    nody_piece_t piece = last_piece(self->form, bytes, self->offset);
+    size_t end = self->offset;
+    nody_piece_t piece = last_piece(self->form, bytes, end);
+    PyObject *made;
     if (piece.kind == NODY_KIND_NONE)
         return NULL;
     self->offset -= piece.len;
     if (piece.kind != NODY_KIND_OK)
         piece = first_piece(self->form, bytes + self->offset, (size_t)self->view.len - self->offset);
-    return make_piece(&self->maker, self->offset, piece);
+    made = make_piece(&self->maker, self->offset, piece);
+    if (made == NULL)
+        self->offset = end;
+    return made;
 }
 
 static PyObject *run_next(PyObject *object) {
     Run *self = (Run *)object;
     nody_piece_t piece;
     size_t offset = self->offset;
+    PyObject *made;
     if (self->back)
         return run_back(self);
     if (self->at == self->count) {
@@ -738,24 +735,18 @@ static PyObject *run_next(PyObject *object) {
     }
     piece = self->block[self->at++];
     self->offset += piece.len;
-    return make_piece(&self->maker, offset, piece);
+    made = make_piece(&self->maker, offset, piece);
+    if (made == NULL)
+        self->at--, self->offset = offset;
+    return made;
 }
 
 /* Pieces from both ends, each judged by the bytes that are left. */
 typedef struct {
-    PyObject_HEAD
-    Py_buffer view;
-    Maker maker;
+    READER_HEAD
     nody_form_t form;
     size_t start, end; /* where what is left lies */
 } Ends;
-
-static void ends_dealloc(PyObject *object) {
-    Ends *self = (Ends *)object;
-    maker_end(&self->maker);
-    PyBuffer_Release(&self->view);
-    plain_dealloc(object);
-}
 
 static PyObject *ends_new(PyTypeObject *type, PyObject *args, PyObject *names) {
     PyObject *data, *pieces, *errors;
@@ -780,20 +771,29 @@ static PyObject *ends_next(PyObject *object) {
     Ends *self = (Ends *)object;
     size_t offset = self->start;
     nody_piece_t piece = first_piece(self->form, (const uint8_t *)self->view.buf + offset, self->end - offset);
+    PyObject *made;
     if (piece.kind == NODY_KIND_NONE)
         return NULL;
     self->start += piece.len;
-    return make_piece(&self->maker, offset, piece);
+    made = make_piece(&self->maker, offset, piece);
+    if (made == NULL)
+        self->start = offset;
+    return made;
 }
 
 static PyObject *ends_next_back(PyObject *object, PyObject *nothing) {
     Ends *self = (Ends *)object;
-    nody_piece_t piece = last_piece(self->form, (const uint8_t *)self->view.buf + self->start, self->end - self->start);
+    size_t end = self->end;
+    nody_piece_t piece = last_piece(self->form, (const uint8_t *)self->view.buf + self->start, end - self->start);
+    PyObject *made;
     (void)nothing;
     if (piece.kind == NODY_KIND_NONE)
         return Py_NewRef(Py_None);
     self->end -= piece.len;
-    return make_piece(&self->maker, self->end, piece);
+    made = make_piece(&self->maker, self->end, piece);
+    if (made == NULL)
+        self->end = end;
+    return made;
 }
 
 static PyObject *ends_start(PyObject *self, void *closure) {
@@ -810,19 +810,14 @@ static PyObject *ends_end(PyObject *self, void *closure) {
 
 /* The faults of some bytes. Text between them is skipped as validation goes over it, window by window. */
 typedef struct {
-    PyObject_HEAD
-    Py_buffer view;
-    Maker maker;
+    READER_HEAD
     Search search;
     char busy;
 } Faults;
 
 static void faults_dealloc(PyObject *object) {
-    Faults *self = (Faults *)object;
-    close_window(&self->search.window);
-    maker_end(&self->maker);
-    PyBuffer_Release(&self->view);
-    plain_dealloc(object);
+    close_window(&((Faults *)object)->search.window);
+    reader_dealloc(object);
 }
 
 /* Faults(form, data, type, errors) */
@@ -848,13 +843,17 @@ static PyObject *faults_next(PyObject *object) {
     Faults *self = (Faults *)object;
     nody_piece_t piece;
     size_t offset = 0;
+    PyObject *made;
     if (__atomic_exchange_n(&self->busy, 1, __ATOMIC_ACQUIRE)) {
         PyErr_SetString(PyExc_RuntimeError, "this iterator is in use by another call: give each thread its own");
         return NULL;
     }
     piece = next_fault(&self->search, &offset);
+    made = piece.kind == NODY_KIND_NONE ? NULL : make_piece(&self->maker, offset, piece);
+    if (made == NULL)
+        self->search.at -= piece.len;
     __atomic_store_n(&self->busy, 0, __ATOMIC_RELEASE);
-    return piece.kind == NODY_KIND_NONE ? NULL : make_piece(&self->maker, offset, piece);
+    return made;
 }
 
 /* Faults as arrays: offsets of 64 bits, lengths and kinds of 8. Their room comes from malloc, which needs no lock. */
@@ -959,26 +958,29 @@ static PyObject *kind_counts(PyObject *module, PyObject *args) {
 /* ---- the module ---- */
 
 static PyType_Slot run_slots[] = {{Py_tp_new, run_new},
-                                  {Py_tp_dealloc, run_dealloc},
+                                  {Py_tp_traverse, reader_traverse},
+                                  {Py_tp_dealloc, reader_dealloc},
                                   {Py_tp_iter, PyObject_SelfIter},
                                   {Py_tp_iternext, run_next},
                                   {0, NULL}};
-static PyType_Spec run_spec = {"noddychest._noddychest.Run", sizeof(Run), 0, Py_TPFLAGS_DEFAULT, run_slots};
+static PyType_Spec run_spec = {"noddychest._noddychest.Run", sizeof(Run), 0, Py_TPFLAGS_DEFAULT | Py_TPFLAGS_HAVE_GC, run_slots};
 
 static PyMethodDef ends_methods[] = {{"next_back", ends_next_back, METH_NOARGS, NULL}, {NULL, NULL, 0, NULL}};
 static PyGetSetDef ends_members[] = {
     {"start", ends_start, NULL, NULL, NULL}, {"end", ends_end, NULL, NULL, NULL}, {NULL, NULL, NULL, NULL, NULL}};
-static PyType_Slot ends_slots[] = {{Py_tp_new, ends_new},         {Py_tp_dealloc, ends_dealloc},   {Py_tp_iter, PyObject_SelfIter},
+static PyType_Slot ends_slots[] = {{Py_tp_new, ends_new},         {Py_tp_dealloc, reader_dealloc},   {Py_tp_iter, PyObject_SelfIter},
                                    {Py_tp_iternext, ends_next},   {Py_tp_methods, ends_methods},   {Py_tp_getset, ends_members},
-                                   {0, NULL}};
-static PyType_Spec ends_spec = {"noddychest._noddychest.Ends", sizeof(Ends), 0, Py_TPFLAGS_DEFAULT | Py_TPFLAGS_BASETYPE, ends_slots};
+                                   {Py_tp_traverse, reader_traverse}, {0, NULL}};
+static PyType_Spec ends_spec = {"noddychest._noddychest.Ends", sizeof(Ends), 0, Py_TPFLAGS_DEFAULT | Py_TPFLAGS_BASETYPE | Py_TPFLAGS_HAVE_GC,
+                                ends_slots};
 
 static PyType_Slot faults_slots[] = {{Py_tp_new, faults_new},
+                                     {Py_tp_traverse, reader_traverse},
                                      {Py_tp_dealloc, faults_dealloc},
                                      {Py_tp_iter, PyObject_SelfIter},
                                      {Py_tp_iternext, faults_next},
                                      {0, NULL}};
-static PyType_Spec faults_spec = {"noddychest._noddychest.Faults", sizeof(Faults), 0, Py_TPFLAGS_DEFAULT, faults_slots};
+static PyType_Spec faults_spec = {"noddychest._noddychest.Faults", sizeof(Faults), 0, Py_TPFLAGS_DEFAULT | Py_TPFLAGS_HAVE_GC, faults_slots};
 
 static PyMethodDef recoder_methods[] = {{"step", recoder_step, METH_VARARGS, NULL},
                                         {"state", recoder_state, METH_NOARGS, NULL},
@@ -1015,9 +1017,9 @@ static PyMethodDef functions[] = {{"supported", supported, METH_NOARGS, NULL},
                                   {NULL, NULL, 0, NULL}};
 
 static int begin_module(PyObject *module) {
-    PyType_Spec *specs[] = {&run_spec, &ends_spec, &faults_spec, &part_spec, &recoder_spec};
-    const char *names[] = {"Run", "Ends", "Faults", "Part", "Recoder"};
-    for (int i = 0; i < 5; i++) {
+    PyType_Spec *specs[] = {&run_spec, &ends_spec, &faults_spec, &part_spec, &stream_spec, &recoder_spec};
+    const char *names[] = {"Run", "Ends", "Faults", "Part", "Stream", "Recoder"};
+    for (int i = 0; i < 6; i++) {
         PyObject *type = PyType_FromSpec(specs[i]);
         if (type == NULL || PyModule_AddObject(module, names[i], type) < 0) {
             Py_XDECREF(type);

@@ -46,6 +46,27 @@ void maker_end(Maker *maker) {
     PyMem_Free(maker->chars);
 }
 
+typedef struct {
+    READER_HEAD
+} Reader;
+
+int reader_traverse(PyObject *object, visitproc visit, void *arg) {
+    Reader *self = (Reader *)object;
+    Py_VISIT(Py_TYPE(object));
+    Py_VISIT(self->view.obj);
+    Py_VISIT(self->maker.type);
+    Py_VISIT(self->maker.errors);
+    return 0;
+}
+
+void reader_dealloc(PyObject *object) {
+    Reader *self = (Reader *)object;
+    PyObject_GC_UnTrack(object);
+    maker_end(&self->maker);
+    PyBuffer_Release(&self->view);
+    plain_dealloc(object);
+}
+
 static PyObject *character(Maker *maker, uint32_t scalar) {
     Character *it;
     if (maker->chars == NULL && (maker->chars = PyMem_Calloc(CHARACTERS, sizeof *it)) == NULL)
@@ -66,14 +87,13 @@ PyObject *make_piece(Maker *maker, size_t offset, nody_piece_t piece) {
     int turn = maker->turn ^= 1;
     PyObject **given = &maker->given[turn], *place, *it, *tuple;
     int fresh = *given == NULL || Py_REFCNT(*given) != 1;
+    /* (the tuple is made last: the collector may run code of others then, and nothing fails after it) */
     place = PyLong_FromSize_t(offset);
-    it = piece.kind == NODY_KIND_OK ? character(maker, piece.scalar) : Py_NewRef(Py_None);
-    tuple = fresh ? PyType_GenericAlloc((PyTypeObject *)maker->type, 4) : *given;
-    if (place == NULL || it == NULL || tuple == NULL) {
+    it = place == NULL ? NULL : piece.kind == NODY_KIND_OK ? character(maker, piece.scalar) : Py_NewRef(Py_None);
+    tuple = it == NULL ? NULL : fresh ? PyType_GenericAlloc((PyTypeObject *)maker->type, 4) : *given;
+    if (tuple == NULL) {
         Py_XDECREF(place);
         Py_XDECREF(it);
-        if (fresh)
-            Py_XDECREF(tuple);
         return NULL;
     }
     PyTuple_SetItem(tuple, 0, place);

@@ -27,6 +27,22 @@ typedef struct {
 int maker_begin(Maker *maker, PyObject *type, PyObject *errors);
 void maker_end(Maker *maker);
 
+/* Where it answers NULL no other code has run: the caller puts the piece back, and nothing is lost. */
 PyObject *make_piece(Maker *maker, size_t offset, nody_piece_t piece);
+
+/* ---- iterators over pieces ---- */
+
+/* How each of them begins. */
+#define READER_HEAD \
+    PyObject_HEAD   \
+    Py_buffer view; \
+    Maker maker;
+
+/* What the collector of garbage sees of one: its bytes may be those of an object that has the iterator. (It has nothing but what was there
+ * before it; so in each circle there is another object that breaks it) */
+int reader_traverse(PyObject *object, visitproc visit, void *arg);
+
+/* Lets go what each of them has, and frees it. */
+void reader_dealloc(PyObject *object);
 
 #endif

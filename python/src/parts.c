@@ -17,9 +17,7 @@ enum Asked { NOTHING, PIECES, FAULTS, LAST };
 
 /* The pieces of a part. They are put into the block many at a time. */
 typedef struct {
-    PyObject_HEAD
-    Py_buffer view;
-    Maker maker;
+    READER_HEAD
     nody_decoder_t decoder; /* before the bytes that are not read yet */
     enum Asked asked;
     size_t read;   /* how many bytes of the part were read */
@@ -34,9 +32,7 @@ static void part_dealloc(PyObject *object) {
     Part *self = (Part *)object;
     close_window(&self->window);
     PyMem_Free(self->block);
-    maker_end(&self->maker);
-    PyBuffer_Release(&self->view);
-    plain_dealloc(object);
+    reader_dealloc(object);
 }
 
 /* Part(form, data, type, errors): it gives nothing before begin. */
@@ -198,5 +194,87 @@ static PyObject *part_next(PyObject *object) {
 static PyMethodDef part_methods[] = {{"begin", part_begin, METH_VARARGS, NULL}, {NULL, NULL, 0, NULL}};
 static PyType_Slot part_slots[] = {{Py_tp_new, part_new},         {Py_tp_dealloc, part_dealloc},
                                    {Py_tp_iter, PyObject_SelfIter}, {Py_tp_iternext, part_next},
-                                   {Py_tp_methods, part_methods}, {0, NULL}};
-PyType_Spec part_spec = {"noddychest._noddychest.Part", sizeof(Part), 0, Py_TPFLAGS_DEFAULT, part_slots};
+                                   {Py_tp_methods, part_methods}, {Py_tp_traverse, reader_traverse}, {0, NULL}};
+PyType_Spec part_spec = {"noddychest._noddychest.Part", sizeof(Part), 0, Py_TPFLAGS_DEFAULT | Py_TPFLAGS_HAVE_GC, part_slots};
+
+/* The pieces of all parts. It asks for the next part when those of the one before are given, and that may run any code: one call goes at a
+ * time. */
+typedef struct {
+    PyObject_HEAD
+    PyObject *parts; /* an iterator over iterables of pieces; NULL at the end, and after an error */
+    PyObject *part;  /* an iterator over the pieces of one; NULL before it */
+    char busy;
+} Stream;
+
+static void stream_dealloc(PyObject *object) {
+    Stream *self = (Stream *)object;
+    PyObject_GC_UnTrack(object);
+    Py_XDECREF(self->parts);
+    Py_XDECREF(self->part);
+    plain_dealloc(object);
+}
+
+static int stream_traverse(PyObject *object, visitproc visit, void *arg) {
+    Stream *self = (Stream *)object;
+    Py_VISIT(Py_TYPE(object));
+    Py_VISIT(self->parts);
+    Py_VISIT(self->part);
+    return 0;
+}
+
+/* Stream(parts) */
+static PyObject *stream_new(PyTypeObject *type, PyObject *args, PyObject *names) {
+    PyObject *parts;
+    Stream *self;
+    (void)names;
+    if (!PyArg_ParseTuple(args, "O:Stream", &parts))
+        return NULL;
+    self = (Stream *)PyType_GenericAlloc(type, 0);
+    if (self == NULL)
+        return NULL;
+    self->parts = PyObject_GetIter(parts);
+    if (self->parts == NULL) {
+        Py_DECREF(self);
+        return NULL;
+    }
+    return (PyObject *)self;
+}
+
+/* Goes to the next part. Answers 0 where there is none, or with an error. */
+static int next_part(Stream *self) {
+    PyObject *part = self->parts == NULL ? NULL : PyIter_Next(self->parts);
+    if (part == NULL) {
+        Py_CLEAR(self->parts);
+        return 0;
+    }
+    self->part = PyObject_GetIter(part);
+    Py_DECREF(part);
+    return self->part != NULL;
+}
+
+static PyObject *next_of_all(Stream *self) {
+    while (self->part != NULL || next_part(self)) {
+        PyObject *made = PyIter_Next(self->part);
+        if (made != NULL || PyErr_Occurred())
+            return made;
+        Py_CLEAR(self->part);
+    }
+    return NULL;
+}
+
+static PyObject *stream_next(PyObject *object) {
+    Stream *self = (Stream *)object;
+    PyObject *made;
+    if (__atomic_exchange_n(&self->busy, 1, __ATOMIC_ACQUIRE)) {
+        PyErr_SetString(PyExc_RuntimeError, "this iterator is in use by another call: give each thread its own");
+        return NULL;
+    }
+    made = next_of_all(self);
+    __atomic_store_n(&self->busy, 0, __ATOMIC_RELEASE);
+    return made;
+}
+
+static PyType_Slot stream_slots[] = {{Py_tp_new, stream_new},         {Py_tp_dealloc, stream_dealloc},
+                                     {Py_tp_iter, PyObject_SelfIter}, {Py_tp_iternext, stream_next},
+                                     {Py_tp_traverse, stream_traverse}, {0, NULL}};
+PyType_Spec stream_spec = {"noddychest._noddychest.Stream", sizeof(Stream), 0, Py_TPFLAGS_DEFAULT | Py_TPFLAGS_HAVE_GC, stream_slots};

@@ -1,8 +1,10 @@
 """The codecs: decoding with each handler of errors, encoding, in parts, as streams, and every split."""
 import codecs
+import copy
 import io
 import itertools
 import os
+import pickle
 import random
 import tempfile
 import time
@@ -372,6 +374,26 @@ def told(data, encoding, errors):
         return data.decode(encoding, errors)
     except UnicodeDecodeError as error:
         return error.start, error.end, error.reason
+
+
+class CopiesOfErrors(unittest.TestCase):
+    def test_are_of_the_same_byte(self):
+        """Also of one that a handler raised for a later byte than the first."""
+        def second(error):
+            if error.start > 1:
+                raise error
+            return "?", error.end
+
+        codecs.register_error("noddychest.second", second)
+        for data, errors in ((b"a\xffbcd\xe2\x82x", "noddychest.second"), (b"a\xed\xa0\x80bc\xf0!", "surrogatepass"), (b"\xff", "strict")):
+            with self.assertRaises(FaultError) as raised:
+                data.decode("noddychest-utf8", errors)
+            error = raised.exception
+            error.more = "more"
+            for again in (copy.copy(error), copy.deepcopy(error), pickle.loads(pickle.dumps(error))):
+                for name in ("encoding", "object", "start", "end", "reason", "offset", "error", "more"):
+                    self.assertEqual(getattr(again, name), getattr(error, name), (name, data))
+                self.assertEqual((type(again), str(again)), (FaultError, str(error)))
 
 
 class WeirdHandlers(unittest.TestCase):

@@ -639,6 +639,80 @@ class Streams(unittest.TestCase):
                     list(stream(wrong))
 
 
+class OneStepAtATime(unittest.TestCase):
+    """A stream whose step is asked for while another one goes on."""
+
+    def test_file_that_asks_for_pieces(self):
+        for stream in (stream_pieces, stream_faults):
+            for last in (b"", None):
+                file = Asking(last)
+                file.pieces = stream(file)
+                found = [*itertools.islice(file.pieces, 2)]
+                self.assertEqual(([it.offset for it in found], file.refused), ([0, 1], 1))
+                if last is None:
+                    self.assertRaises(TypeError, next, file.pieces)
+                self.assertEqual(([*file.pieces], file.refused), ([], 2))
+
+    def test_parts_that_ask_for_pieces(self):
+        def parts():
+            for part in (b"a", b"b"):
+                self.assertRaises(RuntimeError, next, found[0])
+                yield part
+            self.assertRaises(RuntimeError, list, found[0])
+
+        found = []
+        found.append(stream_pieces(parts()))
+        self.assertEqual("".join(it.char for it in found[0]), "ab")
+
+    def test_threads_that_share_one(self):
+        """While one waits for the file, another one is refused; no piece is lost, and none comes twice."""
+        for stream in (stream_pieces, stream_faults):
+            file = Waiting([b"\xff" * 5] * 20)
+            found, offsets = stream(file), []
+
+            def take():
+                while True:
+                    try:
+                        piece = next(found, None)
+                    except RuntimeError:
+                        time.sleep(0)
+                        continue
+                    if piece is None:
+                        return
+                    offsets.append(piece.offset)
+
+            run_all([take] * 4)
+            self.assertEqual((sorted(offsets), file.most), ([*range(100)], 1))
+
+
+class Asking:
+    """A file that asks for a piece of its own text whenever it is read."""
+
+    def __init__(self, last):
+        self.left, self.refused = [b"\xff\xff", last], 0
+
+    def read(self, _):
+        try:
+            next(self.pieces)
+        except RuntimeError:
+            self.refused += 1
+        return self.left.pop(0)
+
+
+class Waiting:
+    """A file that takes its time, and counts how many read it at once."""
+
+    def __init__(self, left):
+        self.left, self.at_once, self.most = left, 0, 0
+
+    def read(self, _):
+        self.at_once += 1
+        self.most = max(self.most, self.at_once)
+        time.sleep(0.002)
+        self.at_once -= 1
+        return self.left.pop(0) if self.left else b""
+
+
 class Examples(unittest.TestCase):
     def test_of_methods(self):
         """(Those of classes and functions are run with the modules.)"""

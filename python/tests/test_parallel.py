@@ -2,6 +2,7 @@
 import errno
 import glob
 import hashlib
+import io
 import os
 import random
 import resource
@@ -11,6 +12,7 @@ import sys
 import tempfile
 import threading
 import time
+import types
 import unittest
 from unittest import mock
 
@@ -115,6 +117,15 @@ class SameAsOne(InFolder):
         for call in (lambda it: parallel.check(self.path, progress=it), lambda it: parallel.recode(self.path, self.out, "utf8", "utf8", progress=it)):
             self.assertRaises(ZeroDivisionError, call, lambda *it: 1 / 0)
         self.assertEqual(self.left(), ["out"])
+
+    def test_standard_error_that_is_none(self):
+        """It is closed, or a program has put something else in its place."""
+        closed = io.StringIO()
+        closed.close()
+        for it in (None, closed, types.SimpleNamespace(write=lambda text: None)):
+            with mock.patch.object(sys, "stderr", it):
+                self.assertEqual((parallel.check(b"a\xff").offsets.tolist(), parallel.count(b"a\n").lines), ([1], 1))
+                self.assertEqual(parallel.recode(b"a\xff", self.out, "utf8", "utf8").replaced, 1)
 
 
 class Refused(InFolder):

@@ -1,5 +1,6 @@
 """Pieces, from both ends, and the calls about whole bytes."""
 import collections.abc
+import gc
 import itertools
 import os
 import pickle
@@ -7,11 +8,18 @@ import random
 import re
 import sys
 import unittest
+import weakref
 
 import noddychest
-from noddychest import Ends, ErrorKind, Piece, boundary_before, char_count, first_fault, is_valid, pieces
+from noddychest import (Decoder, Ends, ErrorKind, Piece, boundary_before, char_count, faults, first_fault, is_valid, pieces, stream_faults,
+                        stream_pieces)
 
 import outside
+
+try:
+    import _testcapi
+except ImportError:
+    _testcapi = None
 
 # Each kind of fault of UTF-8, by hand from RFC 3629: bytes and the errors of their faults.
 KINDS = [
@@ -205,6 +213,52 @@ class BothEnds(unittest.TestCase):
         back = reversed(ends)
         self.assertEqual([next(ends).char, next(back).char, next(back).char, next(ends).char], list("adcb"))
         self.assertIsNone(next(back, None))
+
+
+class WantOfMemory(unittest.TestCase):
+    @unittest.skipIf(_testcapi is None, "this Python has no _testcapi")
+    def test_no_piece_is_lost(self):
+        """Each allocation of the second step fails in turn. The iterator goes on where it was."""
+        data = b"\xff\xfe\xfd"
+        ways = {"pieces": lambda: iter(pieces(data)), "reversed": lambda: reversed(pieces(data)), "faults": lambda: faults(data),
+                "Ends": lambda: Ends(data), "from the back": lambda: reversed(Ends(data))}
+        for name, make in ways.items():
+            want, raised = [it.offset for it in make()], 0
+            for number in range(6):
+                it = make()
+                found, second = [next(it)], None
+                try:
+                    _testcapi.set_nomemory(number, number + 1)
+                    try:
+                        second = next(it)
+                    finally:
+                        _testcapi.remove_mem_hooks()
+                except MemoryError:
+                    raised += 1
+                found += [second] if second else []
+                self.assertEqual([piece.offset for piece in [*found, *it]], want, (name, number))
+            self.assertGreater(raised, 0, name)
+
+
+class Circles(unittest.TestCase):
+    def test_are_collected(self):
+        """Bytes that have an iterator over their own pieces go away, once nobody else has them."""
+        ways = {"pieces": lambda it: iter(pieces(it)), "reversed": lambda it: reversed(pieces(it)), "faults": faults, "Ends": Ends,
+                "feed": lambda it: Decoder().feed(it), "feed_faults": lambda it: Decoder().feed_faults(it),
+                "stream_pieces": lambda it: stream_pieces([it]), "stream_faults": lambda it: stream_faults([it])}
+        for name, make in ways.items():
+            for steps in (0, 1):
+                data = Owner(b"\xff" * 500)
+                data.mine = make(data)
+                self.assertEqual(len([*itertools.islice(data.mine, steps)]), steps)
+                seen = weakref.ref(data)
+                del data
+                gc.collect()
+                self.assertIsNone(seen(), name)
+
+
+class Owner(bytearray):
+    pass
 
 
 class Errors(unittest.TestCase):

@@ -92,6 +92,8 @@ class Program(unittest.TestCase):
             status, out, err = ran(*words)
             self.assertEqual((status, out), (2, b""), words)
             self.assertIn("usage: python3 -m noddychest", err)
+        status, out, err = ran("recode", "--from", "utf8", "--to", "utf8", "--output", "-", self.file(b"a"), cwd=self.folder)
+        self.assertEqual((status, out, "standard output" in err, os.listdir(self.folder)), (2, b"", True, ["file"]))
         status, out, _ = ran("--help")
         self.assertEqual((status, b"Exit status" in out), (0, True))
 
@@ -101,11 +103,33 @@ class Program(unittest.TestCase):
             self.assertEqual((status, out), (3, b""), words)
             self.assertRegex(err, r"^noddychest: .*\n$")
 
+    def test_addresses_without_fsspec(self):
+        for words in (["check", "--jobs", "2"], ["recode", "--from", "utf8", "--to", "utf8", "--output", self.folder + "/out"]):
+            status, out, err = ran(*words, "memory://none", env=dict(os.environ, PYTHONPATH=self.without("fsspec")))
+            self.assertEqual((status, out, err), (3, b"", "noddychest: there is no fsspec\n"))
+
+    def without(self, name):
+        """A folder in which a module of this name cannot be imported."""
+        with open(os.path.join(self.folder, name + ".py"), "w") as file:
+            file.write(f"raise ImportError('there is no {name}')\n")
+        return os.pathsep.join([self.folder, *filter(None, [os.environ.get("PYTHONPATH")])])
+
     def test_streams_that_are_closed(self):
         for words in (["pieces"], ["check"], ["recode", "--from", "utf8", "--to", "utf8"]):
             for closed, more in (("<&-", []), (">&-", [self.file(b"a")])):
                 it = subprocess.run(["sh", "-c", '"$@" ' + closed, "sh", sys.executable, "-m", "noddychest", *words, *more], stdout=subprocess.PIPE, stderr=subprocess.PIPE)
                 self.assertEqual((it.returncode, it.stdout, it.stderr.count(b"\n")), (3, b"", 1), (words, closed, it.stderr))
+
+    def test_standard_error_that_is_closed_or_full(self):
+        """The status is the same, and no message comes among the output."""
+        path = self.file(b"ab\xff")
+        recoding = ["recode", "--from", "utf8", "--to", "utf8", "--errors", "strict", path]
+        found = path.encode() + f": offset 2: {ErrorKind.NON_UTF8_BYTE.reason}\n".encode()
+        for words, status, out in ((recoding, 1, b"ab"), ([*recoding, "--output", path + "-out"], 1, b""), (["check", path + "-none"], 3, b""),
+                                   (["check", "--jobs", "2", path], 1, found), ([*recoding[:5], path, "--output", path + "-out"], 0, b"")):
+            for to in ("2>&-", "2>/dev/full"):
+                it = subprocess.run(["sh", "-c", '"$@" ' + to, "sh", sys.executable, "-m", "noddychest", *words], stdout=subprocess.PIPE)
+                self.assertEqual((it.returncode, it.stdout), (status, out), (words, to))
 
     def test_input_that_is_the_output(self):
         path = self.file(b"a\xff")
@@ -121,6 +145,14 @@ class Program(unittest.TestCase):
             file.write(b"a\xff")
         expected = name + f": offset 1: {ErrorKind.NON_UTF8_BYTE.reason}\n".encode()
         self.assertEqual(ran("check", name, env=dict(os.environ, PYTHONIOENCODING="utf-8")), (1, expected, ""))
+
+    def test_names_whatever_the_output_is_encoded_in(self):
+        name = os.path.join(self.folder, "é").encode()
+        with open(name, "wb") as file:
+            file.write(b"a\xff")
+        expected = name + f": offset 1: {ErrorKind.NON_UTF8_BYTE.reason}\n".encode()
+        for encoding in ("ascii", "latin-1", "utf-16"):
+            self.assertEqual(ran("check", name, env=dict(os.environ, PYTHONUTF8="1", PYTHONIOENCODING=encoding)), (1, expected, ""))
 
     @unittest.skipUnless(os.path.exists("/dev/full"), "there is no /dev/full")
     def test_writes_that_fail(self):

@@ -1,5 +1,6 @@
 """Shards: what they answer, put together, is what the whole answers, for each encoding and size."""
 import array
+import ctypes
 import mmap
 import os
 import pickle
@@ -9,7 +10,7 @@ import unittest
 
 import noddychest
 from noddychest import (ChangedError, Counts, ErrorKind, FaultError, Shard, char_count, faults, faults_array, first_fault, is_valid, offsets,
-                        pieces, recode, recoded_len, shards)
+                        parallel, pieces, recode, recoded_len, shards)
 
 import outside
 
@@ -156,6 +157,8 @@ class Sources(unittest.TestCase):
             self.assertRaises(TypeError, pickle.dumps, cut[0])
         del cut, it
         self.assertRaises(BufferError, shards, memoryview(b"abcd")[::2], 5)
+        for it in (b"", array.array("I"), (ctypes.c_char * 0)(), (ctypes.c_char * 3 * 0)(), (ctypes.c_uint16 * 0 * 3)()):
+            self.assertEqual((shards(it, 7), parallel.count(it).size), ([], 0))
 
     def test_changed_sources(self):
         calls = [lambda it: list(it.faults()), Shard.counts, Shard.char_count, lambda it: it.recode("utf16le"), Shard.faults_array,

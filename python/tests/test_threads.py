@@ -12,7 +12,7 @@ import unittest
 
 import noddychest
 from noddychest import (Decoder, Ends, FaultError, Recoder, changed_range, char_count, faults, first_fault, is_valid, number_of, offset_of, pieces,
-                        recode, recoded_len)
+                        recode, recoded_len, stream_pieces)
 
 SIZE = 32 << 20
 TRIES = 100
@@ -192,7 +192,7 @@ class Copies(unittest.TestCase):
 
     def test_others_raise(self):
         """What goes over bytes has no copies: they would share what is left."""
-        for it in (Ends(b"abc"), iter(pieces(b"abc")), reversed(pieces(b"abc")), faults(b"abc")):
+        for it in (Ends(b"abc"), iter(pieces(b"abc")), reversed(pieces(b"abc")), faults(b"abc"), stream_pieces([b"abc"])):
             self.assertRaises(TypeError, copy.copy, it)
             self.assertRaises(TypeError, pickle.dumps, it)
         self.assertEqual(list(copy.copy(pieces(b"abc"))), list(pieces(b"abc")))

@@ -14,7 +14,8 @@ b'f\\x00\\xfd\\xffb\\x00'
 'hé\\\\xe2\\\\x82A'
 
 Data is any bytes-like object: `bytes`, `bytearray`, `memoryview`, `array.array`, `mmap.mmap`. It is not copied as a whole, and counts
-at its size in bytes. A `str` is a TypeError, and bytes that do not lie one after another in memory are a BufferError.
+at its size in bytes. A `str` is a TypeError, and bytes that do not lie one after another in memory are a BufferError
+(those of numpy a ValueError).
 
 Importing the package registers the codecs `noddychest-utf8`, `noddychest-utf16le` and `noddychest-utf16be`.
 """

@@ -5,6 +5,7 @@ Exit status: 0 if all input is valid (after `recode` without `--errors strict` a
 from __future__ import annotations
 
 import argparse
+import contextlib
 import errno
 import os
 import stat
@@ -53,6 +54,13 @@ def _jobs(word: str) -> int:
     if not word.isascii() or not word.isdigit() or int(word) < 1:
         raise argparse.ArgumentTypeError("a number from 1 on is required")
     return int(word)
+
+
+def _tell(words: str) -> None:
+    """Writes a line on standard error, as far as that can be written. (If it is closed, `print` would write on standard output.)"""
+    if sys.stderr is not None:
+        with contextlib.suppress(OSError):
+            print(words, file=sys.stderr)
 
 
 def _open(name: str) -> BufferedReader:
@@ -124,7 +132,7 @@ def _recode(name: str, from_: str, to: str, errors: str) -> int:
             out.write(recoder.finish())
         except FaultError as fault:
             out.flush()
-            print(f"{name}: offset {fault.offset}: {fault.error.reason}", file=sys.stderr)
+            _tell(f"{name}: offset {fault.offset}: {fault.error.reason}")
             return 1
     return 0
 
@@ -133,7 +141,7 @@ def _recode_into(asked: argparse.Namespace) -> int:
     try:
         parallel.recode(asked.file, asked.output, asked.from_, asked.to, asked.jobs, errors=asked.errors, resume=asked.resume)
     except FaultError as fault:
-        print(f"{asked.file}: offset {fault.offset}: {fault.error.reason}", file=sys.stderr)
+        _tell(f"{asked.file}: offset {fault.offset}: {fault.error.reason}")
         return 1
     return 0
 
@@ -143,7 +151,7 @@ def _run(asked: argparse.Namespace) -> int:
         return _recode_into(asked)
     if not isinstance(sys.stdout, TextIOWrapper):  # (it was closed)
         raise OSError(errno.EBADF, os.strerror(errno.EBADF))
-    sys.stdout.reconfigure(errors="surrogateescape")  # (names of files are written as they are)
+    sys.stdout.reconfigure(encoding=sys.getfilesystemencoding(), errors="surrogateescape")  # (names of files are written as they are)
     if asked.job == "check":
         status = max(_check(name, asked.encoding, asked.jobs) for name in asked.file)
     elif asked.job == "pieces":
@@ -161,10 +169,12 @@ def main() -> int:
         parser.error("--jobs and --resume need --output")
     if asked.job == "recode" and asked.output is not None and asked.file == "-":
         parser.error("--output needs a FILE")
+    if asked.job == "recode" and asked.output == "-":
+        parser.error("--output needs the name of a file: without it the text goes to standard output")
     try:
         return _run(asked)
-    except OSError as error:
-        print(f"noddychest: {error}", file=sys.stderr)
+    except (OSError, ImportError) as error:  # (a URL asks for fsspec)
+        _tell(f"noddychest: {error}")
         os.dup2(os.open(os.devnull, os.O_WRONLY), 1)  # (nothing more is written at the end)
         return 3
 

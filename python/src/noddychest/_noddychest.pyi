@@ -1,4 +1,4 @@
-from collections.abc import Callable, Iterator
+from collections.abc import Callable, Iterable, Iterator
 from typing import Optional, TypeVar, Union
 
 from _typeshed import ReadableBuffer
@@ -59,6 +59,10 @@ class Part(Iterator[Piece]):
     def __new__(cls, form: int, data: ReadableBuffer, type: type[Piece], errors: _Errors, /) -> Part: ...
     def __next__(self) -> Piece: ...
     def begin(self, asked: int, offset: int, held: bytes, /) -> tuple[int, bytes]: ...
+
+class Stream(Iterator[Piece]):
+    def __new__(cls, parts: Iterable[Iterable[Piece]], /) -> Stream: ...
+    def __next__(self) -> Piece: ...
 
 class Recoder:
     replaced: int

@@ -140,14 +140,15 @@ def _stream(decoder: Decoder, fed: Callable[[ReadableBuffer], Iterator[Piece]], 
     read = getattr(parts, "read1", None) or getattr(parts, "read", None)
     each = iter(functools.partial(read, _BLOCK), b"") if read is not None else iter(parts)  # type: ignore[arg-type]
     last = (decoder.finish() for _ in range(1))  # (once all parts were fed)
-    return itertools.chain.from_iterable(itertools.chain(map(fed, each), last))
+    return _noddychest.Stream(itertools.chain(map(fed, each), last))
 
 
 def stream_pieces(parts: Parts, encoding: str = "utf8") -> Iterator[Piece]:
     """The pieces of input in parts, from the first to the last: what a Decoder gives for all of them.
 
     parts: a binary file, which is read in blocks of 64 KiB or of what there is, or else any iterable of bytes-like objects.
-    Errors: LookupError for an unknown encoding, TypeError for what is no such thing, and what the file or the iterable raises.
+    Errors: LookupError for an unknown encoding, TypeError for what is no such thing, and what the file or the iterable raises: that ends the
+    pieces. RuntimeError for a step that is asked for while another one goes on, by another thread or by the file itself; nothing is lost then.
     Cost: one part is in memory at a time, and a piece is made when it is asked for.
 
     >>> [(piece.offset, piece.char) for piece in stream_pieces([b"n\\xc3", b"\\xa9!"])]

@@ -6,7 +6,7 @@ import enum
 import itertools
 import operator
 from collections.abc import Iterator, Sequence
-from typing import TYPE_CHECKING, NamedTuple, Optional, Union, overload
+from typing import TYPE_CHECKING, Any, NamedTuple, Optional, Union, overload
 
 from . import _noddychest
 from ._names import STANDARD, form_of
@@ -84,6 +84,10 @@ class FaultError(UnicodeDecodeError):
 
     offset: int
     error: ErrorKind
+
+    def __reduce__(self) -> tuple[Any, ...]:
+        # (`args` are those of the first invalid byte that a handler of errors was asked for, and this may be a later one)
+        return type(self), (self.encoding, self.object, self.start, self.end, self.reason), self.__dict__
 
 
 def fault_error(encoding: str, data: bytes, start: int, length: int, kind: int, offset: int) -> FaultError:

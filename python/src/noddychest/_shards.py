@@ -361,7 +361,8 @@ def shards(source: Source, size: int, encoding: str = "utf8") -> list[Shard]:
         place = os.fspath(source)
     else:
         _noddychest.check(source)  # (its errors say more than those of memoryview)
-        place = memoryview(source).cast("B")
+        view = memoryview(source)
+        place = view.cast("B") if view.nbytes > 0 else memoryview(b"")  # (what has no items is not cast)
     ends = [0]
     with opened(place) as it:
         stamp = it.stamp()

@@ -60,11 +60,19 @@ def _some_jobs(jobs: Optional[int]) -> int:
     return jobs
 
 
+def _is_watched() -> bool:
+    """Whether standard error is a terminal. (It may be closed, or something that a program put in its place.)"""
+    try:
+        return sys.stderr.isatty()
+    except (AttributeError, ValueError):
+        return False
+
+
 class Bar:
     """What a call tells of its progress: to a function, or as a line on standard error, if that is a terminal and it takes a while."""
 
     def __init__(self, progress: Progress, total: int) -> None:
-        self._call = progress if callable(progress) else self._show if progress and sys.stderr.isatty() else None
+        self._call = progress if callable(progress) else self._show if progress and _is_watched() else None
         self._total, self._done, self._begun, self._shown = total, 0, time.monotonic(), 0.0
 
     def add(self, size: int) -> None:
