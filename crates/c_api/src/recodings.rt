@@ -204,9 +204,8 @@ fn feed_inner(
     if progress.is_full { FULL } else { DONE }
 }
 
-/// Puts out what is held, which nothing follows, as far as there is room, and adds to `replaced` how many U+FFFD it wrote. Answers 0
-/// where nothing is held any more, 1 where the next character does not fit, and 2, with nothing changed, where the struct is no
-/// recoder.
+/// Puts out what is held, which nothing follows, and adds to `replaced` how many U+FFFD it wrote. Answers 0 where nothing is held any
+/// more, 1 where the next character does not fit, and 2, with nothing changed, where the struct is no recoder.
 #[unsafe(no_mangle)]
 pub extern "C" fn nody_recoder_finish(
     recoder: &mut NodyRecoder,
