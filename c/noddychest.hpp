@@ -448,7 +448,7 @@ inline std::optional<fault> recode_strict(form from, form to, bytes text, std::s
     return fault{read, found.len, static_cast<kind>(found.kind)};
 }
 
-// Text in the other code, with U+FFFD for each fault.
+// UTF-8 as UTF-16 in units, and the other way about, with U+FFFD for each fault.
 //
 //     std::u16string wide = nody::to_utf16("na\xC3\xAFve");
 inline std::u16string to_utf16(std::string_view text) {
