@@ -754,7 +754,7 @@ nody_decoder_t nody_decoder(nody_form_t form);
 
 /* Feeds the next part of the input. The pieces do not depend on how the input is divided into parts, nor on the room.
  *
- * They are those that nody_utf8_pieces gives of the whole input, with the same kinds but for one case. A decoder names a byte that
+ * They are those that nody_utf8_pieces gives of the whole input, with the same kinds, except in one case: a decoder names a byte that
  * breaks a character as soon as it sees that byte. So for the first byte of F0 41, at the end of the input, the kind is
  * NODY_KIND_INTERRUPTED_SEQUENCE, and not NODY_KIND_TOO_FEW_BYTES (as nody_utf8_streamed_at has it).
  *
