@@ -19,7 +19,7 @@
 // std::u8string_view and a std::span of std::byte, of char or of unsigned char. Like a view it holds nothing: what it shows has to live as
 // long as it is used.
 //
-// ERRORS. What is invalid is no exception: it is told by std::optional and by enums. Calls that make a std::string throw what that
+// ERRORS. Invalid input throws no exception: std::optional and enums tell of it. Calls that make a std::string throw what that
 // throws (std::bad_alloc, std::length_error); the others are noexcept. Offsets and lengths count bytes, or units where the text is in
 // units.
 #ifndef NODDYCHEST_HPP
