@@ -278,8 +278,8 @@ def in_short():
         lines.append([task, "Chinese", NAMES[side], f"{row.numbers['ours']:.2f} ns", f"{row.numbers[side]:.2f} ns", marked_ratio(row.ratio(side))])
     row, side = worst([it for work in OF_C_IN_SHORT for it in rows_of_c(work)])
     lines.append(worst_cells(OF_C_IN_SHORT[row.key[0]].replace(", from C", ""), TEXTS.get(row.key[1], row.key[1]), row, side))
-    told = ("Nanoseconds for a byte, called from C. The ratio is our time divided by theirs: above 1 we are slower. The last row is, of all calls from C, "
-            "the input and the library for which our ratio is highest.\n\n")
+    told = ("Nanoseconds for a byte, called from C. The ratio is our time divided by theirs: above 1 we are slower. The last row is our worst: "
+            "the highest ratio of all calls from C, with any input and beside any library.\n\n")
     return told + table(["task", "input", "compared with", "Noddychest", "theirs", "ratio"], lines)
 
 

@@ -1,7 +1,8 @@
-/* Noddychest: decodes, validates, divides and converts UTF-8 and UTF-16. Its code is machine-proved. For C and C++.
+/* Noddychest: decodes, validates, divides and converts UTF-8 and UTF-16. For C and C++. The source of its calls is machine-proved; the
+ * inline functions of this header are only tested.
  *
  * LANGUAGES AND PLATFORMS. C99 and later, C++98 and later. Linux on x86-64 (with x86-64-v2) and on 64-bit ARM, with glibc or
- * musl. No call allocates memory, reads a locale, keeps anything, or takes more than 5 KiB of the stack. (On x86-64 the library has
+ * musl; README.md has other platforms. No call allocates memory, reads a locale, keeps anything, or takes more than 5 KiB of the stack. (On x86-64 the library has
  * one byte of its own, which says what the processor has. It is written when the library is loaded, and never again.) What lasts
  * from call to call is in structs of yours, which you may copy. Calls on different structs may run in different threads at the same
  * time.
@@ -494,7 +495,7 @@ size_t nody_undecided_len(nody_form_t form, const uint8_t *bytes, size_t len);
  * and big-endian UTF-16 FE FF. Little-endian UTF-32 begins with FF FE too: this call takes it for UTF-16.
  *
  * bytes, len: the input. Its first three bytes are enough.
- * form: receives the form if there is a mark. Else it stays as it was: put the form there that you take then.
+ * form: receives the form if there is a mark. Else it stays as it was: so set it before to the form that you assume without a mark.
  * Result: the length of the mark in bytes, 2 or 3; 0 if the input begins with none.
  * Errors: none. Cost: constant.
  *
@@ -753,7 +754,7 @@ nody_decoder_t nody_decoder(nody_form_t form);
 
 /* Feeds the next part of the input. The pieces do not depend on how the input is divided into parts, nor on the room.
  *
- * They are those that nody_utf8_pieces gives of the whole input, with the same kinds but for one case. A decoder names a byte that
+ * They are those that nody_utf8_pieces gives of the whole input, with the same kinds, except in one case: a decoder names a byte that
  * breaks a character as soon as it sees that byte. So for the first byte of F0 41, at the end of the input, the kind is
  * NODY_KIND_INTERRUPTED_SEQUENCE, and not NODY_KIND_TOO_FEW_BYTES (as nody_utf8_streamed_at has it).
  *
@@ -817,8 +818,8 @@ nody_status_t nody_decoder_finish(nody_decoder_t *decoder, nody_located_t *out, 
 nody_status_t nody_decoder_feed_faults(nody_decoder_t *decoder, const uint8_t *in, size_t in_len, nody_located_t *out, size_t room,
                                        size_t *read, size_t *written);
 
-/* Ends the input: gives the faults that nody_decoder_finish gives. All that it gives are faults, but where you changed the bytes that
- * the decoder holds.
+/* Ends the input: gives the faults of what the decoder holds, as nody_decoder_finish does. The two differ only if you changed the bytes
+ * that the decoder holds.
  *
  * decoder, out, room, written: as for nody_decoder_finish.
  * Result, errors, cost: as for nody_decoder_finish.
@@ -908,7 +909,7 @@ int nody_lanes(void);
 
 /* ---- Rarely needed ---------------------------------------------------------------------------------------------------------- */
 
-/* nody_boundary_before under another name, for inputs that are divided among workers; new programs need it not. If each shard ends
+/* nody_boundary_before under another name, for inputs that are divided among workers; new programs do not need it. If each shard ends
  * where this call says, and the last one at len, you may recode each by itself, also on several machines, and join the outputs.
  *
  * from: the form of the input. bytes, len: the input. at: about where the shard should end.

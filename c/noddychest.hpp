@@ -19,7 +19,7 @@
 // C++20 of a std::u8string, a std::u8string_view and a std::span of std::byte, of char or of unsigned char. Like a view it holds nothing: what it shows has to live as
 // long as it is used.
 //
-// ERRORS. What is invalid is no exception: it is told by std::optional and by enums. Calls that make a std::string throw what that
+// ERRORS. Invalid input throws no exception: std::optional and enums tell of it. Calls that make a std::string throw what that
 // throws (std::bad_alloc, std::length_error); the others are noexcept. Offsets and lengths count bytes, or units where the text is in
 // units.
 #ifndef NODDYCHEST_HPP
@@ -449,7 +449,7 @@ inline std::optional<fault> recode_strict(form from, form to, bytes text, std::s
     return fault{read, found.len, static_cast<kind>(found.kind)};
 }
 
-// Text in the other code, with U+FFFD for each fault.
+// UTF-8 as UTF-16 in units, and the other way about, with U+FFFD for each fault.
 //
 //     std::u16string wide = nody::to_utf16("na\xC3\xAFve");
 inline std::u16string to_utf16(std::string_view text) {

@@ -115,8 +115,8 @@ export function numberOf(data: Bytes, offset: number, encoding?: Encoding): numb
 export function changedRange(data: Bytes, start: number, end: number, encoding?: Encoding): { start: number; end: number };
 
 /**
- * The last offset up to `at` that is inside of no character, and in UTF-16 of no unit; the length where `at` is beyond it. Text that is
- * divided there gives the same pieces. What is no whole number from 0 on is a `RangeError`. O(1).
+ * The last offset up to `at` that is not inside a character, and in UTF-16 not inside a 16-bit unit; the length if `at` is beyond it.
+ * Text that is divided there gives the same pieces. An `at` that is not a whole number from 0 on is a `RangeError`. O(1).
  */
 export function boundaryBefore(data: Bytes, at: number, encoding?: Encoding): number;
 

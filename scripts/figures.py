@@ -82,10 +82,10 @@ def bytes_per_second(most):
 
 
 def most_memory():
-    """The most MiB of memory that recode was seen to take, rounded up."""
+    """The most MiB of memory that recode was seen to take, rounded up to halves, since runs differ by a quarter."""
     told = [it.split(": ")[1].split() for it in lines_of("bench/stored/recode-programs") if it.startswith("the most memory of recode: ")]
     most = max([int(it) for it, _ in told] + [int(it) for _, it in grown("bytes +memory")])
-    return f"{math.ceil(most / 102.4) / 10:.1f}"
+    return f"{math.ceil(most / 512) / 2:.1f}"
 
 
 def of_peers():
@@ -222,7 +222,7 @@ FIGURES = {
     "docs/rattle/GUIDE.md": [(r"in about ([\d.]+) nanoseconds a byte", lambda: (f"{rows('valid', 2)[('utf8', 'japanese')]['ours']:.2f}",))],
     "docs/THE-CUT.md": [(r"in ([\d,]+) random inputs each", lambda: (of_peers(),)), (r"at least (\w+) bytes before them, or at least (\w+) after", damage)],
     "CONTRIBUTING.md": [(r"`logic (\w+)`", lambda: (logic(),)), (r"has the files of (\w+) changes", lambda: (changes(),)),
-                        (r"The first check of all (\w+) libraries", lambda: (libraries(),)), (r"each of more than ([\d,]+) samples of", lambda: (in_hundreds(wrong_bodies()),)),
+                        (r"The first check of all (\w+) libraries", lambda: (libraries(),)), (r"[Oo]f more than ([\d,]+) samples of", lambda: (in_hundreds(wrong_bodies()),)),
                         (r"compares more than ([\d,]+) wrong bodies with", lambda: (in_hundreds(wrong_bodies("/more-must-fail")),)),
                         (r"tries its (\d+) \|", lambda: (str(wrong_bodies("/utf_base/more-must-fail")),))],
     "python/README.md": [(r"The package itself, ([\d,]+) lines of C and Python", lambda: (lines_of_python(),))],
@@ -240,7 +240,7 @@ FIGURES = {
         (r"bytes takes at most (.+?) of encode_unicode's instructions, and (.+)\.", lambda: (
             is_within(ratios("instructions", 2, "rust", lambda it, _: it == "forward"), 1 / 3, "a third"), is_within(ratios("instructions", 2, "rust"), 1, "no work takes more"))),
         (r"A byte takes ([\d.]+ to [\d.]+) ns in inputs of up to 4 MiB, and ([\d.]+ to [\d.]+) in", lambda: bytes_per_second(1 << 23)),
-        (r"`recode` takes less than ([\d.]+) MiB", lambda: (most_memory(),)),
+        (r"`recode` took less than ([\d.]+) MiB", lambda: (most_memory(),)),
     ],
 }
 

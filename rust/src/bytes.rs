@@ -91,8 +91,8 @@ pub fn offset_of(bytes: &[u8], number: usize) -> Option<usize> {
     cuts::offset_of(bytes, number)
 }
 
-/// How many pieces begin before this offset: where one begins at it, its number, counted from 0. All of them, where the offset is the
-/// length or more.
+/// How many pieces begin before this offset. If a piece begins at the offset, this is its number, counted from 0. If the offset is the
+/// length or more, all pieces are counted.
 ///
 /// ```
 /// let bytes = b"h\xC3\xA9\xE2\x82A";
@@ -104,8 +104,8 @@ pub fn number_of(bytes: &[u8], offset: usize) -> usize {
     cuts::number_of(bytes, offset)
 }
 
-/// The last boundary between two pieces that is at most `at`. It is at most three bytes before it, and the length where `at` is no
-/// less. So `&bytes[..boundary_before(bytes, n)]` cuts to `n` bytes and no character in two.
+/// The last boundary between two pieces that is at most `at`. It is at most three bytes before `at`. If `at` is the length or more, it
+/// is the length. So `&bytes[..boundary_before(bytes, n)]` has at most `n` bytes, and splits no character.
 ///
 /// ```
 /// let bytes = "5€".as_bytes();

@@ -194,8 +194,8 @@ impl<W: Write> RecodingWriter<W> {
         RecodingWriter { inner: Some(inner), recoder, made: Block::new(), fault: None, is_writing: false }
     }
 
-    /// Writes what is held and what was gathered, and flushes the writer. After an error call it again to go on; after a fault of
-    /// a strict recoder that goes on after the fault.
+    /// Writes what is held and what was gathered, and flushes the writer. After an error call it again to go on. If the error was an
+    /// invalid byte, at which a strict recoder stopped, it goes on after that byte.
     ///
     /// ```
     /// use noddychest::{io::RecodingWriter, Form, Recoder};
@@ -274,7 +274,7 @@ impl<W: Write> RecodingWriter<W> {
         did.read
     }
 
-    /// Tells of the fault that the call before met.
+    /// Tells of the invalid byte at which the call before stopped.
     fn tell(&mut self) -> Result<()> {
         self.fault.take().map_or(Ok(()), |fault| Err(refused(fault)))
     }
@@ -306,7 +306,7 @@ impl<W: Write> Write for RecodingWriter<W> {
     }
 }
 
-/// Writes what was gathered and what is held, up to a fault of a strict recoder. Errors are ignored.
+/// Writes what was gathered and what is held, with a strict recoder up to the first invalid byte. Errors are ignored.
 impl<W: Write> Drop for RecodingWriter<W> {
     fn drop(&mut self) {
         if self.inner.is_some() && !self.is_writing {

@@ -448,7 +448,7 @@ pub fn recoded_len(from: Form, to: Form, bytes: &[u8]) -> usize {
 }
 
 /// The last place, up to `at`, where bytes of that form may be cut, so that each side can be recoded by itself and the two joined.
-/// It is at most three bytes before `at`, and the length where `at` is no less.
+/// It is at most three bytes before `at`. If `at` is the length or more, it is the length.
 ///
 /// ```
 /// use noddychest::{shard_end, Form};

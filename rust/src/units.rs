@@ -102,8 +102,8 @@ pub fn number_of(units: &[u16], offset: usize) -> usize {
     cuts::unit_number_of(units, offset)
 }
 
-/// The last boundary between two pieces that is at most `at`: `at` itself, or one before it where a character has two units there;
-/// the length where `at` is no less.
+/// The last boundary between two pieces that is at most `at`: `at` itself, or one unit before it if `at` is inside a character. If `at`
+/// is the length or more, it is the length.
 ///
 /// ```
 /// assert_eq!(noddychest::units::boundary_before(&[0x41, 0xD83D, 0xDE00], 2), 1);

@@ -6,9 +6,9 @@
 #[repr(C)]
 #[derive(Clone, Copy, Drop)]
 pub struct NodyPiece {
-    /// Its length in bytes or units: 1 for a fault, 0 where there is none.
+    /// Its length in bytes or units: 1 where it is invalid, 0 where there is none.
     pub len: usize,
-    /// The scalar, or 0 for a fault.
+    /// The number of the character, or 0 where it is invalid.
     pub scalar: u32,
     /// 0 for a character, else the number of the error, or of `NODY_KIND_NONE`.
     pub kind: u8,

@@ -19,7 +19,7 @@ pub struct NodyRecoder {
     pub count: u8,
     /// The bytes that are held, and others after them.
     pub held: [u8; 3],
-    /// How many faults the calls that replace them have replaced.
+    /// How many invalid bytes, lone surrogates and odd last bytes have become U+FFFD.
     pub replaced: u64,
 }
 
@@ -111,8 +111,8 @@ fn with_more(count: u64, more: usize) -> u64
     count.saturating_add(more as u64)
 }
 
-/// Feeds a part, as far as there is room, adds how many faults it replaced, and answers 0 where all of it was read, 1 where the next code does not fit,
-/// and 2, with nothing changed, where the struct is no recoder.
+/// Feeds a part, as far as there is room, and adds to `replaced` how many U+FFFD it wrote for what is invalid. Answers 0 where all of
+/// the part was read, 1 where the next character does not fit, and 2, with nothing changed, where the struct is no recoder.
 #[unsafe(no_mangle)]
 pub extern "C" fn nody_recoder_feed(
     recoder: &mut NodyRecoder,
@@ -204,8 +204,8 @@ fn feed_inner(
     if progress.is_full { FULL } else { DONE }
 }
 
-/// Puts out what is held, which nothing follows, as far as there is room, adds how many faults it replaced, and answers 0 where nothing is held any more,
-/// 1 where the next code does not fit, and 2, with nothing changed, where the struct is no recoder.
+/// Puts out what is held, which nothing follows, and adds to `replaced` how many U+FFFD it wrote. Answers 0 where nothing is held any
+/// more, 1 where the next character does not fit, and 2, with nothing changed, where the struct is no recoder.
 #[unsafe(no_mangle)]
 pub extern "C" fn nody_recoder_finish(
     recoder: &mut NodyRecoder,

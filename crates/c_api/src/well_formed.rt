@@ -7,7 +7,7 @@ ghost use Rattle.c_api.specs.Api.{IfForm, IsFirstFaultIn, IsForm};
 use crate::recodings::form_of;
 use cuts::Form;
 
-/// The offset of the first fault in the bytes, or how many there are where there is none.
+/// The offset of the first invalid byte, or how many bytes there are where none is invalid.
 #[unsafe(no_mangle)]
 pub extern "C" fn nody_utf8_valid_up_to(bytes: &[u8]) -> usize
     ensures { IsFirstFault utf8 bytes.now result }
@@ -15,7 +15,7 @@ pub extern "C" fn nody_utf8_valid_up_to(bytes: &[u8]) -> usize
     cuts::valid_up_to(bytes)
 }
 
-/// The offset of the first fault in the units, or how many there are where there is none.
+/// The offset of the first lone surrogate in the units, or how many units there are where there is none.
 #[unsafe(no_mangle)]
 pub extern "C" fn nody_utf16_valid_up_to(units: &[u16]) -> usize
     ensures { IsFirstFault utf16 units.now result }
@@ -23,8 +23,8 @@ pub extern "C" fn nody_utf16_valid_up_to(units: &[u16]) -> usize
     cuts::units_valid_up_to(units)
 }
 
-/// The offset of the first fault in bytes of that form, or how many there are where there is none; all ones where the form is
-/// none.
+/// How many bytes of that form are valid: the offset of the first that is not, or the length where all are; all ones where the form
+/// is none.
 #[unsafe(no_mangle)]
 pub extern "C" fn nody_utf16_bytes_valid_up_to(form: u8, bytes: &[u8]) -> usize
     ensures first { IfForm form (λ f. IsFirstFaultIn f bytes.now result) }

@@ -17,7 +17,7 @@ pub fn last_word(line: &str) -> Option<&str> {
     Some(&line[place + space.len()..])
 }
 
-/// The bytes from the first fault on that is not the first piece.
+/// The bytes from the first invalid byte on that is not the first piece.
 pub fn from_later_fault(bytes: &[u8]) -> &[u8] {
     let mut pieces = bytes.utf8char_indices();
     pieces.next();
@@ -27,7 +27,7 @@ pub fn from_later_fault(bytes: &[u8]) -> &[u8] {
     }
 }
 
-/// The bytes before the last fault that is not the last piece.
+/// The bytes before the last invalid byte that is not the last piece.
 pub fn before_earlier_fault(bytes: &[u8]) -> &[u8] {
     let mut pieces = bytes.utf8char_indices();
     pieces.next_back();
@@ -37,7 +37,7 @@ pub fn before_earlier_fault(bytes: &[u8]) -> &[u8] {
     }
 }
 
-/// The first line, and how many faults come after it.
+/// The first line, and how many invalid bytes come after it.
 pub fn first_line(bytes: &[u8]) -> (&[u8], usize) {
     let mut pieces = bytes.utf8char_indices();
     let mut line = bytes;
@@ -50,7 +50,7 @@ pub fn first_line(bytes: &[u8]) -> (&[u8], usize) {
     (line, pieces.filter(|x| x.1.is_err()).count())
 }
 
-/// The units after the first faulty one that follows the byte order mark.
+/// The units after the first lone surrogate that follows the byte order mark.
 pub fn after_faulty_unit(units: &[u16]) -> Option<&[u16]> {
     let mut pieces = units.utf16char_indices();
     let (_, mark, _) = pieces.next()?;
@@ -59,7 +59,7 @@ pub fn after_faulty_unit(units: &[u16]) -> Option<&[u16]> {
     Some(&units[place + len..])
 }
 
-/// The bytes between the first piece and the first fault after it.
+/// The bytes between the first piece and the first invalid byte after it.
 pub fn before_later_fault(bytes: &[u8]) -> Option<&[u8]> {
     let mut pieces = bytes.utf8char_indices();
     let (front, _, len) = pieces.next()?;
@@ -67,7 +67,7 @@ pub fn before_later_fault(bytes: &[u8]) -> Option<&[u8]> {
     Some(&bytes[front + len..place])
 }
 
-/// The bytes between the first two faults: a decoder is asked twice.
+/// The bytes between the first two invalid bytes: a decoder is asked twice.
 pub fn between_faults(bytes: &[u8]) -> Option<&[u8]> {
     let mut pieces = bytes.utf8char_indices();
     let (first, _, len) = pieces.find(|x| x.1.is_err())?;
@@ -75,7 +75,7 @@ pub fn between_faults(bytes: &[u8]) -> Option<&[u8]> {
     Some(&bytes[first + len..second])
 }
 
-/// The units between the byte order mark and the first faulty one.
+/// The units between the byte order mark and the first lone surrogate.
 pub fn before_faulty_unit(units: &[u16]) -> Option<&[u16]> {
     let mut pieces = units.utf16char_indices();
     let (front, mark, len) = pieces.next()?;

@@ -6,21 +6,21 @@ ghost use Rattle.encode_unicode.specs.BackPieces.{pieces_back, unit_pieces_back}
 use encode_unicode::error::Utf8Error;
 use encode_unicode::{U8SliceExt, U16SliceExt, Utf8Char};
 
-/// The last fault, with its place.
+/// The last invalid byte, with its offset.
 pub fn last_fault(bytes: &[u8]) -> Option<(usize, Result<Utf8Char, Utf8Error>, usize)>
     ensures { result ≡ find (λ x. is_err x.1) (pieces_back bytes.now) }
 {
     bytes.utf8char_indices().rev().find(|x| x.1.is_err())
 }
 
-/// How many faults the bytes end with: with those of a character that was cut off. `None` where there is nothing else.
+/// How many invalid bytes stand at the end: those of a character that was cut off count too. `None` where there is nothing else.
 pub fn faults_at_end(bytes: &[u8]) -> Option<usize>
     ensures { result ≡ position (λ x. is_ok x.1) (pieces_back bytes.now) }
 {
     bytes.utf8char_indices().rev().position(|x| x.1.is_ok())
 }
 
-/// Whether no piece is a fault, asked from the back.
+/// Whether no byte is invalid, asked from the back.
 pub fn has_no_fault(bytes: &[u8]) -> bool
     ensures { result ≡ list_all (λ x. is_ok x.1) (pieces_back bytes.now) }
 {
@@ -34,7 +34,7 @@ pub fn first_piece(bytes: &[u8]) -> Option<(usize, Result<Utf8Char, Utf8Error>, 
     bytes.utf8char_indices().rev().last()
 }
 
-/// How many pieces of the units are faults, from the back.
+/// How many lone surrogates the units have, from the back.
 pub fn unit_fault_count(units: &[u16]) -> usize
     ensures { result ≡ count_by (λ x. is_err x.1) (unit_pieces_back units.now) }
 {

@@ -9,35 +9,35 @@ use encode_unicode::error::Utf8Error;
 use encode_unicode::laws::{lengths_are_bounded, runs_are_bounded};
 use encode_unicode::{StrExt, U8SliceExt, Utf8Char};
 
-/// How many pieces of the bytes are faults.
+/// How many of the bytes are invalid.
 pub fn fault_count(bytes: &[u8]) -> usize
     ensures { result ≡ count_by (λ x. is_err x.1) (pieces bytes.now) }
 {
     bytes.utf8char_indices().filter(|x| x.1.is_err()).count()
 }
 
-/// How many characters stand before the first fault.
+/// How many characters stand before the first invalid byte.
 pub fn characters_before(bytes: &[u8]) -> Option<usize>
     ensures { result ≡ position (λ x. is_err x.1) (pieces bytes.now) }
 {
     bytes.utf8char_indices().position(|x| x.1.is_err())
 }
 
-/// Whether a piece of the bytes is a fault.
+/// Whether one of the bytes is invalid.
 pub fn has_fault(bytes: &[u8]) -> bool
     ensures { result ≡ list_any (λ x. is_err x.1) (pieces bytes.now) }
 {
     bytes.utf8char_indices().any(|x| x.1.is_err())
 }
 
-/// Whether no piece of the bytes is a fault.
+/// Whether none of the bytes is invalid.
 pub fn has_no_fault(bytes: &[u8]) -> bool
     ensures { result ≡ list_all (λ x. is_ok x.1) (pieces bytes.now) }
 {
     bytes.utf8char_indices().all(|x| x.1.is_ok())
 }
 
-/// The bytes before the first fault, which are all where there is none.
+/// The bytes before the first invalid one, which are all where there is none.
 pub fn before_fault(bytes: &[u8]) -> &[u8] {
     match bytes.utf8char_indices().find(|x| x.1.is_err()) {
         Some((place, _, _)) => &bytes[..place],
@@ -157,7 +157,7 @@ pub fn highest(text: &str) -> u32
         .fold(0, |most, c| most.max(c.to_char() as u32))
 }
 
-/// How many pieces are faults, by `fold`.
+/// How many of the bytes are invalid, by `fold`.
 pub fn faults_by_fold(bytes: &[u8]) -> usize
     ensures { result ≡ fold (λ count x. cond (is_err x.1) (count + 1) count) 0 (pieces bytes.now) }
 {
@@ -181,7 +181,7 @@ pub fn last_piece(bytes: &[u8]) -> Option<(usize, Result<Utf8Char, Utf8Error>, u
     bytes.utf8char_indices().last()
 }
 
-/// The bytes before the first fault, by `filter` and `next`.
+/// The bytes before the first invalid one, by `filter` and `next`.
 pub fn before_filtered(bytes: &[u8]) -> &[u8] {
     match bytes.utf8char_indices().filter(|x| x.1.is_err()).next() {
         Some((place, _, _)) => &bytes[..place],

@@ -29,7 +29,7 @@ pub fn last_code(bytes: &[u8]) -> Option<(Utf8Char, &[u8])>
     }
 }
 
-/// The first character that is not faulty, and its own bytes.
+/// The first character, after invalid bytes if there are any, and its own bytes.
 pub fn first_good_code(bytes: &[u8]) -> Option<(Utf8Char, &[u8])>
     ensures { IfSome result (λ x. x.1.now ≡ utf8 x.0) }
 {

@@ -60,7 +60,7 @@ pub fn begins_no_code(bytes: &[u8]) -> bool
     Utf8Char::from_slice_start(bytes).is_err()
 }
 
-/// What bytes show, with U+FFFD for each fault, can be told from their front on: there is one list of it, the
+/// What bytes show, with U+FFFD for each invalid byte, can be told from their front on: there is one list of it, the
 /// first piece is shown first, and what is decided stays as more bytes come.
 pub fn shown_from_the_front()
     ensures some { ShowsSome utf8 }

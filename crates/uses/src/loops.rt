@@ -20,7 +20,7 @@ pub fn spaces(text: &str) -> usize
     count
 }
 
-/// How many pieces of the bytes are faults.
+/// How many of the bytes are invalid.
 pub fn faults(bytes: &[u8]) -> usize
     ensures { result ≡ count_by (λ x. is_err x.1) (pieces bytes.now) }
 {
@@ -33,7 +33,7 @@ pub fn faults(bytes: &[u8]) -> usize
     count
 }
 
-/// How many pieces of the units are faults.
+/// How many lone surrogates the units have.
 pub fn faulty_units(units: &[u16]) -> usize
     ensures { result ≡ count_by (λ x. is_err x.1) (unit_pieces units.now) }
 {

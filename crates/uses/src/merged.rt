@@ -34,7 +34,7 @@ pub fn split_utf16_char<I: Iterator<Item = u16>>(source: I) -> Option<(Utf16Char
     }
 }
 
-/// The first piece of a source of bytes, damaged or not, and all bytes after it: of a faulty byte each one
+/// The first piece of a source of bytes, damaged or not, and all bytes after it: of an invalid byte each one
 /// that was read to judge it as well.
 pub fn split_piece<I: Iterator<Item = u8>>(
     source: I,

@@ -46,7 +46,7 @@ pub fn all_characters<I: Iterator<Item = u8>>(source: I) -> bool
     source.to_utf8chars().all(|r| r.is_ok())
 }
 
-/// How many characters stand before the first faulty unit.
+/// How many characters stand before the first lone surrogate.
 pub fn characters_before(units: &[u16]) -> Option<usize>
     ensures { result ≡ position (λ r. is_err r) (merged_units units.now) }
 {
@@ -54,7 +54,7 @@ pub fn characters_before(units: &[u16]) -> Option<usize>
     answers.position(|r| r.is_err())
 }
 
-/// Whether a unit of a source is faulty.
+/// Whether a source has a lone surrogate.
 pub fn has_faulty_unit<I: Iterator<Item = u16>>(source: I) -> bool
     requires can { I.can_next source }
     requires ends { IsFinite (I.remaining source) }

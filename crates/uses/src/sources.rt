@@ -21,7 +21,7 @@ pub fn pieces_without(bytes: &[u8], left_out: u8) -> usize {
         .count()
 }
 
-/// The first byte of the characters of some bytes, without their faults.
+/// The first byte of the characters of some bytes, without the invalid ones.
 pub fn first_byte_without_faults(bytes: &[u8]) -> Option<u8> {
     let shown = bytes.iter().copied().to_utf8chars();
     shown.filter_map(|answer| answer.ok()).to_bytes().next()

@@ -9,7 +9,7 @@ use encode_unicode::Utf8Char;
 use encode_unicode::error::Utf8Error;
 use std::alloc::{AllocError, Allocator};
 
-/// How many characters lie from the first to the last of the block, and no fault among them.
+/// How many characters lie from the first to the last of the block. Invalid bytes do not count.
 pub fn count_block<A: Allocator, I: Iterator<Item = u8>>(
     alloc: A,
     source: I,

@@ -13,7 +13,7 @@ pub fn around(bytes: &[u8], place: usize, reach: usize) -> &[u8]
     &bytes[from..to]
 }
 
-/// The character or faulty byte that has this byte.
+/// The character or invalid byte that has this byte.
 pub fn piece_of(bytes: &[u8], place: usize) -> &[u8]
     requires { place < length bytes.now }
 {

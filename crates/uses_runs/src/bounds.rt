@@ -20,7 +20,7 @@ pub fn count_pieces(bytes: &[u8]) -> usize
     bytes.utf8char_indices().count()
 }
 
-/// The bytes as text, with U+FFFD for each fault, in memory that is asked for before the first byte is read. A
+/// The bytes as text, with U+FFFD for each invalid one, in memory that is asked for before the first byte is read. A
 /// program that limits what it reads so limits what it answers.
 pub fn lossy_text<A: Allocator>(alloc: A, bytes: &[u8]) -> Result<Vec<u8, A>, AllocError>
     ensures text { IfOk result (λ out. IsRecoded Form.Utf8 Form.Utf8 bytes.now out.items) }

@@ -72,7 +72,7 @@ pub fn piece_at<A: Allocator + Copy>(table: &PieceTable<A>, place: usize) -> Opt
     pieces.find(|x| x.0 <= place && place < x.0 + x.2)
 }
 
-/// Puts other bytes in place of the first fault, and says whether there was one.
+/// Puts other bytes in place of the first invalid one, and says whether there was one.
 pub fn mend_first<A: Allocator + Copy>(
     table: &mut PieceTable<A>,
     new: &[u8],

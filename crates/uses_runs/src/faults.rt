@@ -11,7 +11,7 @@ use cuts::{laws, valid_up_to};
 use encode_unicode::error::Utf8Error;
 use encode_unicode::{U8IterExt, U8SliceExt, Utf8Char};
 
-/// How many pieces of the bytes are faults, which is the same from either end.
+/// How many of the bytes are invalid, which is the same from either end.
 pub fn fault_count(bytes: &[u8]) -> usize
     ensures { result ≡ count_by (λ x. is_err x.1) (pieces bytes.now) }
 {
@@ -23,14 +23,14 @@ pub fn fault_count(bytes: &[u8]) -> usize
         .count()
 }
 
-/// The first fault, with its place.
+/// The first invalid byte, with its offset.
 pub fn first_fault(bytes: &[u8]) -> Option<(usize, Result<Utf8Char, Utf8Error>, usize)>
     ensures { result ≡ find (λ x. is_err x.1) (pieces bytes.now) }
 {
     bytes.utf8char_indices().find(|x| x.1.is_err())
 }
 
-/// How many bytes stand before the first fault, which are text.
+/// How many bytes stand before the first invalid one, which are text.
 pub fn first_fault_place(bytes: &[u8]) -> usize
     ensures first { IsFirstFault utf8 bytes.now result }
     ensures text { IsUtf8 (take result bytes.now) }

@@ -3,7 +3,7 @@ ghost use Rattle.std.specs.Prelude.{◌≤◌, length};
 
 use cuts::{unit_bytes_valid_up_to, units_valid_up_to, valid_up_to};
 
-/// The bytes before the first fault, and those from it on.
+/// The bytes before the first invalid one, and those from it on.
 pub fn split_at_fault(bytes: &[u8]) -> (&[u8], &[u8]) {
     let len = valid_up_to(bytes);
     (&bytes[..len], &bytes[len..])
@@ -14,7 +14,7 @@ pub fn split_at_faulty_unit(units: &[u16]) -> (&[u16], &[u16]) {
     units.split_at(units_valid_up_to(units))
 }
 
-/// How many bytes of UTF-16 stand before the first fault.
+/// How many bytes of UTF-16 are valid: those before the first lone surrogate, or before an odd last byte.
 pub fn good_wire_len(bytes: &[u8]) -> usize
     ensures { result ≤ length bytes.now }
 {

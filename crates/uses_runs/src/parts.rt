@@ -70,7 +70,7 @@ pub fn recode_two<A: Allocator>(
     Ok(made)
 }
 
-/// How many faults of two parts became U+FFFD: those of both together, wherever they were cut.
+/// How many invalid bytes of two parts became U+FFFD: those of both together, wherever they were cut.
 pub fn count_two<A: Allocator>(
     alloc: A,
     from: Form,

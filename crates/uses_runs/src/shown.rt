@@ -30,7 +30,7 @@ fn shown_pieces<A: Allocator>(alloc: A, bytes: &[u8]) -> Result<String<A>, Alloc
     shown.collect_string(alloc)
 }
 
-/// The text before the first fault, which is all where there is none.
+/// The text before the first invalid byte, which is all where there is none.
 pub fn valid_front(bytes: &[u8]) -> &str
     ensures { (place : ℕ) × IsFirstFault utf8 bytes.now place × (result.now ≡ take place bytes.now) }
 {

@@ -45,7 +45,7 @@ pub fn finish_strictly<A: Allocator>(
     }
 }
 
-/// The offset of the first fault that a strict call tells, as a validator says it; `None` where it tells none.
+/// The offset of the first invalid byte that a strict call tells, as a validator says it; `None` where it tells none.
 pub fn told_fault(from: Form, bytes: &[u8], room: &mut [u8]) -> Option<usize>
     ensures { IfSome result (λ place. IsFirstFaultOf from bytes.now place) }
 {
@@ -57,7 +57,7 @@ pub fn told_fault(from: Form, bytes: &[u8], room: &mut [u8]) -> Option<usize>
     }
 }
 
-/// The offset of the first fault, or the length where there is none; `None` where the room is too small.
+/// The offset of the first invalid byte, or the length where there is none; `None` where the room is too small.
 pub fn valid_len(bytes: &[u8], room: &mut [u8]) -> Option<usize>
     ensures { IfSome result (λ place. IsFirstFault utf8 bytes.now place) }
 {

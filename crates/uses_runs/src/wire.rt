@@ -7,7 +7,7 @@ use crate::parts::recode_in_parts;
 use cuts::Form;
 use std::alloc::{AllocError, Allocator};
 
-/// The text of the first record, as UTF-8 with U+FFFD for each fault, and the bytes after the record; `None` where the
+/// The text of the first record, as UTF-8 with U+FFFD for each lone surrogate, and the bytes after the record; `None` where the
 /// bytes end before the record does.
 pub fn first_text<'a, A: Allocator>(
     alloc: A,

@@ -49,7 +49,7 @@ class Faults(NamedTuple):
             yield Piece(offset, None, length, ErrorKind(kind))
 
     def extend(self, more: Faults) -> None:
-        """Puts the faults of the next shard after these."""
+        """Adds the invalid bytes of the next shard after these."""
         for mine, others in zip(self, more):
             mine.extend(others)
 
@@ -59,10 +59,10 @@ def no_faults() -> Faults:
 
 
 def faults_array(data: Union[ReadableBuffer, Shard], encoding: str = "utf8") -> Faults:
-    """The invalid bytes that `faults(data)` gives, as arrays: about a hundred times as fast, if there are many, and 10 bytes for each.
+    """The invalid bytes that `faults(data)` gives, as arrays: they take 10 bytes for each, and make no objects.
 
     Data is any bytes-like object, or a Shard: then offsets count in the whole source, and the encoding is that of the shard.
-    Errors: LookupError for an unknown encoding, TypeError for what is no data. Cost: that of validation, and about 20 ns for each.
+    Errors: LookupError for an unknown encoding, TypeError for what is no data. Cost: that of validation, and a little for each invalid byte.
 
     >>> faults_array(b"ab\\xff").offsets
     array('Q', [2])
@@ -310,7 +310,7 @@ class Shard(NamedTuple):
         return sum(_noddychest.char_count(form, memoryview(data)[:cut]) for _, data, cut in self.blocks())
 
     def counts(self) -> Counts:
-        """Bytes, characters, line ends, and faults of each kind."""
+        """Bytes, characters, line ends, and invalid bytes of each kind."""
         form, all_of_it = form_of(self.encoding), Counts()
         for _, data, cut in self.blocks():
             kinds = _noddychest.kind_counts(form, data, cut)[1:]

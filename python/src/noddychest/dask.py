@@ -232,7 +232,7 @@ def recode(client: Any, source: Sources, out: Union[str, os.PathLike[str]], from
     place. For a folder or a list it is a folder, with a file of the same name for each. With `parts` it is a folder for one file: each
     shard becomes a file `part-00000`, and so on, which joined in order are the text; then the source is read once, and not twice.
     resume: what stands from a run that was interrupted, with the length that it should have, is not written again.
-    Result: how many bytes were read and written, and how many faults were replaced (not counted in what stood already).
+    Result: how many bytes were read and written, and how many invalid bytes were replaced (not counted in what stood already).
     A file is written under another name beside it, is brought to the disk, and gets its name then.
     Errors: as for `check`. With `strict` FaultError, for the first invalid byte of the first file that has one; then no file is written.
     OSError if the disk is full, before anything is written (not with `parts`). Cost: a worker has some blocks of 1 MB for each task.

@@ -218,7 +218,7 @@ class _Line:
 
 
 def recoded(shard: Shard, to: str, errors: str) -> tuple[list[bytes], int]:
-    """What comes of a shard, and how many faults were replaced."""
+    """What comes of a shard, and how many invalid bytes were replaced."""
     parts: list[bytes] = []
     made = shard.recode_into(parts.append, to, errors, shard.end - shard.start)
     return parts, made.replaced
@@ -276,7 +276,7 @@ def recode(source: Source, out: Union[str, os.PathLike[str]], from_: str, to: st
     resume: whether a run that was interrupted goes on. What such a run has written stands in `OUT.….partial` beside the file; the name
     tells the source with its time of change and the arguments, so that only the same run finds it. By its length those shards are found
     that need not be recoded again; they are read to know their lengths. After a crash of the machine begin anew.
-    Result: how many bytes were read and written, and how many faults were replaced (of the shards that this run recoded).
+    Result: how many bytes were read and written, and how many invalid bytes were replaced (of the shards that this run recoded).
     The file is written under another name beside it, is brought to the disk, and gets its name then: under its own name there is never a
     part of it. If anything fails, `out` is as it was; what was written goes away, but with `resume`.
     Errors: as for `check`. With `strict` FaultError, with the offset of the first invalid byte of all. OSError if the disk is full.
