@@ -97,6 +97,9 @@ impl Recoder {
         if held.is_empty() {
             return self.hold(&bytes[gone..]);
         }
+        if bytes.is_empty() && gone == 0 {
+            return;
+        }
         let (joined, len) = join(held, bytes);
         self.hold(&joined[gone..len]);
     }

@@ -75,7 +75,7 @@ impl Recoder {
         ensures more { result ≡ count - length self.old.held }
     {
         let held = self.held();
-        if held.is_empty() {
+        if held.is_empty() || count == 0 {
             return count;
         }
         let gone = count.min(held.len());
