@@ -6,6 +6,9 @@
  * only that something is, as do nody_utf8_pieces and the Rattle loop. U8_NEXT of ICU is a macro, and the
  * decoder of the Rattle loop is compiled into it: nothing is called.
  *
+ * What goes over text without giving each character, and input in parts, stands beside our own calls: validation, and
+ * nody_utf8_pieces over the whole.
+ *
  * simdutf is in node, which exports its functions. With -DSIMDUTF this file becomes a shared object that node opens: it does what
  * `bench times` does. simdutf only tells whether text is valid, and gives nothing where it is not; here all of it is.
  *
@@ -25,7 +28,7 @@
 #include <unicode/utf8.h>
 #include <utf8proc.h>
 
-enum { SIZE = 1 << 20, ROOM = 3 * SIZE + 16, AT_ONCE = 256, PART = 4096 };
+enum { SIZE = 1 << 20, ROOM = 3 * SIZE + 16, AT_ONCE = 256, PART = 4096, FEW = 100 };
 
 /* The same calls in Rattle, of crates/bench_c. */
 size_t bench_c_widen(const uint8_t *in, size_t len, uint8_t *out, size_t room);
@@ -34,9 +37,10 @@ size_t bench_c_valid_up_to(const uint8_t *bytes, size_t len);
 uint64_t bench_c_scalars(const uint8_t *bytes, size_t len);
 
 static uint8_t text[SIZE], units[2 * SIZE], out[ROOM];
-static size_t text_len, units_len;
+static size_t text_len, units_len, char_count;
 
-/* Each side answers a number that has to be the same for all: how many bytes came of it, or the sum of the scalars. */
+/* Each side answers a number that has to be the same for all: how many bytes came of it, how many are right, or the sum of the
+ * scalars. */
 typedef size_t (*side_call)(void);
 
 static size_t of_recoder(uint8_t from, uint8_t to, const uint8_t *in, size_t len) {
@@ -130,6 +134,54 @@ static size_t decode_utf8proc(void) {
 }
 static size_t decode_rattle(void) { return bench_c_scalars(text, text_len); }
 
+/* The sum of the scalars of input in parts. */
+static size_t decode_in(size_t part) {
+    nody_decoder_t decoder = nody_decoder(NODY_FORM_UTF8);
+    nody_located_t pieces[AT_ONCE];
+    size_t sum = 0, read, written;
+    for (size_t place = 0; place < text_len; place += read) {
+        nody_decoder_feed(&decoder, text + place, text_len - place < part ? text_len - place : part, pieces, AT_ONCE, &read, &written);
+        for (size_t i = 0; i < written; i++) sum += pieces[i].scalar;
+    }
+    nody_decoder_finish(&decoder, pieces, AT_ONCE, &written);
+    return sum;
+}
+static size_t decode_parts(void) { return decode_in(PART); }
+static size_t decode_few(void) { return decode_in(FEW); }
+
+/* How many bytes were read, where there are no faults. */
+static size_t faults_in_parts(void) {
+    nody_decoder_t decoder = nody_decoder(NODY_FORM_UTF8);
+    nody_located_t faults[AT_ONCE];
+    size_t count = 0, read, written;
+    for (size_t place = 0; place < text_len; place += read, count += written)
+        nody_decoder_feed_faults(&decoder, text + place, text_len - place < PART ? text_len - place : PART, faults, AT_ONCE, &read, &written);
+    return count ? 0 : text_len;
+}
+static size_t faults_nody(void) {
+    nody_bytes_t left = nody_bytes(text, text_len);
+    nody_located_t faults[AT_ONCE];
+    uint64_t offset = 0;
+    return nody_utf8_faults(&left, &offset, faults, AT_ONCE) ? 0 : (size_t)offset;
+}
+static size_t count_nody(void) { return nody_utf8_char_count(text, text_len) == char_count ? text_len : 0; }
+static size_t offset_nody(void) { return nody_utf8_offset_of(text, text_len, char_count); }
+static size_t number_nody(void) { return nody_utf8_number_of(text, text_len, text_len) == char_count ? text_len : 0; }
+
+/* The same of UTF-16. The units lie as an array of them. */
+static const uint16_t *of_units(void) { return (const uint16_t *)(const void *)units; }
+static size_t valid_units(void) { return 2 * nody_utf16_valid_up_to(of_units(), units_len / 2); }
+static size_t valid_unit_bytes(void) { return nody_utf16_bytes_valid_up_to(NODY_FORM_UTF16LE, units, units_len); }
+static size_t faults_units(void) {
+    nody_units_t left = nody_units(of_units(), units_len / 2);
+    nody_located_t faults[AT_ONCE];
+    uint64_t offset = 0;
+    return nody_utf16_faults(&left, &offset, faults, AT_ONCE) ? 0 : 2 * (size_t)offset;
+}
+static size_t count_units(void) { return nody_utf16_char_count(of_units(), units_len / 2) == char_count ? units_len : 0; }
+static size_t offset_units(void) { return 2 * nody_utf16_offset_of(of_units(), units_len / 2, char_count); }
+static size_t number_units(void) { return nody_utf16_number_of(of_units(), units_len / 2, units_len / 2) == char_count ? units_len : 0; }
+
 static size_t widen_parts(void) { return in_parts(NODY_FORM_UTF8, NODY_FORM_UTF16LE, text, text_len); }
 static size_t widen_rattle(void) { return bench_c_widen(text, text_len, out, ROOM); }
 static size_t narrow_parts(void) { return in_parts(NODY_FORM_UTF16LE, NODY_FORM_UTF8, units, units_len); }
@@ -173,6 +225,18 @@ static const struct {
 #ifdef SIMDUTF
     {"valid-up-to", "simdutf", valid_simdutf},
 #endif
+    {"pieces-in-parts", "whole", decode_pieces}, {"pieces-in-parts", "nody_decoder_feed", decode_parts},
+    {"pieces-in-few", "whole", decode_pieces},   {"pieces-in-few", "nody_decoder_feed", decode_few},
+    {"over-utf8", "valid", valid_nody},          {"over-utf8", "nody_utf8_faults", faults_nody},
+    {"over-utf8", "nody_decoder_feed_faults", faults_in_parts},
+    {"over-utf8", "nody_utf8_char_count", count_nody},
+    {"over-utf8", "nody_utf8_offset_of", offset_nody},
+    {"over-utf8", "nody_utf8_number_of", number_nody},
+    {"over-utf16", "valid", valid_units},        {"over-utf16", "nody_utf16_bytes_valid_up_to", valid_unit_bytes},
+    {"over-utf16", "nody_utf16_faults", faults_units},
+    {"over-utf16", "nody_utf16_char_count", count_units},
+    {"over-utf16", "nody_utf16_offset_of", offset_units},
+    {"over-utf16", "nody_utf16_number_of", number_units},
 };
 enum { SIDES = sizeof sides / sizeof *sides };
 
@@ -185,11 +249,12 @@ enum { INPUTS = sizeof inputs / sizeof *inputs };
 /* Words of such characters, with a space after every few. */
 static void fill(int input) {
     uint32_t chance = 1;
-    text_len = 0;
+    text_len = char_count = 0;
     while (text_len + 4 <= SIZE) {
         chance = chance * 1664525 + 1013904223;
         uint32_t scalar = inputs[input].first + (chance >> 16) % (inputs[input].last - inputs[input].first + 1);
         text_len += nody_utf8_encode(chance >> 29 ? scalar : ' ', text + text_len, SIZE - text_len);
+        char_count++;
     }
     units_len = widen_nody();
     memcpy(units, out, units_len);
@@ -200,6 +265,9 @@ static double seconds(void) {
     clock_gettime(CLOCK_MONOTONIC, &now);
     return (double)now.tv_sec + 1e-9 * (double)now.tv_nsec;
 }
+
+/* The bytes of input of a work. */
+static size_t len_of(const char *work) { return strstr(work, "utf16le-") == work || strcmp(work, "over-utf16") == 0 ? units_len : text_len; }
 
 /* The times of one work on one input. Answers whether all sides agree. */
 static int times(int first, int last, int rounds) {
@@ -213,7 +281,7 @@ static int times(int first, int last, int rounds) {
             double taken = seconds() - begun;
             if (taken < best[i]) best[i] = taken;
         }
-    for (int i = first; i < last; i++) printf("  %s %.3f", sides[i].name, 1e9 * best[i] / (double)(strncmp(sides[i].work, "utf16", 5) ? text_len : units_len));
+    for (int i = first; i < last; i++) printf("  %s %.3f", sides[i].name, 1e9 * best[i] / (double)len_of(sides[i].work));
     puts(agree ? "" : "  DIFFER");
     return agree != 0;
 }
@@ -238,7 +306,7 @@ static int once(const char *work, const char *input, const char *side) {
     for (int i = 0; i < INPUTS; i++)
         if (call != NULL && strcmp(inputs[i].name, input) == 0) {
             fill(i);
-            printf("%lu\n", (unsigned long)(strncmp(work, "utf16", 5) ? text_len : units_len) + 0 * call());
+            printf("%lu\n", (unsigned long)len_of(work) + 0 * call());
             return 1;
         }
     return 0;
