@@ -12,8 +12,9 @@ macro_rules! views {
             }
         }
 
-        /// For functions that take anything that lends such text, as in `encode_unicode`. Do not look up characters by it: they hash and
-        /// compare as their `char`, so a `HashMap` finds nothing by a `&str` or a slice, and a `BTreeMap` may find nothing by `&[u16]`.
+        /// For functions that take anything that lends such text, as in `encode_unicode`. Do not look up characters by it: they
+        /// hash and compare as their `char`, so a `HashMap` finds nothing by a `&str` or a slice, and a `BTreeMap` may find
+        /// nothing by a `&[u16]`.
         impl Borrow<$to> for $of {
             #[inline]
             fn borrow(&self) -> &$to {
