@@ -28,6 +28,8 @@ import time
 from concurrent.futures import ThreadPoolExecutor
 
 C = os.path.dirname(os.path.dirname(os.path.abspath(__file__)))
+# Signals that end a program, and of which it can know.
+ENDS = [signal.SIGTERM, signal.SIGINT, signal.SIGHUP, signal.SIGQUIT, signal.SIGALRM, signal.SIGXCPU]
 SOURCES = sorted(f"{C}/nody/{it}" for it in os.listdir(f"{C}/nody") if it.endswith(".c"))
 WARNINGS = ["-Wall", "-Wextra", "-Wpedantic", "-Wconversion", "-Werror"]
 SANITIZERS = ["-g", "-fsanitize=address,undefined", "-fno-sanitize-recover=all"]
@@ -572,7 +574,6 @@ def check_killed(folder, program):
     name, old = f"{place}/text", b"caf\xc3\xa9 \xff text\n" * 300000
     new = recoded(old[:13], "utf-8", "utf-16le", "replace") * 300000
     seen, took = {"old": 0, "new": 0}, 0
-    gentle = [signal.SIGTERM, signal.SIGINT, signal.SIGHUP, signal.SIGQUIT, signal.SIGALRM, signal.SIGXCPU]
     for i in range(60):
         with open(name, "wb") as file:
             file.write(old)
@@ -582,13 +583,13 @@ def check_killed(folder, program):
             ran.wait()
             took = time.time() - took
         time.sleep(chance.random() * 1.5 * took)
-        ran.send_signal(signal.SIGKILL if i % 2 else gentle[i // 2 % len(gentle)])
+        ran.send_signal(signal.SIGKILL if i % 2 else ENDS[i // 2 % len(ENDS)])
         ran.wait()
         is_old, is_new = contents(name) == old, contents(name) == new
         seen["new" if is_new else "old"] += 1
         expect(is_old or is_new, "a file that is not whole has the final name")
         left = [it for it in os.listdir(place) if it != "text"]
-        expect(i % 2 or not left, f"{gentle[i // 2 % len(gentle)]} left {left}")
+        expect(i % 2 or not left, f"{ENDS[i // 2 % len(ENDS)]} left {left}")
         for it in left:
             os.remove(f"{place}/{it}")
     print(f"nody.py: of 60 that were ended {seen['old']} left the old file, {seen['new']} the new one")
@@ -863,6 +864,9 @@ def main():
         print(__doc__)
         return 0 if sys.argv[1:] in (["--help"], ["-h"]) else 2
     build, compiler = os.path.abspath(sys.argv[1]), sys.argv[2] if len(sys.argv) > 2 else "cc"
+    # (who started this in the background, or by nohup, has it pass over signals, and so would what it starts)
+    for it in ENDS:
+        signal.signal(it, signal.default_int_handler if it == signal.SIGINT else signal.SIG_DFL)
     with tempfile.TemporaryDirectory() as folder:
         built, programs = f"{build}/nody", [f"{folder}/nody-{it}" for it in BLOCKS]
         with ThreadPoolExecutor(2) as pool:
