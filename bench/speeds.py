@@ -198,23 +198,22 @@ def rows_of_c(work):
             for text, it in of_c_bench()[work.split()[0]]]
 
 
-# The works of c/bench/run of which one side is a call of ours that the others are measured by: in words what that is, and what is counted.
-OVER_ALL = {"over-utf8": ("valid", "`nody_utf8_valid_up_to`"), "over-utf16": ("valid", "`nody_utf16_valid_up_to`"),
-            "pieces-in-parts": ("whole", "`nody_utf8_pieces` of the whole"), "pieces-in-few": ("whole", "`nody_utf8_pieces` of the whole")}
+# The works of c/bench/run in which calls of ours stand beside another of ours: that one.
+OVER_ALL = {"over-utf8": "nody_utf8_valid_up_to", "over-utf16": "nody_utf16_valid_up_to", "pieces-in-parts": "nody_utf8_pieces", "pieces-in-few": "nody_utf8_pieces"}
 IN_PARTS = {"pieces-in-parts": ", parts of 4 KiB", "pieces-in-few": ", parts of 100 bytes"}
 
 
 def over_all():
     """The calls from C that go over a text, beside our own validation, and those for input in parts beside the call for the whole."""
     lines = []
-    for work, (base, told) in OVER_ALL.items():
+    for work, base in OVER_ALL.items():
         of_work = of_c_bench()[work]
         for side in (it for it in of_work[0][1] if it != base):
             ratios = {text: float(it[side]) / float(it[base]) for text, it in of_work}
             chinese = dict(of_work)["chinese"]
             most = max(ratios, key=ratios.get)
             part = ", parts of 4 KiB" if side == "nody_decoder_feed_faults" else IN_PARTS.get(work, "")
-            lines.append([f"`{side}`{part}", told, f"{float(chinese[side]):.2f}", f"{float(chinese[base]):.2f}", between(ratios.values()), f"{most} {ratios[most]:.2f}"])
+            lines.append([f"`{side}`{part}", f"`{base}`", f"{float(chinese[side]):.2f}", f"{float(chinese[base]):.2f}", between(ratios.values()), f"{most} {ratios[most]:.2f}"])
     return table(["call", "beside", "its time", "time of that", "ratio", "most on"], lines)
 
 

@@ -225,14 +225,14 @@ static const struct {
 #ifdef SIMDUTF
     {"valid-up-to", "simdutf", valid_simdutf},
 #endif
-    {"pieces-in-parts", "whole", decode_pieces}, {"pieces-in-parts", "nody_decoder_feed", decode_parts},
-    {"pieces-in-few", "whole", decode_pieces},   {"pieces-in-few", "nody_decoder_feed", decode_few},
-    {"over-utf8", "valid", valid_nody},          {"over-utf8", "nody_utf8_faults", faults_nody},
+    {"pieces-in-parts", "nody_utf8_pieces", decode_pieces}, {"pieces-in-parts", "nody_decoder_feed", decode_parts},
+    {"pieces-in-few", "nody_utf8_pieces", decode_pieces},   {"pieces-in-few", "nody_decoder_feed", decode_few},
+    {"over-utf8", "nody_utf8_valid_up_to", valid_nody},          {"over-utf8", "nody_utf8_faults", faults_nody},
     {"over-utf8", "nody_decoder_feed_faults", faults_in_parts},
     {"over-utf8", "nody_utf8_char_count", count_nody},
     {"over-utf8", "nody_utf8_offset_of", offset_nody},
     {"over-utf8", "nody_utf8_number_of", number_nody},
-    {"over-utf16", "valid", valid_units},        {"over-utf16", "nody_utf16_bytes_valid_up_to", valid_unit_bytes},
+    {"over-utf16", "nody_utf16_valid_up_to", valid_units},        {"over-utf16", "nody_utf16_bytes_valid_up_to", valid_unit_bytes},
     {"over-utf16", "nody_utf16_faults", faults_units},
     {"over-utf16", "nody_utf16_char_count", count_units},
     {"over-utf16", "nody_utf16_offset_of", offset_units},
