@@ -18,7 +18,7 @@ MACROS = {"assert", "assert_eq", "assert_ne", "debug_assert", "macro_rules", "ma
 
 # Modules of std that are the same in `core`; those that src/support has in their place, with the names that it has; and those that
 # only a build with std has.
-CORE = {"array", "ascii", "borrow", "char", "cmp", "convert", "error", "fmt", "hash", "iter", "mem", "num", "ops", "slice", "str"}
+CORE = {"array", "ascii", "borrow", "char", "cmp", "convert", "error", "fmt", "hash", "iter", "marker", "mem", "num", "ops", "slice", "str"}
 SUPPORT = {
     "alloc": {"AllocError", "Allocator", "Global"},
     "simd": {"prelude"},
@@ -97,13 +97,16 @@ LENT = {"utf_chars/utf8_char.rt": ["scalar"]}
 
 # What goes by lanes: of these files there is a copy for processors with AVX2 (wide.py), over the types of all other files.
 WIDE = ("utf_lanes/",) + tuple(f"recoding/{it}.rt" for it in (
-    "ascii_to_utf16", "codes", "copied", "engine", "fills", "form_calls", "kernels", "list", "output", "recoder_runs", "replacing", "room",
+    "ascii_to_utf16", "block_output", "codes", "copied", "engine", "fills", "form_calls", "kernels", "list", "output", "recoder_runs", "replacing", "room",
     "swapped", "text", "utf16_to_utf8", "utf8_to_utf16",
 )) + ("cuts/runs/piece_counts.rt",)
 
+# Of these files that which has types alone: it stands once, and the copy passes it on.
+ONCE = {"utf_lanes/byte_order.rt"}
+
 
 def is_wide(name):
-    return any(name.startswith(it) for it in WIDE)
+    return name not in ONCE and any(name.startswith(it) for it in WIDE)
 
 
 # The functions that ask which copy answers: how long the input is, and what the other copy answers.
@@ -113,7 +116,7 @@ CHOSEN = {
     "utf_lanes/starts.rt:nth_start": ("bytes.len()", "OTHER(bytes, number)"),
     "utf_lanes/unit_starts.rt:unit_starts_in": ("units.len()", "OTHER(units)"),
     "utf_lanes/unit_starts.rt:nth_unit_start": ("units.len()", "OTHER(units, number)"),
-    "utf_lanes/unit_blocks.rt:units_len": ("bytes.len()", "OTHER(high_first, bytes)"),
+    "utf_lanes/unit_blocks.rt:units_len": ("bytes.len()", "OTHER::<E>(bytes)"),
     "utf_lanes/paired_units.rt:paired_len": ("units.len()", "OTHER(units)"),
     "cuts/runs/piece_counts.rt:piece_count": ("bytes.len()", "OTHER(bytes)"),
     "recoding/recoder_runs.rt:recode_into": ("bytes.len()", "OTHER(way, from, to, bytes, room, place)"),

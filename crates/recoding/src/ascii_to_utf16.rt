@@ -8,36 +8,37 @@ use crate::codes::put_pair;
 use crate::output::Output;
 use std::simd::prelude::*;
 use utf_lanes::ascii_texts::{interleave_zeros, is_ascii_block};
+use utf_lanes::byte_order::ByteOrder;
 use utf_lanes::text_units::interleave_zeros_wide;
 
 // Appends the bytes, each with a NUL, which is the high byte of its unit.
 #[inline(always)]
 #[tactic(auto, using(crate::proofs::AsciiToUtf16::few_widened))]
-pub(crate) fn put_ascii_as_utf16<O: Output, const BIG_ENDIAN: bool>(bytes: &[u8], out: &mut O)
+pub(crate) fn put_ascii_as_utf16<O: Output, E: ByteOrder>(bytes: &[u8], out: &mut O)
     requires { 2 * length bytes.now ≤ O.room out.old }
-    ensures { O.appends out.old (widened BIG_ENDIAN bytes.now) out.new }
+    ensures { O.appends out.old (widened E.HIGH_FIRST bytes.now) out.new }
 {
-    let place = put_lanes::<O, BIG_ENDIAN>(bytes, out);
+    let place = put_lanes::<O, E>(bytes, out);
     let last = &bytes[place..];
-    put_each::<O, BIG_ENDIAN>(last, out);
+    put_each::<O, E>(last, out);
 }
 
 // The same of the first bytes, in blocks of 64, as long as such a block and the one after it are ASCII. Answers where they
 // end. Each block is judged just before, and what follows the last is left with a block of ASCII at its front.
 #[inline(always)]
 #[tactic(auto, using(crate::proofs::AsciiToUtf16::few_widened))]
-pub(crate) fn put_ascii_front<O: Output, const BIG_ENDIAN: bool>(bytes: &[u8], out: &mut O) -> usize
+pub(crate) fn put_ascii_front<O: Output, E: ByteOrder>(bytes: &[u8], out: &mut O) -> usize
     requires { 2 * length bytes.now ≤ O.room out.old }
     ensures within { result ≤ length bytes.now }
     ensures ascii { AreAscii bytes.now 0 result }
-    ensures appends { O.appends out.old (widened BIG_ENDIAN (take result bytes.now)) out.new }
+    ensures appends { O.appends out.old (widened E.HIGH_FIRST (take result bytes.now)) out.new }
 {
     if bytes.len() < 128 || !is_ascii_block(bytes, 0) {
         return 0;
     }
     let mut place = 0;
     while 128 <= bytes.len() - place && is_ascii_block(bytes, place + 64) {
-        put_ascii_64::<O, BIG_ENDIAN>(bytes, place, out);
+        put_ascii_64::<O, E>(bytes, place, out);
         place += 64;
     }
     place
@@ -45,12 +46,12 @@ pub(crate) fn put_ascii_front<O: Output, const BIG_ENDIAN: bool>(bytes: &[u8], o
 
 // One of them.
 #[inline(always)]
-fn put_ascii_64<O: Output, const BIG_ENDIAN: bool>(bytes: &[u8], place: usize, out: &mut O)
+fn put_ascii_64<O: Output, E: ByteOrder>(bytes: &[u8], place: usize, out: &mut O)
     requires within { place + 64 ≤ length bytes.now }
     requires room { 128 ≤ O.room out.old }
-    ensures { O.appends out.old (widened BIG_ENDIAN (take 64 (drop place bytes.now))) out.new }
+    ensures { O.appends out.old (widened E.HIGH_FIRST (take 64 (drop place bytes.now))) out.new }
 {
-    let (first, second) = interleave_zeros_wide(BIG_ENDIAN, u8x64::from_slice(&bytes[place..]));
+    let (first, second) = interleave_zeros_wide::<E>(u8x64::from_slice(&bytes[place..]));
     out.put_wide(first);
     out.put_wide(second);
 }
@@ -58,14 +59,14 @@ fn put_ascii_64<O: Output, const BIG_ENDIAN: bool>(bytes: &[u8], place: usize, o
 // The same of blocks of sixteen. Answers where the last one ends.
 #[inline(always)]
 #[tactic(auto, using(crate::proofs::AsciiToUtf16::few_widened))]
-fn put_lanes<O: Output, const BIG_ENDIAN: bool>(bytes: &[u8], out: &mut O) -> usize
+fn put_lanes<O: Output, E: ByteOrder>(bytes: &[u8], out: &mut O) -> usize
     requires { 2 * length bytes.now ≤ O.room out.old }
     ensures within { result ≤ length bytes.now }
-    ensures appends { O.appends out.old (widened BIG_ENDIAN (take result bytes.now)) out.new }
+    ensures appends { O.appends out.old (widened E.HIGH_FIRST (take result bytes.now)) out.new }
 {
     let mut place = 0;
     while 16 <= bytes.len() - place {
-        put_16::<O, BIG_ENDIAN>(bytes, place, out);
+        put_16::<O, E>(bytes, place, out);
         place += 16;
     }
     place
@@ -73,12 +74,12 @@ fn put_lanes<O: Output, const BIG_ENDIAN: bool>(bytes: &[u8], out: &mut O) -> us
 
 // One of them.
 #[inline(always)]
-fn put_16<O: Output, const BIG_ENDIAN: bool>(bytes: &[u8], place: usize, out: &mut O)
+fn put_16<O: Output, E: ByteOrder>(bytes: &[u8], place: usize, out: &mut O)
     requires within { place + 16 ≤ length bytes.now }
     requires room { 32 ≤ O.room out.old }
-    ensures { O.appends out.old (widened BIG_ENDIAN (take 16 (drop place bytes.now))) out.new }
+    ensures { O.appends out.old (widened E.HIGH_FIRST (take 16 (drop place bytes.now))) out.new }
 {
-    let (first, second) = interleave_zeros(BIG_ENDIAN, u8x16::from_slice(&bytes[place..]));
+    let (first, second) = interleave_zeros::<E>(u8x16::from_slice(&bytes[place..]));
     out.put(&beside(first, second));
 }
 
@@ -96,23 +97,23 @@ fn beside(first: u8x16, second: u8x16) -> [u8; 32]
 // The same of a few bytes, one by one.
 #[inline(always)]
 #[tactic(auto, using(crate::proofs::AsciiToUtf16::few_widened))]
-fn put_each<O: Output, const BIG_ENDIAN: bool>(bytes: &[u8], out: &mut O)
+fn put_each<O: Output, E: ByteOrder>(bytes: &[u8], out: &mut O)
     requires { 2 * length bytes.now ≤ O.room out.old }
-    ensures { O.appends out.old (widened BIG_ENDIAN bytes.now) out.new }
+    ensures { O.appends out.old (widened E.HIGH_FIRST bytes.now) out.new }
 {
     let mut place = 0;
     while place < bytes.len() {
-        put_one::<O, BIG_ENDIAN>(bytes[place], out);
+        put_one::<O, E>(bytes[place], out);
         place += 1;
     }
 }
 
 #[inline(always)]
-fn put_one<O: Output, const BIG_ENDIAN: bool>(byte: u8, out: &mut O)
+fn put_one<O: Output, E: ByteOrder>(byte: u8, out: &mut O)
     requires { 2 ≤ O.room out.old }
-    ensures { O.appends out.old (halves BIG_ENDIAN byte 0) out.new }
+    ensures { O.appends out.old (halves E.HIGH_FIRST byte 0) out.new }
 {
-    if BIG_ENDIAN {
+    if E::HIGH_FIRST {
         put_pair(0, byte, out);
     } else {
         put_pair(byte, 0, out);

@@ -6,12 +6,13 @@ ghost use Rattle.utf_lanes.specs.BytePairs.{bytes_of};
 
 use crate::output::Output;
 use encode_unicode::CharExt;
+use utf_lanes::byte_order::ByteOrder;
 use utf_lanes::byte_pairs::two_bytes;
 
 // How many bytes the code of the character has.
 #[inline(always)]
-pub(crate) fn len_of_units<const BIG_ENDIAN: bool>(c: char) -> usize
-    ensures { result ≡ length (flat_map (bytes_of BIG_ENDIAN) (utf16 c)) }
+pub(crate) fn len_of_units<E: ByteOrder>(c: char) -> usize
+    ensures { result ≡ length (flat_map (bytes_of E.HIGH_FIRST) (utf16 c)) }
 {
     match c.to_utf16_tuple() {
         (_, None) => 2,
@@ -47,18 +48,18 @@ pub(crate) fn put_short<O: Output>(code: [u8; 4], len: usize, out: &mut O)
 
 // Appends the code of the character.
 #[inline(always)]
-pub(crate) fn put_code_units<O: Output, const BIG_ENDIAN: bool>(c: char, out: &mut O)
-    requires { length (flat_map (bytes_of BIG_ENDIAN) (utf16 c)) ≤ O.room out.old }
-    ensures { O.appends out.old (flat_map (bytes_of BIG_ENDIAN) (utf16 c)) out.new }
+pub(crate) fn put_code_units<O: Output, E: ByteOrder>(c: char, out: &mut O)
+    requires { length (flat_map (bytes_of E.HIGH_FIRST) (utf16 c)) ≤ O.room out.old }
+    ensures { O.appends out.old (flat_map (bytes_of E.HIGH_FIRST) (utf16 c)) out.new }
 {
     match c.to_utf16_tuple() {
         (unit, None) => {
-            let [a, b] = two_bytes(BIG_ENDIAN, unit);
+            let [a, b] = two_bytes::<E>(unit);
             put_pair(a, b, out);
         }
         (first, Some(second)) => {
-            let [a, b] = two_bytes(BIG_ENDIAN, first);
-            let [c, d] = two_bytes(BIG_ENDIAN, second);
+            let [a, b] = two_bytes::<E>(first);
+            let [c, d] = two_bytes::<E>(second);
             put_pair(a, b, out);
             put_pair(c, d, out);
         }

@@ -5,23 +5,21 @@ ghost use Rattle.utf_lanes.specs.BytePairs.{turned};
 
 use crate::output::Output;
 use crate::swapped::put_swapped;
+use utf_lanes::byte_order::ByteOrder;
 use utf_lanes::unit_blocks::units_len;
 
 // Appends the well-formed units at the front of the bytes, the two bytes of each swapped where the order that is wanted is
 // another, and answers how many bytes they have.
 #[inline(never)]
-pub(crate) fn copy_units<O: Output, const BIG_ENDIAN: bool, const WANTED: bool>(
-    bytes: &[u8],
-    out: &mut O,
-) -> usize
+pub(crate) fn copy_units<O: Output, E: ByteOrder, W: ByteOrder>(bytes: &[u8], out: &mut O) -> usize
     requires { length bytes.now ≤ O.room out.old }
-    ensures { CopiesUnits O.appends BIG_ENDIAN (differ BIG_ENDIAN WANTED) bytes.now out.old out.new result }
+    ensures { CopiesUnits O.appends E.HIGH_FIRST (differ E.HIGH_FIRST W.HIGH_FIRST) bytes.now out.old out.new result }
 {
-    let len = 2 * units_len(BIG_ENDIAN, bytes);
+    let len = 2 * units_len::<E>(bytes);
     if len == 0 {
         return 0;
     }
-    put_turned(BIG_ENDIAN != WANTED, &bytes[..len], out);
+    put_turned(E::HIGH_FIRST != W::HIGH_FIRST, &bytes[..len], out);
     len
 }
 

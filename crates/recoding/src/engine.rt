@@ -5,12 +5,14 @@ ghost use Rattle.recoding.specs.Recodes.{FitsAll};
 ghost use Rattle.recoding.specs.Replacing.{IsNext, Reaches};
 ghost use Rattle.recoding.specs.Strict.{PutsText};
 
+use crate::block_output::BlockOutput;
 use crate::form::{Form, WIDEST};
 use crate::kernels::{Copied, Kernel, Narrowed, PART, Turned, Widened, by_forms};
 use crate::next_scalar::{ShownPiece, first_four};
 use crate::output::Output;
 use crate::replacing::Replacing;
 use crate::text::{Text, Utf8, Utf16};
+use utf_lanes::byte_order::{BigEndian, LittleEndian};
 
 // How many bytes go with care before a run looks for text again, where no fault is among them.
 pub(crate) const STRIDE: usize = 16;
@@ -41,7 +43,7 @@ pub(crate) struct Reached {
 // enough for all: in blocks where the bytes allow it, then character by character, and with care only where there is a fault,
 // at the end, or at the end of the room. Each pair of forms has a copy of it, in which a compiler knows the forms.
 #[inline(always)]
-pub(crate) fn run<S: Text, T: Text, K: Kernel<S, T>, F: Replacing, O: Output>(
+pub(crate) fn run<S: Text, T: Text, K: Kernel<S, T>, F: Replacing, O: BlockOutput>(
     is_ample: bool,
     bytes: &[u8],
     out: &mut O,
@@ -173,14 +175,17 @@ fn recode_text_within<S: Text, T: Text, O: Output>(bytes: &[u8], out: &mut O) ->
 
 // Recodes text at the front of the bytes in blocks, as far as they are text and the room is surely enough. Answers how many bytes
 // it has.
-pub(crate) fn put_text<O: Output>(from: Form, to: Form, bytes: &[u8], out: &mut O) -> usize
+pub(crate) fn put_text<O: BlockOutput>(from: Form, to: Form, bytes: &[u8], out: &mut O) -> usize
     ensures { PutsText O.appends from to bytes.now out.old out.new result }
 {
     by_forms!(from, to, put_all_text::<O>(bytes, out))
 }
 
 // The same under the types of the forms.
-fn put_all_text<S: Text, T: Text, K: Kernel<S, T>, O: Output>(bytes: &[u8], out: &mut O) -> usize
+fn put_all_text<S: Text, T: Text, K: Kernel<S, T>, O: BlockOutput>(
+    bytes: &[u8],
+    out: &mut O,
+) -> usize
     ensures { PutsText O.appends S.form T.form bytes.now out.old out.new result }
 {
     let mut read = 0;

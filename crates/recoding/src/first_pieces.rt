@@ -7,6 +7,7 @@ use crate::faults::FaultKind;
 use crate::form::Form;
 use encode_unicode::error::{Utf8ErrorKind, Utf16PairError};
 use encode_unicode::{CharExt, U16UtfExt};
+use utf_lanes::byte_order::ByteOrder;
 use utf_lanes::byte_pairs::unit;
 
 // What begins some bytes.
@@ -36,13 +37,13 @@ pub(crate) fn first_of_utf8(bytes: &[u8]) -> FirstPiece
 
 // The same of UTF-16.
 #[inline(always)]
-pub(crate) fn first_of_utf16<const BIG_ENDIAN: bool>(bytes: &[u8]) -> FirstPiece
-    ensures { IsFirstPiece (utf16_form BIG_ENDIAN) bytes.now result }
+pub(crate) fn first_of_utf16<E: ByteOrder>(bytes: &[u8]) -> FirstPiece
+    ensures { IsFirstPiece (utf16_form E.HIGH_FIRST) bytes.now result }
 {
     if bytes.len() < 2 {
         return FirstPiece::Undecided;
     }
-    let first = unit(BIG_ENDIAN, bytes[0], bytes[1]);
+    let first = unit::<E>(bytes[0], bytes[1]);
     if !first.is_utf16_leading_surrogate() {
         return match char::from_utf16_tuple((first, None)) {
             Ok(c) => FirstPiece::Char(c, 2),
@@ -52,7 +53,7 @@ pub(crate) fn first_of_utf16<const BIG_ENDIAN: bool>(bytes: &[u8]) -> FirstPiece
     if bytes.len() < 4 {
         return FirstPiece::Undecided;
     }
-    let second = unit(BIG_ENDIAN, bytes[2], bytes[3]);
+    let second = unit::<E>(bytes[2], bytes[3]);
     match char::from_utf16_tuple((first, Some(second))) {
         Ok(c) => FirstPiece::Char(c, 4),
         Err(_) => unit_fault(Utf16PairError::UnmatchedLeadingSurrogate),

@@ -13,14 +13,15 @@ use crate::output::Output;
 use crate::replacing::{Each, Replacing, Subparts};
 use crate::text::{Text, Utf8, Utf16};
 use crate::way::Way;
+use utf_lanes::byte_order::{BigEndian, LittleEndian};
 
 // Calls a function of the type of a form.
 macro_rules! by_form {
     ($form:expr, $call:ident($($given:expr),*)) => {
         match $form {
             Form::Utf8 => Utf8::$call($($given),*),
-            Form::Utf16Le => Utf16::<false>::$call($($given),*),
-            Form::Utf16Be => Utf16::<true>::$call($($given),*),
+            Form::Utf16Le => Utf16::<LittleEndian>::$call($($given),*),
+            Form::Utf16Be => Utf16::<BigEndian>::$call($($given),*),
         }
     };
 }
@@ -30,11 +31,11 @@ macro_rules! by_way {
     ($way:expr, $form:expr, $call:ident($($given:expr),*)) => {
         match ($way, $form) {
             (Way::Faults, Form::Utf8) => Each::$call::<Utf8>($($given),*),
-            (Way::Faults, Form::Utf16Le) => Each::$call::<Utf16<false>>($($given),*),
-            (Way::Faults, Form::Utf16Be) => Each::$call::<Utf16<true>>($($given),*),
+            (Way::Faults, Form::Utf16Le) => Each::$call::<Utf16<LittleEndian>>($($given),*),
+            (Way::Faults, Form::Utf16Be) => Each::$call::<Utf16<BigEndian>>($($given),*),
             (Way::Subparts, Form::Utf8) => Subparts::$call::<Utf8>($($given),*),
-            (Way::Subparts, Form::Utf16Le) => Subparts::$call::<Utf16<false>>($($given),*),
-            (Way::Subparts, Form::Utf16Be) => Subparts::$call::<Utf16<true>>($($given),*),
+            (Way::Subparts, Form::Utf16Le) => Subparts::$call::<Utf16<LittleEndian>>($($given),*),
+            (Way::Subparts, Form::Utf16Be) => Subparts::$call::<Utf16<BigEndian>>($($given),*),
         }
     };
 }

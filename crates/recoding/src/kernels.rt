@@ -7,12 +7,14 @@ ghost use Rattle.recoding.specs.declared.form.Form.TheVariants as form;
 ghost use Rattle.utf_lanes.specs.Utf8ToUtf16.{utf16_bytes};
 
 use crate::ascii_to_utf16::{put_ascii_as_utf16, put_ascii_front};
+use crate::block_output::BlockOutput;
 use crate::copied::copy_units;
 use crate::form::WIDEST;
 use crate::next_scalar::ascii_of_units;
 use crate::output::Output;
 use crate::text::{Text, Utf8, Utf16};
 use utf_lanes::ascii_texts::is_ascii;
+use utf_lanes::byte_order::ByteOrder;
 use utf_lanes::text_blocks::{are_text, text_len};
 use utf_lanes::text_puts::{write_few, write_first, write_rest};
 
@@ -29,7 +31,7 @@ pub(crate) trait Kernel<S: Text, T: Text> {
 
     // Recodes text at the front of the bytes, as far as it goes in blocks and the room is surely enough, of which a caller may
     // know that it is enough for all. Answers how many bytes it has.
-    fn put_text<O: Output>(is_ample: bool, bytes: &[u8], out: &mut O) -> usize
+    fn put_text<O: BlockOutput>(is_ample: bool, bytes: &[u8], out: &mut O) -> usize
         requires { IsTrue is_ample → FitsAll bytes.now (O.room out.old) }
         ensures { PutsText O.appends S.form T.form bytes.now out.old out.new result };
 }
@@ -50,7 +52,7 @@ impl Kernel<Utf8, Utf8> for Copied {
     const TAKES_ALL: bool = true;
 
     #[inline(always)]
-    fn put_text<O: Output>(is_ample: bool, bytes: &[u8], out: &mut O) -> usize {
+    fn put_text<O: BlockOutput>(is_ample: bool, bytes: &[u8], out: &mut O) -> usize {
         let most = PART.min(most_copied(is_ample, bytes, out));
         let part = &bytes[..most];
         if most <= SHORT && is_ascii(part) {
@@ -63,11 +65,11 @@ impl Kernel<Utf8, Utf8> for Copied {
     }
 }
 
-impl<const BIG_ENDIAN: bool> Kernel<Utf8, Utf16<BIG_ENDIAN>> for Widened {
+impl<E: ByteOrder> Kernel<Utf8, Utf16<E>> for Widened {
     const TAKES_ALL: bool = false;
 
     #[inline(always)]
-    fn put_text<O: Output>(is_ample: bool, bytes: &[u8], out: &mut O) -> usize {
+    fn put_text<O: BlockOutput>(is_ample: bool, bytes: &[u8], out: &mut O) -> usize {
         let most = PART.min(most_widened(is_ample, bytes, out));
         // Fewer are never taken in lanes, and in scant room not judged either.
         if most < 32 && !is_ample {
@@ -75,113 +77,113 @@ impl<const BIG_ENDIAN: bool> Kernel<Utf8, Utf16<BIG_ENDIAN>> for Widened {
         }
         let part = &bytes[..most];
         if most <= SHORT && is_ascii(part) {
-            put_ascii_as_utf16::<O, BIG_ENDIAN>(part, out);
+            put_ascii_as_utf16::<O, E>(part, out);
             return most;
         }
         if most < 32 {
-            return put_few::<O, BIG_ENDIAN>(part, out);
+            return put_few::<O, E>(part, out);
         }
-        let front = put_ascii_front::<O, BIG_ENDIAN>(part, out);
-        front + put_judged::<O, BIG_ENDIAN>(&part[front..], out)
+        let front = put_ascii_front::<O, E>(part, out);
+        front + put_judged::<O, E>(&part[front..], out)
     }
 }
 
 // Appends the units of text at the front of a few bytes, which is judged as a whole before. Answers how many bytes it has, or 0
 // where neither one vector has them nor two: of fewer than four, and of seventeen or eighteen.
 #[inline(never)]
-fn put_few<O: Output, const BIG_ENDIAN: bool>(bytes: &[u8], out: &mut O) -> usize
+fn put_few<O: Output, E: ByteOrder>(bytes: &[u8], out: &mut O) -> usize
     requires few { length bytes.now < 32 }
     requires room { WIDEST * length bytes.now ≤ O.room out.old }
-    ensures { PutsText O.appends form.Utf8 (utf16_form BIG_ENDIAN) bytes.now out.old out.new result }
+    ensures { PutsText O.appends form.Utf8 (utf16_form E.HIGH_FIRST) bytes.now out.old out.new result }
 {
     if bytes.len() < 19 {
-        return put_at_once::<O, BIG_ENDIAN>(&bytes[..bytes.len().min(16)], out);
+        return put_at_once::<O, E>(&bytes[..bytes.len().min(16)], out);
     }
     let len = text_len(bytes);
     if len < 19 {
         return 0;
     }
-    put_few_as_utf16::<O, BIG_ENDIAN>(&bytes[..len], out);
+    put_few_as_utf16::<O, E>(&bytes[..len], out);
     len
 }
 
 // Appends the units of text that two vectors have.
 #[inline(always)]
 #[tactic(auto, using(crate::proofs::GivenBytes::length_given))]
-fn put_few_as_utf16<O: Output, const BIG_ENDIAN: bool>(text: &[u8], out: &mut O)
+fn put_few_as_utf16<O: Output, E: ByteOrder>(text: &[u8], out: &mut O)
     requires long { 19 ≤ length text.now }
     requires few { length text.now < 32 }
     requires room { WIDEST * length text.now ≤ O.room out.old }
-    ensures { O.appends out.old (utf16_bytes BIG_ENDIAN text.now 0 (length text.now)) out.new }
+    ensures { O.appends out.old (utf16_bytes E.HIGH_FIRST text.now 0 (length text.now)) out.new }
 {
     let mut made = [0; 96];
-    let first = write_first(BIG_ENDIAN, text, &mut made, 0);
-    let last = write_rest(BIG_ENDIAN, text, 16, &mut made, first);
+    let first = write_first::<E>(text, &mut made, 0);
+    let last = write_rest::<E>(text, 16, &mut made, first);
     out.put(&made[..last]);
 }
 
 // The same as `put_few` of bytes that one vector has, where all of them are text.
 #[inline(always)]
-fn put_at_once<O: Output, const BIG_ENDIAN: bool>(bytes: &[u8], out: &mut O) -> usize
+fn put_at_once<O: Output, E: ByteOrder>(bytes: &[u8], out: &mut O) -> usize
     requires few { length bytes.now ≤ 16 }
     requires room { WIDEST * length bytes.now ≤ O.room out.old }
-    ensures { PutsText O.appends form.Utf8 (utf16_form BIG_ENDIAN) bytes.now out.old out.new result }
+    ensures { PutsText O.appends form.Utf8 (utf16_form E.HIGH_FIRST) bytes.now out.old out.new result }
 {
     if bytes.len() < 4 || !are_text(bytes) {
         return 0;
     }
-    put_one_vector::<O, BIG_ENDIAN>(bytes, out);
+    put_one_vector::<O, E>(bytes, out);
     bytes.len()
 }
 
 // Appends the units of text that one vector has.
 #[inline(always)]
 #[tactic(auto, using(crate::proofs::GivenBytes::length_given))]
-fn put_one_vector<O: Output, const BIG_ENDIAN: bool>(text: &[u8], out: &mut O)
+fn put_one_vector<O: Output, E: ByteOrder>(text: &[u8], out: &mut O)
     requires some { 4 ≤ length text.now }
     requires few { length text.now ≤ 16 }
     requires room { WIDEST * length text.now ≤ O.room out.old }
-    ensures { O.appends out.old (utf16_bytes BIG_ENDIAN text.now 0 (length text.now)) out.new }
+    ensures { O.appends out.old (utf16_bytes E.HIGH_FIRST text.now 0 (length text.now)) out.new }
 {
     let mut made = [0; 32];
-    let end = write_few(BIG_ENDIAN, text, &mut made);
+    let end = write_few::<E>(text, &mut made);
     out.put(&made[..end]);
 }
 
 // Appends the units of text at the front of some bytes, which is judged as a whole before. Answers how many bytes it has, or 0
 // of few.
 #[inline(always)]
-fn put_judged<O: Output, const BIG_ENDIAN: bool>(bytes: &[u8], out: &mut O) -> usize
+fn put_judged<O: BlockOutput, E: ByteOrder>(bytes: &[u8], out: &mut O) -> usize
     requires { WIDEST * length bytes.now ≤ O.room out.old }
-    ensures { PutsText O.appends form.Utf8 (utf16_form BIG_ENDIAN) bytes.now out.old out.new result }
+    ensures { PutsText O.appends form.Utf8 (utf16_form E.HIGH_FIRST) bytes.now out.old out.new result }
 {
     let len = text_len(bytes);
     if len < 32 {
         return 0;
     }
-    out.put_units(BIG_ENDIAN, &bytes[..len]);
+    out.put_units::<E>(&bytes[..len]);
     len
 }
 
-impl<const BIG_ENDIAN: bool> Kernel<Utf16<BIG_ENDIAN>, Utf8> for Narrowed {
+impl<E: ByteOrder> Kernel<Utf16<E>, Utf8> for Narrowed {
     const TAKES_ALL: bool = false;
 
     #[inline(always)]
-    fn put_text<O: Output>(is_ample: bool, bytes: &[u8], out: &mut O) -> usize {
-        let len = out.put_blocks(BIG_ENDIAN, bytes);
-        len + narrow_ascii::<O, BIG_ENDIAN>(&bytes[len..], out)
+    fn put_text<O: BlockOutput>(is_ample: bool, bytes: &[u8], out: &mut O) -> usize {
+        let len = out.put_blocks::<E>(bytes);
+        len + narrow_ascii::<O, E>(&bytes[len..], out)
     }
 }
 
 // Recodes the blocks of eight units of ASCII at the front of the bytes as UTF-8, as far as there is room. Answers how many bytes
 // they have.
 #[inline(always)]
-fn narrow_ascii<O: Output, const BIG_ENDIAN: bool>(bytes: &[u8], out: &mut O) -> usize
-    ensures { PutsText O.appends (utf16_form BIG_ENDIAN) form.Utf8 bytes.now out.old out.new result }
+fn narrow_ascii<O: Output, E: ByteOrder>(bytes: &[u8], out: &mut O) -> usize
+    ensures { PutsText O.appends (utf16_form E.HIGH_FIRST) form.Utf8 bytes.now out.old out.new result }
 {
     let mut place = 0;
     while 16 <= bytes.len() - place && 8 <= out.room() {
-        match ascii_of_units::<BIG_ENDIAN>(&bytes[place..place + 16]) {
+        match ascii_of_units::<E>(&bytes[place..place + 16]) {
             None => return place,
             Some(ascii) => {
                 out.put(&ascii);
@@ -192,17 +194,16 @@ fn narrow_ascii<O: Output, const BIG_ENDIAN: bool>(bytes: &[u8], out: &mut O) ->
     place
 }
 
-impl<const BIG_ENDIAN: bool, const WANTED: bool> Kernel<Utf16<BIG_ENDIAN>, Utf16<WANTED>>
-    for Turned {
+impl<E: ByteOrder, W: ByteOrder> Kernel<Utf16<E>, Utf16<W>> for Turned {
     const TAKES_ALL: bool = false;
 
     #[inline(always)]
-    fn put_text<O: Output>(is_ample: bool, bytes: &[u8], out: &mut O) -> usize {
+    fn put_text<O: BlockOutput>(is_ample: bool, bytes: &[u8], out: &mut O) -> usize {
         let most = most_copied(is_ample, bytes, out);
         if most < 16 {
             return 0;
         }
-        copy_units::<O, BIG_ENDIAN, WANTED>(&bytes[..most], out)
+        copy_units::<O, E, W>(&bytes[..most], out)
     }
 }
 
@@ -237,14 +238,14 @@ macro_rules! by_forms {
     ($from:expr, $to:expr, $call:ident $(::<$output:ty>)? ($($given:expr),*)) => {
         match ($from, $to) {
             (Form::Utf8, Form::Utf8) => $call::<Utf8, Utf8, Copied $(, $output)?>($($given),*),
-            (Form::Utf8, Form::Utf16Le) => $call::<Utf8, Utf16<false>, Widened $(, $output)?>($($given),*),
-            (Form::Utf8, Form::Utf16Be) => $call::<Utf8, Utf16<true>, Widened $(, $output)?>($($given),*),
-            (Form::Utf16Le, Form::Utf8) => $call::<Utf16<false>, Utf8, Narrowed $(, $output)?>($($given),*),
-            (Form::Utf16Le, Form::Utf16Le) => $call::<Utf16<false>, Utf16<false>, Turned $(, $output)?>($($given),*),
-            (Form::Utf16Le, Form::Utf16Be) => $call::<Utf16<false>, Utf16<true>, Turned $(, $output)?>($($given),*),
-            (Form::Utf16Be, Form::Utf8) => $call::<Utf16<true>, Utf8, Narrowed $(, $output)?>($($given),*),
-            (Form::Utf16Be, Form::Utf16Le) => $call::<Utf16<true>, Utf16<false>, Turned $(, $output)?>($($given),*),
-            (Form::Utf16Be, Form::Utf16Be) => $call::<Utf16<true>, Utf16<true>, Turned $(, $output)?>($($given),*),
+            (Form::Utf8, Form::Utf16Le) => $call::<Utf8, Utf16<LittleEndian>, Widened $(, $output)?>($($given),*),
+            (Form::Utf8, Form::Utf16Be) => $call::<Utf8, Utf16<BigEndian>, Widened $(, $output)?>($($given),*),
+            (Form::Utf16Le, Form::Utf8) => $call::<Utf16<LittleEndian>, Utf8, Narrowed $(, $output)?>($($given),*),
+            (Form::Utf16Le, Form::Utf16Le) => $call::<Utf16<LittleEndian>, Utf16<LittleEndian>, Turned $(, $output)?>($($given),*),
+            (Form::Utf16Le, Form::Utf16Be) => $call::<Utf16<LittleEndian>, Utf16<BigEndian>, Turned $(, $output)?>($($given),*),
+            (Form::Utf16Be, Form::Utf8) => $call::<Utf16<BigEndian>, Utf8, Narrowed $(, $output)?>($($given),*),
+            (Form::Utf16Be, Form::Utf16Le) => $call::<Utf16<BigEndian>, Utf16<LittleEndian>, Turned $(, $output)?>($($given),*),
+            (Form::Utf16Be, Form::Utf16Be) => $call::<Utf16<BigEndian>, Utf16<BigEndian>, Turned $(, $output)?>($($given),*),
         }
     };
 }

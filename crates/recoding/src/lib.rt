@@ -7,6 +7,7 @@
 #![tactic(auto)]
 
 mod ascii_to_utf16;
+mod block_output;
 pub mod boundaries;
 mod codes;
 mod copied;

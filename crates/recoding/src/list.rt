@@ -6,12 +6,14 @@ ghost use Rattle.recoding.specs.Recodes.{PutsUnits};
 ghost use Rattle.recoding.specs.Strict.{PutsText};
 ghost use Rattle.utf_lanes.specs.Utf8ToUtf16.{utf16_bytes};
 
+use crate::block_output::BlockOutput;
 use crate::form::Form;
 use crate::output::Output;
 use crate::utf8_to_utf16::widen_text;
 use crate::utf16_to_utf8::{BLOCK, ROOM};
 use std::alloc::Allocator;
 use std::simd::prelude::*;
+use utf_lanes::byte_order::ByteOrder;
 use utf_lanes::unit_bytes::{are_ascii, sixteen_halves};
 use utf_lanes::utf16_blocks::write_others;
 
@@ -51,29 +53,31 @@ impl<A: Allocator> Output for Vec<u8, A> {
     fn put_wide(&mut self, block: u8x64) {
         let _ = self.extend_from_slice(&block.to_array());
     }
+}
 
+impl<A: Allocator> BlockOutput for Vec<u8, A> {
     #[inline(always)]
-    fn put_units(&mut self, high_first: bool, text: &[u8]) {
-        append_units(high_first, text, self);
+    fn put_units<E: ByteOrder>(&mut self, text: &[u8]) {
+        append_units::<A, E>(text, self);
     }
 
     #[inline(always)]
-    fn put_blocks(&mut self, high_first: bool, bytes: &[u8]) -> usize {
-        append_blocks(high_first, bytes, self)
+    fn put_blocks<E: ByteOrder>(&mut self, bytes: &[u8]) -> usize {
+        append_blocks::<A, E>(bytes, self)
     }
 }
 
 // Appends the units that the places of some text give. They are written where they stay, over zeros, of which those after them then
 // go.
 #[inline(never)]
-fn append_units<A: Allocator>(high_first: bool, text: &[u8], out: &mut Vec<u8, A>)
+fn append_units<A: Allocator, E: ByteOrder>(text: &[u8], out: &mut Vec<u8, A>)
     requires long { 32 ≤ length text.now }
     requires room { 3 * length text.now ≤ vec_capacity out.old - vec_len out.old }
-    ensures { Extends out.old (utf16_bytes high_first text.now 0 (length text.now)) out.new }
+    ensures { Extends out.old (utf16_bytes E.HIGH_FIRST text.now 0 (length text.now)) out.new }
 {
     let start = out.len();
     append_zeros(2 * text.len() + 32, out);
-    let last = widen_text(high_first, text, out.as_mut_slice(), start);
+    let last = widen_text::<E>(text, out.as_mut_slice(), start);
     out.truncate(last);
 }
 
@@ -103,12 +107,12 @@ fn append_few_zeros<A: Allocator>(count: usize, out: &mut Vec<u8, A>)
 // Recodes the blocks of sixteen units at the front of the bytes as UTF-8, as far as they have no fault and the room is surely
 // enough. One that a leading surrogate ends is a unit short. Answers how many bytes they have.
 #[inline(always)]
-fn append_blocks<A: Allocator>(high_first: bool, bytes: &[u8], out: &mut Vec<u8, A>) -> usize
-    ensures { PutsText Extends (utf16_form high_first) Form.Utf8 bytes.now out.old out.new result }
+fn append_blocks<A: Allocator, E: ByteOrder>(bytes: &[u8], out: &mut Vec<u8, A>) -> usize
+    ensures { PutsText Extends (utf16_form E.HIGH_FIRST) Form.Utf8 bytes.now out.old out.new result }
 {
     let mut place = 0;
     while BLOCK <= bytes.len() - place && ROOM <= out.room() {
-        let (low, high) = sixteen_halves(high_first, &bytes[place..]);
+        let (low, high) = sixteen_halves::<E>(&bytes[place..]);
         let units = append_block(low, high, out);
         if units == 0 {
             return place;

@@ -11,6 +11,7 @@ use crate::first_pieces::{FirstPiece, first_of_utf8, first_of_utf16};
 use crate::form::Form;
 use crate::next_scalar::{ShownPiece, is_front_of_code, may_be_second};
 use utf_base::elements::is_continuation;
+use utf_lanes::byte_order::ByteOrder;
 
 // The part that begins the bytes, whatever follows them; `None` where that depends on what does.
 #[inline(always)]
@@ -28,12 +29,12 @@ pub(crate) fn part_of_utf8(bytes: &[u8]) -> Option<ShownPiece>
 
 // The same of UTF-16, of which each fault is a subpart.
 #[inline(always)]
-pub(crate) fn part_of_utf16<const BIG_ENDIAN: bool>(bytes: &[u8]) -> Option<ShownPiece>
-    ensures some { IfSome result (λ x. IsNext way.Subparts (utf16_form BIG_ENDIAN) bytes.now x) }
+pub(crate) fn part_of_utf16<E: ByteOrder>(bytes: &[u8]) -> Option<ShownPiece>
+    ensures some { IfSome result (λ x. IsNext way.Subparts (utf16_form E.HIGH_FIRST) bytes.now x) }
     ensures few { IfNone result (length bytes.now ≤ 3) }
-    ensures lacks { IfNone result (Lacks (utf16_form BIG_ENDIAN) bytes.now) }
+    ensures lacks { IfNone result (Lacks (utf16_form E.HIGH_FIRST) bytes.now) }
 {
-    match first_of_utf16::<BIG_ENDIAN>(bytes) {
+    match first_of_utf16::<E>(bytes) {
         FirstPiece::Char(c, len) => Some(ShownPiece::Char(c, len)),
         FirstPiece::Fault(_, len) => Some(ShownPiece::Fault(len)),
         FirstPiece::Undecided => None,

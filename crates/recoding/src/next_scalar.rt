@@ -14,6 +14,7 @@ use crate::form::Form;
 use encode_unicode::error::Utf8ErrorKind;
 use encode_unicode::{CharExt, U16UtfExt};
 use utf_base::elements::is_continuation;
+use utf_lanes::byte_order::ByteOrder;
 use utf_lanes::byte_pairs::unit;
 use utf_lanes::text_front::front_of_text;
 
@@ -118,15 +119,15 @@ pub(crate) fn may_be_second(first: u8, second: u8) -> bool
 
 // What begins the bytes as UTF-16; `None` where that depends on what follows them.
 #[inline(always)]
-pub(crate) fn next_of_utf16<const BIG_ENDIAN: bool>(bytes: &[u8]) -> Option<ShownPiece>
-    ensures some { IfSome result (λ x. BeginsPiece (utf16_form BIG_ENDIAN) bytes.now x) }
-    ensures none { IfNone result (Waits (utf16_form BIG_ENDIAN) bytes.now) }
-    ensures lacks { IfNone result (Lacks (utf16_form BIG_ENDIAN) bytes.now) }
+pub(crate) fn next_of_utf16<E: ByteOrder>(bytes: &[u8]) -> Option<ShownPiece>
+    ensures some { IfSome result (λ x. BeginsPiece (utf16_form E.HIGH_FIRST) bytes.now x) }
+    ensures none { IfNone result (Waits (utf16_form E.HIGH_FIRST) bytes.now) }
+    ensures lacks { IfNone result (Lacks (utf16_form E.HIGH_FIRST) bytes.now) }
 {
     if bytes.len() < 2 {
         return None;
     }
-    let first = unit(BIG_ENDIAN, bytes[0], bytes[1]);
+    let first = unit::<E>(bytes[0], bytes[1]);
     if !first.is_utf16_leading_surrogate() {
         return match char::from_utf16_tuple((first, None)) {
             Ok(c) => Some(ShownPiece::Char(c, 2)),
@@ -136,7 +137,7 @@ pub(crate) fn next_of_utf16<const BIG_ENDIAN: bool>(bytes: &[u8]) -> Option<Show
     if bytes.len() < 4 {
         return None;
     }
-    let second = unit(BIG_ENDIAN, bytes[2], bytes[3]);
+    let second = unit::<E>(bytes[2], bytes[3]);
     match char::from_utf16_tuple((first, Some(second))) {
         Ok(c) => Some(ShownPiece::Char(c, 4)),
         Err(_) => Some(ShownPiece::Fault(2)),
@@ -145,13 +146,13 @@ pub(crate) fn next_of_utf16<const BIG_ENDIAN: bool>(bytes: &[u8]) -> Option<Show
 
 // The character that begins the bytes, and how many bytes it has; `None` at a fault, and near the end.
 #[inline(always)]
-pub(crate) fn next_valid_of_utf16<const BIG_ENDIAN: bool>(bytes: &[u8]) -> Option<(char, usize)>
-    ensures { IfSome result (λ x. BeginsChar (utf16_form BIG_ENDIAN) bytes.now x.0 x.1) }
+pub(crate) fn next_valid_of_utf16<E: ByteOrder>(bytes: &[u8]) -> Option<(char, usize)>
+    ensures { IfSome result (λ x. BeginsChar (utf16_form E.HIGH_FIRST) bytes.now x.0 x.1) }
 {
     if bytes.len() < 2 {
         return None;
     }
-    let first = unit(BIG_ENDIAN, bytes[0], bytes[1]);
+    let first = unit::<E>(bytes[0], bytes[1]);
     if !first.is_utf16_leading_surrogate() {
         return match char::from_utf16_tuple((first, None)) {
             Ok(c) => Some((c, 2)),
@@ -161,7 +162,7 @@ pub(crate) fn next_valid_of_utf16<const BIG_ENDIAN: bool>(bytes: &[u8]) -> Optio
     if bytes.len() < 4 {
         return None;
     }
-    let second = unit(BIG_ENDIAN, bytes[2], bytes[3]);
+    let second = unit::<E>(bytes[2], bytes[3]);
     match char::from_utf16_tuple((first, Some(second))) {
         Ok(c) => Some((c, 4)),
         Err(_) => None,
@@ -170,11 +171,11 @@ pub(crate) fn next_valid_of_utf16<const BIG_ENDIAN: bool>(bytes: &[u8]) -> Optio
 
 // The eight characters of ASCII that sixteen bytes are as units. `None` where a unit is anything else.
 #[inline(always)]
-pub(crate) fn ascii_of_units<const BIG_ENDIAN: bool>(bytes: &[u8]) -> Option<[u8; 8]>
+pub(crate) fn ascii_of_units<E: ByteOrder>(bytes: &[u8]) -> Option<[u8; 8]>
     requires { length bytes.now ≡ 16 }
-    ensures { IfSome result (λ ascii. Transcodes (utf16_form BIG_ENDIAN) Form.Utf8 bytes.now ascii) }
+    ensures { IfSome result (λ ascii. Transcodes (utf16_form E.HIGH_FIRST) Form.Utf8 bytes.now ascii) }
 {
-    let units = eight_units::<BIG_ENDIAN>(bytes);
+    let units = eight_units::<E>(bytes);
     if eight_are_ascii(units) {
         Some(eight_bytes(units))
     } else {
@@ -184,19 +185,19 @@ pub(crate) fn ascii_of_units<const BIG_ENDIAN: bool>(bytes: &[u8]) -> Option<[u8
 
 #[inline(always)]
 #[tactic(auto, using(crate::proofs::Blocks::eight_units))]
-fn eight_units<const BIG_ENDIAN: bool>(bytes: &[u8]) -> [u16; 8]
+fn eight_units<E: ByteOrder>(bytes: &[u8]) -> [u16; 8]
     requires { length bytes.now ≡ 16 }
-    ensures { result ≡ units_of BIG_ENDIAN bytes.now }
+    ensures { result ≡ units_of E.HIGH_FIRST bytes.now }
 {
     [
-        unit(BIG_ENDIAN, bytes[0], bytes[1]),
-        unit(BIG_ENDIAN, bytes[2], bytes[3]),
-        unit(BIG_ENDIAN, bytes[4], bytes[5]),
-        unit(BIG_ENDIAN, bytes[6], bytes[7]),
-        unit(BIG_ENDIAN, bytes[8], bytes[9]),
-        unit(BIG_ENDIAN, bytes[10], bytes[11]),
-        unit(BIG_ENDIAN, bytes[12], bytes[13]),
-        unit(BIG_ENDIAN, bytes[14], bytes[15]),
+        unit::<E>(bytes[0], bytes[1]),
+        unit::<E>(bytes[2], bytes[3]),
+        unit::<E>(bytes[4], bytes[5]),
+        unit::<E>(bytes[6], bytes[7]),
+        unit::<E>(bytes[8], bytes[9]),
+        unit::<E>(bytes[10], bytes[11]),
+        unit::<E>(bytes[12], bytes[13]),
+        unit::<E>(bytes[14], bytes[15]),
     ]
 }
 

@@ -5,11 +5,7 @@ use std::simd::prelude::*;
 
 // Where bytes are put one after another: it has room for so many, and takes no memory.
 pub(crate) trait Output {
-    ghost use Rattle.std.specs.Prelude.{ℕ, ◌+◌, ◌*◌, ◌≤◌, List, [], ◌∷◌, ◌++◌, length};
-    ghost use Rattle.recoding.specs.NextScalars.{utf16_form};
-    ghost use Rattle.recoding.specs.Strict.{PutsText};
-    ghost use Rattle.recoding.specs.declared.form.Form.TheVariants.{Utf8};
-    ghost use Rattle.utf_lanes.specs.Utf8ToUtf16.{utf16_bytes};
+    ghost use Rattle.std.specs.Prelude.{ℕ, ◌+◌, ◌≤◌, List, [], ◌∷◌, ◌++◌, length};
 
     // How many more bytes it takes.
     ghost room: { Self → ℕ };
@@ -34,17 +30,6 @@ pub(crate) trait Output {
     fn put_wide(&mut self, block: u8x64)
         requires { 64 ≤ room self.old }
         ensures { appends self.old block self.new };
-
-    // Appends the units that the places of some text give.
-    fn put_units(&mut self, high_first: bool, text: &[u8])
-        requires long { 32 ≤ length text.now }
-        requires room { 3 * length text.now ≤ room self.old }
-        ensures { appends self.old (utf16_bytes high_first text.now 0 (length text.now)) self.new };
-
-    // Recodes the blocks of units at the front of the bytes as UTF-8, as far as they have no fault and the room is surely enough.
-    // Answers how many bytes they have.
-    fn put_blocks(&mut self, high_first: bool, bytes: &[u8]) -> usize
-        ensures { PutsText appends (utf16_form high_first) Utf8 bytes.now self.old self.new result };
 
     ghost appends_none: { (a : Self) → appends a [] a };
 

@@ -7,6 +7,7 @@ ghost use Rattle.recoding.specs.Replacing.{FillsPlace, NextIsLonger, Recodes, at
 ghost use Rattle.recoding.specs.Rooms.{HasRoomFor};
 ghost use Rattle.recoding.specs.Strict.{PutsText, StopsAt};
 
+use crate::block_output::BlockOutput;
 use crate::engine::{has_room_for_all, put_text, run};
 use crate::first_pieces::FirstPiece;
 use crate::form::Form;
@@ -20,6 +21,7 @@ use crate::rooms::Progress;
 use crate::text::{Text, Utf8, Utf16};
 use crate::way::Way;
 use std::alloc::Allocator;
+use utf_lanes::byte_order::{BigEndian, LittleEndian};
 
 // How many bytes a run recoded, and how many of their faults became U+FFFD.
 #[derive(Clone, Copy, Drop)]
@@ -158,7 +160,7 @@ pub(crate) fn recode_to_fault(
 }
 
 // The same to any output.
-fn run_strictly<O: Output>(
+fn run_strictly<O: BlockOutput>(
     from: Form,
     to: Form,
     held: &[u8],
@@ -182,7 +184,12 @@ fn run_strictly<O: Output>(
 }
 
 // The same where nothing is held: in blocks, and then piece by piece.
-fn run_by_pieces<O: Output>(from: Form, to: Form, bytes: &[u8], out: &mut O) -> (usize, FirstPiece)
+fn run_by_pieces<O: BlockOutput>(
+    from: Form,
+    to: Form,
+    bytes: &[u8],
+    out: &mut O,
+) -> (usize, FirstPiece)
     ensures puts { PutsText O.appends from to bytes.now out.old out.new result.0 }
     ensures stops { StopsAt from to (drop result.0 bytes.now) (O.room out.new) result.1 }
 {

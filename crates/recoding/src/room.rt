@@ -1,11 +1,13 @@
 //! The free part of a slice.
 ghost use Rattle.std.specs.Prelude.{◌≡◌, ◌≤◌, length};
 
+use crate::block_output::BlockOutput;
 use crate::fills::{lay_byte, lay_wide, put_all};
 use crate::output::Output;
 use crate::utf8_to_utf16::widen_text;
 use crate::utf16_to_utf8::write_blocks;
 use std::simd::prelude::*;
+use utf_lanes::byte_order::ByteOrder;
 
 // A slice of which some bytes at the front are written.
 #[derive(Drop)]
@@ -61,15 +63,17 @@ impl Output for Room<'_> {
     fn put_wide(&mut self, block: u8x64) {
         self.len = lay_wide(block, self.bytes, self.len);
     }
+}
 
+impl BlockOutput for Room<'_> {
     #[inline(always)]
-    fn put_units(&mut self, high_first: bool, text: &[u8]) {
-        self.len = widen_text(high_first, text, self.bytes, self.len);
+    fn put_units<E: ByteOrder>(&mut self, text: &[u8]) {
+        self.len = widen_text::<E>(text, self.bytes, self.len);
     }
 
     #[inline(always)]
-    fn put_blocks(&mut self, high_first: bool, bytes: &[u8]) -> usize {
-        let (read, end) = write_blocks(high_first, bytes, self.bytes, self.len);
+    fn put_blocks<E: ByteOrder>(&mut self, bytes: &[u8]) -> usize {
+        let (read, end) = write_blocks::<E>(bytes, self.bytes, self.len);
         self.len = end;
         read
     }

@@ -8,6 +8,7 @@ ghost use Rattle.recoding.specs.Shards.{BeginsNoPair, IsLastOutside, IsLastShard
 
 use crate::form::Form;
 use encode_unicode::CharExt;
+use utf_lanes::byte_order::{BigEndian, ByteOrder, LittleEndian};
 use utf_lanes::byte_pairs::unit;
 
 /// The last offset, up to `at`, that is not inside a character, and in UTF-16 not inside a unit. It
@@ -26,8 +27,8 @@ pub fn shard_end(from: Form, bytes: &[u8], at: usize) -> usize
     }
     match from {
         Form::Utf8 => utf8_end(bytes, at),
-        Form::Utf16Le => units_end(false, bytes, at),
-        Form::Utf16Be => units_end(true, bytes, at),
+        Form::Utf16Le => units_end::<LittleEndian>(bytes, at),
+        Form::Utf16Be => units_end::<BigEndian>(bytes, at),
     }
 }
 
@@ -56,13 +57,13 @@ fn lies_over(bytes: &[u8], place: usize, at: usize) -> bool
     }
 }
 
-fn units_end(high_first: bool, bytes: &[u8], at: usize) -> usize
+fn units_end<E: ByteOrder>(bytes: &[u8], at: usize) -> usize
     requires { at < length bytes.now }
-    ensures end { IsLastUnitsEnd high_first bytes.now at result }
+    ensures end { IsLastUnitsEnd E.HIGH_FIRST bytes.now at result }
     ensures near { at ≤ result + 3 }
 {
     let place = at - at % 2;
-    if 2 <= place && is_pair(high_first, &bytes[place - 2..]) {
+    if 2 <= place && is_pair::<E>(&bytes[place - 2..]) {
         place - 2
     } else {
         place
@@ -70,15 +71,15 @@ fn units_end(high_first: bool, bytes: &[u8], at: usize) -> usize
 }
 
 // Whether the code of two units begins the bytes.
-fn is_pair(high_first: bool, bytes: &[u8]) -> bool
-    ensures yes { IsTrue result → LiesOver utf16 (units_of high_first bytes.now) 0 1 }
-    ensures no { IsFalse result → BeginsNoPair (units_of high_first bytes.now) }
+fn is_pair<E: ByteOrder>(bytes: &[u8]) -> bool
+    ensures yes { IsTrue result → LiesOver utf16 (units_of E.HIGH_FIRST bytes.now) 0 1 }
+    ensures no { IsFalse result → BeginsNoPair (units_of E.HIGH_FIRST bytes.now) }
 {
     if bytes.len() < 4 {
         return false;
     }
-    let first = unit(high_first, bytes[0], bytes[1]);
-    let second = unit(high_first, bytes[2], bytes[3]);
+    let first = unit::<E>(bytes[0], bytes[1]);
+    let second = unit::<E>(bytes[2], bytes[3]);
     match char::from_utf16_slice_start(&[first, second]) {
         Ok((_, len)) => 1 < len,
         Err(_) => false,

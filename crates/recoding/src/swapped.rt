@@ -1,10 +1,38 @@
 //! Units with the two bytes of each swapped, put to an output.
-ghost use Rattle.std.specs.Prelude.{◌≡◌, ◌⊎◌, ◌-◌, ◌+◌, ◌%◌, ◌<◌, ◌≤◌, length, take, drop};
+ghost use Rattle.std.specs.Prelude.{◌≡◌, ◌-◌, ◌+◌, ◌%◌, ◌<◌, ◌≤◌, length, take, drop};
 ghost use Rattle.utf_lanes.specs.BytePairs.{swapped};
 
 use crate::codes::put_pair;
 use crate::output::Output;
 use utf_lanes::byte_pairs::{swapped_16, swapped_64};
+
+// What swaps the bytes of the pairs of a block of N bytes.
+trait BlockSwapper<const N: usize> {
+    // The block that begins at the place, its pairs swapped.
+    fn swapped_block(bytes: &[u8], place: usize) -> [u8; N]
+        requires { place + N ≤ length bytes.now }
+        ensures { result ≡ swapped (take N (drop place bytes.now)) };
+}
+
+// By vectors of sixteen lanes.
+struct Sixteen;
+
+// By vectors of 64.
+struct SixtyFour;
+
+impl BlockSwapper<16> for Sixteen {
+    #[inline(always)]
+    fn swapped_block(bytes: &[u8], place: usize) -> [u8; 16] {
+        swapped_16(bytes, place)
+    }
+}
+
+impl BlockSwapper<64> for SixtyFour {
+    #[inline(always)]
+    fn swapped_block(bytes: &[u8], place: usize) -> [u8; 64] {
+        swapped_64(bytes, place)
+    }
+}
 
 // Appends the bytes, those of each pair swapped.
 #[inline(always)]
@@ -17,9 +45,9 @@ pub(crate) fn put_swapped<O: Output>(bytes: &[u8], out: &mut O)
         put_pairs(bytes, out);
         return;
     }
-    let wide = put_blocks(64, bytes, out);
+    let wide = put_blocks::<O, 64, SixtyFour>(bytes, out);
     let rest = &bytes[wide..];
-    let place = put_blocks(16, rest, out);
+    let place = put_blocks::<O, 16, Sixteen>(rest, out);
     put_last(bytes, rest.len() - place, out);
 }
 
@@ -37,37 +65,23 @@ fn put_pairs<O: Output>(bytes: &[u8], out: &mut O)
     }
 }
 
-// The same in blocks of so many bytes. Answers where the last block ends.
+// The same in blocks of N bytes. Answers where the last block ends.
 #[inline(always)]
-fn put_blocks<O: Output>(width: usize, bytes: &[u8], out: &mut O) -> usize
-    requires width { width ≡ 64 ⊎ width ≡ 16 }
+fn put_blocks<O: Output, const N: usize, W: BlockSwapper<N>>(bytes: &[u8], out: &mut O) -> usize
+    requires some { 0 < N }
+    requires pairs { N % 2 ≡ 0 }
     requires room { length bytes.now ≤ O.room out.old }
     ensures within { result ≤ length bytes.now }
     ensures even { result % 2 ≡ 0 }
-    ensures few { length bytes.now < result + width }
+    ensures few { length bytes.now < result + N }
     ensures appends { O.appends out.old (swapped (take result bytes.now)) out.new }
 {
     let mut place = 0;
-    while width <= bytes.len() - place {
-        put_swapped_block(width, bytes, place, out);
-        place += width;
+    while N <= bytes.len() - place {
+        out.put(&W::swapped_block(bytes, place));
+        place += N;
     }
     place
-}
-
-// One block.
-#[inline(always)]
-fn put_swapped_block<O: Output>(width: usize, bytes: &[u8], place: usize, out: &mut O)
-    requires width { width ≡ 64 ⊎ width ≡ 16 }
-    requires within { place + width ≤ length bytes.now }
-    requires room { width ≤ O.room out.old }
-    ensures { O.appends out.old (swapped (take width (drop place bytes.now))) out.new }
-{
-    if width == 64 {
-        out.put(&swapped_64(bytes, place));
-    } else {
-        out.put(&swapped_16(bytes, place));
-    }
 }
 
 // The same of the last few.

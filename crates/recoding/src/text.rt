@@ -14,6 +14,8 @@ use crate::next_scalar::{ShownPiece, next_of_utf8, next_of_utf16, next_valid_of_
 use crate::output::Output;
 use encode_unicode::CharExt;
 use encode_unicode::error::{Utf8ErrorKind, Utf16PairError};
+use std::marker::PhantomData;
+use utf_lanes::byte_order::ByteOrder;
 use utf_lanes::text_front::front_of_text;
 
 // A form of text.
@@ -97,8 +99,8 @@ pub(crate) trait Text {
 // UTF-8.
 pub(crate) struct Utf8;
 
-// UTF-16, big-endian or little-endian.
-pub(crate) struct Utf16<const BIG_ENDIAN: bool>;
+// UTF-16, little-endian or big-endian.
+pub(crate) struct Utf16<E>(PhantomData<E>);
 
 impl Text for Utf8 {
     ghost use Rattle.recoding.specs.declared.form.Form.TheVariants as form;
@@ -152,24 +154,24 @@ impl Text for Utf8 {
     }
 }
 
-impl<const BIG_ENDIAN: bool> Text for Utf16<BIG_ENDIAN> {
+impl<E: ByteOrder> Text for Utf16<E> {
     ghost use Rattle.recoding.specs.NextScalars.{utf16_form};
 
-    ghost form = { utf16_form BIG_ENDIAN };
+    ghost form = { utf16_form E.HIGH_FIRST };
 
     #[inline(always)]
     fn next_scalar(bytes: &[u8]) -> Option<ShownPiece> {
-        next_of_utf16::<BIG_ENDIAN>(bytes)
+        next_of_utf16::<E>(bytes)
     }
 
     #[inline(always)]
     fn next_part(bytes: &[u8]) -> Option<ShownPiece> {
-        part_of_utf16::<BIG_ENDIAN>(bytes)
+        part_of_utf16::<E>(bytes)
     }
 
     #[inline(always)]
     fn next_valid(bytes: &[u8]) -> Option<(char, usize)> {
-        next_valid_of_utf16::<BIG_ENDIAN>(bytes)
+        next_valid_of_utf16::<E>(bytes)
     }
 
     #[inline(always)]
@@ -179,7 +181,7 @@ impl<const BIG_ENDIAN: bool> Text for Utf16<BIG_ENDIAN> {
 
     #[inline(always)]
     fn first_piece(bytes: &[u8]) -> FirstPiece {
-        first_of_utf16::<BIG_ENDIAN>(bytes)
+        first_of_utf16::<E>(bytes)
     }
 
     #[inline(always)]
@@ -197,12 +199,12 @@ impl<const BIG_ENDIAN: bool> Text for Utf16<BIG_ENDIAN> {
     #[inline(always)]
     #[tactic(auto, using(crate::proofs::Forms::written_utf16))]
     fn put_code<O: Output>(c: char, out: &mut O) {
-        put_code_units::<O, BIG_ENDIAN>(c, out);
+        put_code_units::<O, E>(c, out);
     }
 
     #[inline(always)]
     #[tactic(auto, using(crate::proofs::Forms::written_utf16))]
     fn code_len(c: char) -> usize {
-        len_of_units::<BIG_ENDIAN>(c)
+        len_of_units::<E>(c)
     }
 }

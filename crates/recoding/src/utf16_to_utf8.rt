@@ -9,6 +9,7 @@ ghost use Rattle.utf_lanes.specs.UnitCodes.{lane_unit, AreCharacters};
 
 use crate::form::Form;
 use std::simd::prelude::*;
+use utf_lanes::byte_order::ByteOrder;
 use utf_lanes::unit_bytes::{are_ascii, are_characters, sixteen_halves};
 use utf_lanes::utf16_blocks::{
     write_ascii_units, write_characters, write_sixteen, write_thirty_two,
@@ -34,56 +35,44 @@ const MIXED: usize = 256;
 // Writes what comes of the blocks at the front of the bytes, as far as they have no fault and there is room. Answers how many bytes
 // they have, and where theirs end.
 #[inline(always)]
-pub(crate) fn write_blocks(
-    high_first: bool,
+pub(crate) fn write_blocks<E: ByteOrder>(
     bytes: &[u8],
     room: &mut [u8],
     start: usize,
 ) -> (usize, usize)
     requires { start ≤ length room.old }
-    ensures { PutsText FillsPlace (utf16_form high_first) Form.Utf8 bytes.now
+    ensures { PutsText FillsPlace (utf16_form E.HIGH_FIRST) Form.Utf8 bytes.now
         (at_place room.old start) (at_place room.new result.1) result.0 }
 {
     if bytes.len() < LONG {
-        return write_short_blocks(high_first, bytes, room, start);
+        return write_short_blocks::<E>(bytes, room, start);
     }
-    if high_first {
-        return write_all_blocks::<true>(bytes, room, start);
-    }
-    write_all_blocks::<false>(bytes, room, start)
+    write_all_blocks::<E>(bytes, room, start)
 }
 
-// The same in an order that is known when this is compiled.
+// The same of a long input.
 #[inline(never)]
-fn write_all_blocks<const BIG_ENDIAN: bool>(
-    bytes: &[u8],
-    room: &mut [u8],
-    start: usize,
-) -> (usize, usize)
+fn write_all_blocks<E: ByteOrder>(bytes: &[u8], room: &mut [u8], start: usize) -> (usize, usize)
     requires { start ≤ length room.old }
-    ensures { PutsText FillsPlace (utf16_form BIG_ENDIAN) Form.Utf8 bytes.now
+    ensures { PutsText FillsPlace (utf16_form E.HIGH_FIRST) Form.Utf8 bytes.now
         (at_place room.old start) (at_place room.new result.1) result.0 }
 {
-    let (wide, middle) = write_wide_blocks::<BIG_ENDIAN>(bytes, room, start);
-    let (len, end) = write_short_blocks(BIG_ENDIAN, &bytes[wide..], room, middle);
+    let (wide, middle) = write_wide_blocks::<E>(bytes, room, start);
+    let (len, end) = write_short_blocks::<E>(&bytes[wide..], room, middle);
     (wide + len, end)
 }
 
 // The same of wide ones alone.
 #[inline(always)]
-fn write_wide_blocks<const BIG_ENDIAN: bool>(
-    bytes: &[u8],
-    room: &mut [u8],
-    start: usize,
-) -> (usize, usize)
+fn write_wide_blocks<E: ByteOrder>(bytes: &[u8], room: &mut [u8], start: usize) -> (usize, usize)
     requires { start ≤ length room.old }
-    ensures { PutsText FillsPlace (utf16_form BIG_ENDIAN) Form.Utf8 bytes.now
+    ensures { PutsText FillsPlace (utf16_form E.HIGH_FIRST) Form.Utf8 bytes.now
         (at_place room.old start) (at_place room.new result.1) result.0 }
 {
     let mut place = 0;
     let mut end = start;
     while WIDE_BLOCK <= bytes.len() - place && WIDE_ROOM <= room.len() - end {
-        let (len, next) = write_some_blocks::<BIG_ENDIAN>(&bytes[place..], room, end);
+        let (len, next) = write_some_blocks::<E>(&bytes[place..], room, end);
         place += len;
         end = next;
         if len == 0 {
@@ -95,37 +84,29 @@ fn write_wide_blocks<const BIG_ENDIAN: bool>(
 
 // The same of some of them: of those that are ASCII, of characters after them, and of some that have surrogates too.
 #[inline(always)]
-fn write_some_blocks<const BIG_ENDIAN: bool>(
-    bytes: &[u8],
-    room: &mut [u8],
-    start: usize,
-) -> (usize, usize)
+fn write_some_blocks<E: ByteOrder>(bytes: &[u8], room: &mut [u8], start: usize) -> (usize, usize)
     requires { start ≤ length room.old }
-    ensures { PutsText FillsPlace (utf16_form BIG_ENDIAN) Form.Utf8 bytes.now
+    ensures { PutsText FillsPlace (utf16_form E.HIGH_FIRST) Form.Utf8 bytes.now
         (at_place room.old start) (at_place room.new result.1) result.0 }
 {
-    let (ascii, first) = write_ascii_blocks::<BIG_ENDIAN>(bytes, room, start);
-    let (characters, second) = write_character_blocks::<BIG_ENDIAN>(&bytes[ascii..], room, first);
+    let (ascii, first) = write_ascii_blocks::<E>(bytes, room, start);
+    let (characters, second) = write_character_blocks::<E>(&bytes[ascii..], room, first);
     let place = ascii + characters;
-    let (mixed, end) = write_mixed_blocks::<BIG_ENDIAN>(&bytes[place..], room, second);
+    let (mixed, end) = write_mixed_blocks::<E>(&bytes[place..], room, second);
     (place + mixed, end)
 }
 
 // The same of wide ones that are ASCII.
 #[inline(always)]
-fn write_ascii_blocks<const BIG_ENDIAN: bool>(
-    bytes: &[u8],
-    room: &mut [u8],
-    start: usize,
-) -> (usize, usize)
+fn write_ascii_blocks<E: ByteOrder>(bytes: &[u8], room: &mut [u8], start: usize) -> (usize, usize)
     requires { start ≤ length room.old }
-    ensures { PutsText FillsPlace (utf16_form BIG_ENDIAN) Form.Utf8 bytes.now
+    ensures { PutsText FillsPlace (utf16_form E.HIGH_FIRST) Form.Utf8 bytes.now
         (at_place room.old start) (at_place room.new result.1) result.0 }
 {
     let mut place = 0;
     let mut end = start;
     while WIDE_BLOCK <= bytes.len() - place && WIDE_ROOM <= room.len() - end {
-        let (low, high) = thirty_two_halves(BIG_ENDIAN, &bytes[place..]);
+        let (low, high) = thirty_two_halves::<E>(&bytes[place..]);
         if !are_ascii(low, high) {
             break;
         }
@@ -137,40 +118,40 @@ fn write_ascii_blocks<const BIG_ENDIAN: bool>(
 
 // The same of wide ones that are characters.
 #[inline(always)]
-fn write_character_blocks<const BIG_ENDIAN: bool>(
+fn write_character_blocks<E: ByteOrder>(
     bytes: &[u8],
     room: &mut [u8],
     start: usize,
 ) -> (usize, usize)
     requires { start ≤ length room.old }
-    ensures { PutsText FillsPlace (utf16_form BIG_ENDIAN) Form.Utf8 bytes.now
+    ensures { PutsText FillsPlace (utf16_form E.HIGH_FIRST) Form.Utf8 bytes.now
         (at_place room.old start) (at_place room.new result.1) result.0 }
 {
     if bytes.len() < WIDE_BLOCK || room.len() - start < WIDE_ROOM {
         return (0, start);
     }
-    let (low, high) = thirty_two_halves(BIG_ENDIAN, bytes);
+    let (low, high) = thirty_two_halves::<E>(bytes);
     if !are_characters(high) {
         return (0, start);
     }
-    write_characters_from::<BIG_ENDIAN>(low, high, bytes, room, start)
+    write_characters_from::<E>(low, high, bytes, room, start)
 }
 
 // The same where these characters are the first block. Each block is loaded and judged before the one before it is written, so that
 // a processor does both at once.
 #[inline(always)]
-fn write_characters_from<const BIG_ENDIAN: bool>(
+fn write_characters_from<E: ByteOrder>(
     first_low: u8x32,
     first_high: u8x32,
     bytes: &[u8],
     room: &mut [u8],
     start: usize,
 ) -> (usize, usize)
-    requires units { (k : ℕ) → k < 32 → lane_unit first_low first_high k ≡ unit_number BIG_ENDIAN bytes.now k }
+    requires units { (k : ℕ) → k < 32 → lane_unit first_low first_high k ≡ unit_number E.HIGH_FIRST bytes.now k }
     requires characters { AreCharacters 32 first_high }
     requires bytes { 64 ≤ length bytes.now }
     requires room { start + 112 ≤ length room.old }
-    ensures { PutsText FillsPlace (utf16_form BIG_ENDIAN) Form.Utf8 bytes.now
+    ensures { PutsText FillsPlace (utf16_form E.HIGH_FIRST) Form.Utf8 bytes.now
         (at_place room.old start) (at_place room.new result.1) result.0 }
 {
     let mut low = first_low;
@@ -178,7 +159,7 @@ fn write_characters_from<const BIG_ENDIAN: bool>(
     let mut read = 0;
     let mut end = start;
     while 2 * WIDE_BLOCK <= bytes.len() - read && 2 * WIDE_ROOM <= room.len() - end {
-        let (next_low, next_high) = thirty_two_halves(BIG_ENDIAN, &bytes[read + WIDE_BLOCK..]);
+        let (next_low, next_high) = thirty_two_halves::<E>(&bytes[read + WIDE_BLOCK..]);
         if !are_characters(next_high) {
             break;
         }
@@ -192,19 +173,15 @@ fn write_characters_from<const BIG_ENDIAN: bool>(
 
 // The same of wide ones of any units, as far as some have surrogates.
 #[inline(never)]
-fn write_mixed_blocks<const BIG_ENDIAN: bool>(
-    bytes: &[u8],
-    room: &mut [u8],
-    start: usize,
-) -> (usize, usize)
+fn write_mixed_blocks<E: ByteOrder>(bytes: &[u8], room: &mut [u8], start: usize) -> (usize, usize)
     requires { start ≤ length room.old }
-    ensures { PutsText FillsPlace (utf16_form BIG_ENDIAN) Form.Utf8 bytes.now
+    ensures { PutsText FillsPlace (utf16_form E.HIGH_FIRST) Form.Utf8 bytes.now
         (at_place room.old start) (at_place room.new result.1) result.0 }
 {
     let mut place = 0;
     let mut end = start;
     while WIDE_BLOCK <= bytes.len() - place && WIDE_ROOM <= room.len() - end {
-        let (low, high) = thirty_two_halves(BIG_ENDIAN, &bytes[place..]);
+        let (low, high) = thirty_two_halves::<E>(&bytes[place..]);
         if MIXED <= place && are_characters(high) {
             break;
         }
@@ -220,20 +197,15 @@ fn write_mixed_blocks<const BIG_ENDIAN: bool>(
 
 // The same of those of sixteen units.
 #[inline(always)]
-fn write_short_blocks(
-    high_first: bool,
-    bytes: &[u8],
-    room: &mut [u8],
-    start: usize,
-) -> (usize, usize)
+fn write_short_blocks<E: ByteOrder>(bytes: &[u8], room: &mut [u8], start: usize) -> (usize, usize)
     requires { start ≤ length room.old }
-    ensures { PutsText FillsPlace (utf16_form high_first) Form.Utf8 bytes.now
+    ensures { PutsText FillsPlace (utf16_form E.HIGH_FIRST) Form.Utf8 bytes.now
         (at_place room.old start) (at_place room.new result.1) result.0 }
 {
     let mut place = 0;
     let mut end = start;
     while BLOCK <= bytes.len() - place && ROOM <= room.len() - end {
-        let (low, high) = sixteen_halves(high_first, &bytes[place..]);
+        let (low, high) = sixteen_halves::<E>(&bytes[place..]);
         let (count, next) = write_sixteen(low, high, room, end);
         place += 2 * count;
         end = next;

@@ -8,55 +8,41 @@ ghost use Rattle.utf_lanes.specs.TextBlocks.{EndsCharacter};
 use crate::fills::lay_wide;
 use std::simd::prelude::*;
 use utf_lanes::ascii_texts::is_ascii_block;
+use utf_lanes::byte_order::ByteOrder;
 use utf_lanes::text_blocks::ends_character;
 use utf_lanes::text_puts::{write_64, write_first, write_rest};
 use utf_lanes::text_units::ascii_units;
 
 // Writes the units that the places of some text give. Answers where they end.
-#[inline(always)]
-pub(crate) fn widen_text(high_first: bool, text: &[u8], room: &mut [u8], at: usize) -> usize
-    requires long { 19 ≤ length text.now }
-    requires room { at + (2 * length text.now + 32) ≤ length room.old }
-    ensures written { Writes room.old room.new at result
-        (utf16_bytes high_first text.now 0 (length text.now)) }
-    ensures within { result ≤ length room.old }
-{
-    if high_first {
-        return write_units::<true>(text, room, at);
-    }
-    write_units::<false>(text, room, at)
-}
-
-// The same in an order that is known when this is compiled.
 #[inline(never)]
-fn write_units<const BIG_ENDIAN: bool>(text: &[u8], room: &mut [u8], at: usize) -> usize
+pub(crate) fn widen_text<E: ByteOrder>(text: &[u8], room: &mut [u8], at: usize) -> usize
     requires long { 19 ≤ length text.now }
     requires room { at + (2 * length text.now + 32) ≤ length room.old }
     ensures written { Writes room.old room.new at result
-        (utf16_bytes BIG_ENDIAN text.now 0 (length text.now)) }
+        (utf16_bytes E.HIGH_FIRST text.now 0 (length text.now)) }
     ensures within { result ≤ length room.old }
 {
-    let first = write_first(BIG_ENDIAN, text, room, at);
-    let (place, end) = write_wide::<BIG_ENDIAN>(text, room, first);
-    write_rest(BIG_ENDIAN, text, place, room, end)
+    let first = write_first::<E>(text, room, at);
+    let (place, end) = write_wide::<E>(text, room, first);
+    write_rest::<E>(text, place, room, end)
 }
 
 // The same of the places from 16 on, in blocks of 64, of which fewer are left. Answers where the last block ends, and where its
 // units do.
 #[inline(always)]
-fn write_wide<const BIG_ENDIAN: bool>(text: &[u8], room: &mut [u8], at: usize) -> (usize, usize)
+fn write_wide<E: ByteOrder>(text: &[u8], room: &mut [u8], at: usize) -> (usize, usize)
     requires long { 16 ≤ length text.now }
     requires room { at + 2 * (length text.now - 16) ≤ length room.old }
     ensures least { 16 ≤ result.0 }
     ensures within { result.0 ≤ length text.now }
     ensures written { Writes room.old room.new at result.1
-        (utf16_bytes BIG_ENDIAN text.now 16 (result.0 - 16)) }
+        (utf16_bytes E.HIGH_FIRST text.now 16 (result.0 - 16)) }
     ensures most { result.1 + 2 * (length text.now - result.0) ≤ at + 2 * (length text.now - 16) }
 {
     let mut place = 16;
     let mut end = at;
     while 64 <= text.len() - place {
-        end = write_some::<BIG_ENDIAN>(text, place, room, end);
+        end = write_some::<E>(text, place, room, end);
         place += 64;
     }
     (place, end)
@@ -64,41 +50,31 @@ fn write_wide<const BIG_ENDIAN: bool>(text: &[u8], room: &mut [u8], at: usize) -
 
 // The same of 64 places. Answers where their units end.
 #[inline(always)]
-fn write_some<const BIG_ENDIAN: bool>(
-    text: &[u8],
-    place: usize,
-    room: &mut [u8],
-    at: usize,
-) -> usize
+fn write_some<E: ByteOrder>(text: &[u8], place: usize, room: &mut [u8], at: usize) -> usize
     requires start { 3 ≤ place }
     requires within { place + 64 ≤ length text.now }
     requires room { at + 128 ≤ length room.old }
-    ensures written { Writes room.old room.new at result (utf16_bytes BIG_ENDIAN text.now place 64) }
+    ensures written { Writes room.old room.new at result (utf16_bytes E.HIGH_FIRST text.now place 64) }
     ensures most { result ≤ at + 128 }
 {
     if is_plain(text, place) {
-        return write_ascii::<BIG_ENDIAN>(text, place, room, at);
+        return write_ascii::<E>(text, place, room, at);
     }
-    write_64(BIG_ENDIAN, text, place, room, at)
+    write_64::<E>(text, place, room, at)
 }
 
 // The same where they are ASCII, after bytes that ask for no more.
 #[inline(always)]
-fn write_ascii<const BIG_ENDIAN: bool>(
-    text: &[u8],
-    place: usize,
-    room: &mut [u8],
-    at: usize,
-) -> usize
+fn write_ascii<E: ByteOrder>(text: &[u8], place: usize, room: &mut [u8], at: usize) -> usize
     requires start { 3 ≤ place }
     requires within { place + 64 ≤ length text.now }
     requires closed { EndsCharacter text.now place }
     requires ascii { (k : ℕ) → k < 64 → slice_index text.now (place + k) < 0x80 }
     requires room { at + 128 ≤ length room.old }
-    ensures written { Writes room.old room.new at result (utf16_bytes BIG_ENDIAN text.now place 64) }
+    ensures written { Writes room.old room.new at result (utf16_bytes E.HIGH_FIRST text.now place 64) }
     ensures most { result ≤ at + 128 }
 {
-    let (front, back) = ascii_units(BIG_ENDIAN, text, place);
+    let (front, back) = ascii_units::<E>(text, place);
     let middle = lay_wide(u8x64::from_array(front), room, at);
     lay_wide(u8x64::from_array(back), room, middle)
 }

@@ -3,6 +3,7 @@ ghost use Rattle.std.specs.Prelude.{◌≡◌, ℕ, ◌+◌, ◌<◌, ◌≤◌,
 ghost use Rattle.utf_lanes.specs.AsciiTexts.{AreAscii};
 ghost use Rattle.utf_lanes.specs.Utf8ToUtf16.{concat_range, halves};
 
+use crate::byte_order::ByteOrder;
 use crate::few_bytes::{eights, fours};
 use std::simd::prelude::*;
 
@@ -165,12 +166,12 @@ fn are_ascii_blocks(bytes: &[u8], place: usize) -> bool
 
 /// Each byte with a NUL: the first eight bytes, and the others.
 #[inline(always)]
-pub fn interleave_zeros(high_first: bool, bytes: u8x16) -> (u8x16, u8x16)
-    ensures first { result.0 ≡ concat_range (λ k. halves high_first (slice_index bytes k) 0) 0 8 }
-    ensures second { result.1 ≡ concat_range (λ k. halves high_first (slice_index bytes k) 0) 8 8 }
+pub fn interleave_zeros<E: ByteOrder>(bytes: u8x16) -> (u8x16, u8x16)
+    ensures first { result.0 ≡ concat_range (λ k. halves E.HIGH_FIRST (slice_index bytes k) 0) 0 8 }
+    ensures second { result.1 ≡ concat_range (λ k. halves E.HIGH_FIRST (slice_index bytes k) 0) 8 8 }
 {
     let nuls = u8x16::splat(0);
-    if high_first {
+    if E::HIGH_FIRST {
         nuls.interleave(bytes)
     } else {
         bytes.interleave(nuls)

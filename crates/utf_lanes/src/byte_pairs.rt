@@ -2,14 +2,15 @@
 ghost use Rattle.std.specs.Prelude.{◌≡◌, ◌+◌, ◌≤◌, length, take, drop};
 ghost use Rattle.utf_lanes.specs.BytePairs.{unit_of, bytes_of, swapped};
 
+use crate::byte_order::ByteOrder;
 use std::simd::prelude::*;
 
 /// The unit of two bytes.
 #[inline(always)]
-pub fn unit(high_first: bool, first: u8, second: u8) -> u16
-    ensures { result ≡ unit_of high_first first second }
+pub fn unit<E: ByteOrder>(first: u8, second: u8) -> u16
+    ensures { result ≡ unit_of E.HIGH_FIRST first second }
 {
-    if high_first {
+    if E::HIGH_FIRST {
         first as u16 * 256 + second as u16
     } else {
         second as u16 * 256 + first as u16
@@ -18,11 +19,15 @@ pub fn unit(high_first: bool, first: u8, second: u8) -> u16
 
 /// The two bytes of a unit.
 #[inline(always)]
-pub fn two_bytes(high_first: bool, unit: u16) -> [u8; 2]
-    ensures { result ≡ bytes_of high_first unit }
+pub fn two_bytes<E: ByteOrder>(unit: u16) -> [u8; 2]
+    ensures { result ≡ bytes_of E.HIGH_FIRST unit }
 {
     let [high, low] = [(unit / 256) as u8, (unit % 256) as u8];
-    if high_first { [high, low] } else { [low, high] }
+    if E::HIGH_FIRST {
+        [high, low]
+    } else {
+        [low, high]
+    }
 }
 
 /// The 64 bytes from the place on, those of each pair swapped.

@@ -11,6 +11,7 @@
 #![tactic(auto)]
 
 pub mod ascii_texts;
+pub mod byte_order;
 pub mod byte_pairs;
 mod compressed;
 mod few_bytes;

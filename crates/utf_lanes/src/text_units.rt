@@ -4,6 +4,7 @@ ghost use Rattle.utf_lanes.specs.Lanes.{AreBits, AreLanes, ArePairs, lane_of_two
 ghost use Rattle.utf_lanes.specs.Utf8ToUtf16.{AreLoaded, utf16_bytes, concat_range, IsRow, block_bytes, ends_unit, given, halves, halves_at, low_half, high_half, unit_low, unit_high, pair_at, places_at, leading_low, leading_high, trailing_high};
 ghost use Rattle.utf_lanes.specs.TextBlocks.{EndsCharacter};
 
+use crate::byte_order::ByteOrder;
 use crate::few_bytes::before_lanes;
 use crate::shuffles::COMPRESS_PAIRS;
 use std::simd::prelude::*;
@@ -19,8 +20,7 @@ pub(crate) struct UnitBytes {
 
 // The units that the sixteen bytes from the place on give, but those of the first `skipped` of them.
 #[inline(always)]
-pub(crate) fn block_units(
-    high_first: bool,
+pub(crate) fn block_units<E: ByteOrder>(
     bytes: &[u8],
     place: usize,
     skipped: usize,
@@ -30,31 +30,30 @@ pub(crate) fn block_units(
     requires few { skipped < 16 }
     ensures first { result.0.len ≤ 16 }
     ensures second { result.1.len ≤ 16 }
-    ensures units { given result.0 ++ given result.1 ≡ block_bytes high_first bytes.now place skipped }
+    ensures units { given result.0 ++ given result.1 ≡ block_bytes E.HIGH_FIRST bytes.now place skipped }
 {
     let here = u8x16::from_slice(&bytes[place..]);
     let first = u8x16::from_slice(&bytes[place - 1..]);
     let second = u8x16::from_slice(&bytes[place - 2..]);
     let third = u8x16::from_slice(&bytes[place - 3..]);
-    lane_units(high_first, third, second, first, here, skipped)
+    lane_units::<E>(third, second, first, here, skipped)
 }
 
 // The same of sixteen bytes that NULs stand before. No copy of them is loaded, for which a processor would wait.
 #[inline(always)]
-pub(crate) fn front_units(high_first: bool, here: u8x16, skipped: usize) -> (UnitBytes, UnitBytes)
+pub(crate) fn front_units<E: ByteOrder>(here: u8x16, skipped: usize) -> (UnitBytes, UnitBytes)
     requires few { skipped < 16 }
     ensures first { result.0.len ≤ 16 }
     ensures second { result.1.len ≤ 16 }
-    ensures units { given result.0 ++ given result.1 ≡ block_bytes high_first (0 ∷ 0 ∷ 0 ∷ here) 3 skipped }
+    ensures units { given result.0 ++ given result.1 ≡ block_bytes E.HIGH_FIRST (0 ∷ 0 ∷ 0 ∷ here) 3 skipped }
 {
     let (first, second, third) = before_lanes(here);
-    lane_units(high_first, third, second, first, here, skipped)
+    lane_units::<E>(third, second, first, here, skipped)
 }
 
 // The same of the bytes in the last of four vectors, by those that stand before them.
 #[inline(always)]
-fn lane_units(
-    high_first: bool,
+fn lane_units<E: ByteOrder>(
     third: u8x16,
     second: u8x16,
     first: u8x16,
@@ -65,11 +64,11 @@ fn lane_units(
     ensures first { result.0.len ≤ 16 }
     ensures second { result.1.len ≤ 16 }
     ensures units { (xs : List ℕ) (place : ℕ) → AreLoaded third second first here xs place →
-        given result.0 ++ given result.1 ≡ block_bytes high_first xs place skipped }
+        given result.0 ++ given result.1 ≡ block_bytes E.HIGH_FIRST xs place skipped }
 {
     let (low, high) = lane_halves(third, second, first, here);
     let mask = mask_of_unit_ends(first, here, skipped);
-    let (front, back) = paired(high_first, low, high);
+    let (front, back) = paired::<E>(low, high);
     (
         compressed_pairs(front, mask & 255),
         compressed_pairs(back, mask >> 8),
@@ -78,11 +77,11 @@ fn lane_units(
 
 // The two bytes of each unit, one beside the other: of the first eight units, and of the others.
 #[inline(always)]
-fn paired(high_first: bool, low: u8x16, high: u8x16) -> (u8x16, u8x16)
-    ensures front { ArePairs result.0 (halves_at high_first low high) }
-    ensures back { ArePairs result.1 (λ k. halves_at high_first low high (8 + k)) }
+fn paired<E: ByteOrder>(low: u8x16, high: u8x16) -> (u8x16, u8x16)
+    ensures front { ArePairs result.0 (halves_at E.HIGH_FIRST low high) }
+    ensures back { ArePairs result.1 (λ k. halves_at E.HIGH_FIRST low high (8 + k)) }
 {
-    if high_first {
+    if E::HIGH_FIRST {
         high.interleave(low)
     } else {
         low.interleave(high)
@@ -201,26 +200,26 @@ fn compress_places(mask: usize) -> [u8; 16]
 
 /// The units of 64 bytes of ASCII: each byte and a NUL.
 #[inline(always)]
-pub fn ascii_units(high_first: bool, text: &[u8], place: usize) -> ([u8; 64], [u8; 64])
+pub fn ascii_units<E: ByteOrder>(text: &[u8], place: usize) -> ([u8; 64], [u8; 64])
     requires start { 3 ≤ place }
     requires within { place + 64 ≤ length text.now }
     requires closed { EndsCharacter text.now place }
     requires ascii { (k : ℕ) → k < 64 → slice_index text.now (place + k) < 0x80 }
-    ensures first { result.0 ≡ utf16_bytes high_first text.now place 32 }
-    ensures second { result.1 ≡ utf16_bytes high_first text.now (place + 32) 32 }
+    ensures first { result.0 ≡ utf16_bytes E.HIGH_FIRST text.now place 32 }
+    ensures second { result.1 ≡ utf16_bytes E.HIGH_FIRST text.now (place + 32) 32 }
 {
-    let (first, second) = interleave_zeros_wide(high_first, u8x64::from_slice(&text[place..]));
+    let (first, second) = interleave_zeros_wide::<E>(u8x64::from_slice(&text[place..]));
     (first.to_array(), second.to_array())
 }
 
 /// Each byte with a NUL, which is the high byte of its unit: of the first 32 bytes, and of the others.
 #[inline(always)]
-pub fn interleave_zeros_wide(high_first: bool, bytes: u8x64) -> (u8x64, u8x64)
-    ensures first { result.0 ≡ concat_range (λ k. halves high_first (slice_index bytes k) 0) 0 32 }
-    ensures second { result.1 ≡ concat_range (λ k. halves high_first (slice_index bytes k) 0) 32 32 }
+pub fn interleave_zeros_wide<E: ByteOrder>(bytes: u8x64) -> (u8x64, u8x64)
+    ensures first { result.0 ≡ concat_range (λ k. halves E.HIGH_FIRST (slice_index bytes k) 0) 0 32 }
+    ensures second { result.1 ≡ concat_range (λ k. halves E.HIGH_FIRST (slice_index bytes k) 0) 32 32 }
 {
     let nuls = u8x64::splat(0);
-    if high_first {
+    if E::HIGH_FIRST {
         nuls.interleave(bytes)
     } else {
         bytes.interleave(nuls)

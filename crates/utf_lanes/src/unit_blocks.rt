@@ -8,6 +8,7 @@ ghost use Rattle.utf_lanes.specs.Lanes.{AreLanes, ones_where};
 ghost use Rattle.utf_lanes.specs.UnitBlocks.{AllPaired, AreCodes, AreFirstPaired, PairsTo, ZerosPair};
 ghost use Rattle.utf_lanes.specs.BytePairs.{high_byte, low_byte, units_of};
 
+use crate::byte_order::ByteOrder;
 use crate::byte_pairs::unit;
 use std::simd::prelude::*;
 use utf_base::traits::U16UtfExt;
@@ -24,20 +25,20 @@ const HIGH_IS_SECOND: [u8; 16] = [
 /// How many units at the front of the bytes are well-formed: all that are, but for a leading surrogate at the end, where
 /// there are more than a few.
 #[inline]
-pub fn units_len(high_first: bool, bytes: &[u8]) -> usize
+pub fn units_len<E: ByteOrder>(bytes: &[u8]) -> usize
     ensures within { 2 * result ≤ length bytes.now }
-    ensures codes { AreCodes (units_of high_first (take (2 * result) bytes.now)) }
+    ensures codes { AreCodes (units_of E.HIGH_FIRST (take (2 * result) bytes.now)) }
     ensures all { 16 ≤ length bytes.now → (n : ℕ) → 2 * n ≤ length bytes.now →
-        AreCodes (units_of high_first (take (2 * n) bytes.now)) → n ≤ result }
+        AreCodes (units_of E.HIGH_FIRST (take (2 * n) bytes.now)) → n ≤ result }
 {
     if bytes.len() < 16 {
         return 0;
     }
-    let end = paired_end(high_first, bytes);
+    let end = paired_end::<E>(bytes);
     if end == 0 {
         return 0;
     }
-    let last = unit(high_first, bytes[2 * end - 2], bytes[2 * end - 1]);
+    let last = unit::<E>(bytes[2 * end - 2], bytes[2 * end - 1]);
     if last.is_utf16_leading_surrogate() {
         end - 1
     } else {
@@ -48,19 +49,19 @@ pub fn units_len(high_first: bool, bytes: &[u8]) -> usize
 // How far the units each pair with the one before them: to the first that does not, or the end. Before the first stands
 // a NUL, as it were.
 #[inline(always)]
-fn paired_end(high_first: bool, bytes: &[u8]) -> usize
+fn paired_end<E: ByteOrder>(bytes: &[u8]) -> usize
     requires { 16 ≤ length bytes.now }
     ensures within { 2 * result ≤ length bytes.now }
     ensures first { 0 < result →
-        is_trailing_surrogate (slice_index (units_of high_first bytes.now) 0) ≡ false }
-    ensures paired { AllPaired (units_of high_first bytes.now) 1 result }
-    ensures all { (n : ℕ) → 2 * n ≤ length bytes.now → AreFirstPaired (units_of high_first bytes.now) n → n ≤ result }
+        is_trailing_surrogate (slice_index (units_of E.HIGH_FIRST bytes.now) 0) ≡ false }
+    ensures paired { AllPaired (units_of E.HIGH_FIRST bytes.now) 1 result }
+    ensures all { (n : ℕ) → 2 * n ≤ length bytes.now → AreFirstPaired (units_of E.HIGH_FIRST bytes.now) n → n ≤ result }
 {
-    let count = paired_lanes(high_first, &padded_units(bytes), 1);
+    let count = paired_lanes::<E>(&padded_units(bytes), 1);
     if count < 8 {
         return count;
     }
-    paired_lane_by_lane(high_first, bytes, paired_wide(high_first, bytes, 8))
+    paired_lane_by_lane::<E>(bytes, paired_wide::<E>(bytes, 8))
 }
 
 // The first eight units after a NUL.
@@ -76,14 +77,14 @@ fn padded_units(bytes: &[u8]) -> [u8; 18]
 
 // The same in blocks of 32, to the first in which some unit does not pair.
 #[inline(always)]
-fn paired_wide(high_first: bool, bytes: &[u8], start: usize) -> usize
+fn paired_wide<E: ByteOrder>(bytes: &[u8], start: usize) -> usize
     requires start { 1 ≤ start }
     requires within { 2 * start ≤ length bytes.now }
-    ensures { PairsTo high_first bytes.now start result }
+    ensures { PairsTo E.HIGH_FIRST bytes.now start result }
 {
     let mut place = start;
     while 64 <= bytes.len() - 2 * place {
-        if !is_paired_block(high_first, bytes, place) {
+        if !is_paired_block::<E>(bytes, place) {
             return place;
         }
         place += 32;
@@ -93,18 +94,18 @@ fn paired_wide(high_first: bool, bytes: &[u8], start: usize) -> usize
 
 // The same in blocks of eight, of which the last ends with the last unit.
 #[inline(always)]
-fn paired_lane_by_lane(high_first: bool, bytes: &[u8], start: usize) -> usize
+fn paired_lane_by_lane<E: ByteOrder>(bytes: &[u8], start: usize) -> usize
     requires start { 8 ≤ start }
     requires within { 2 * start ≤ length bytes.now }
     ensures within { 2 * result ≤ length bytes.now }
-    ensures paired { AllPaired (units_of high_first bytes.now) start result }
-    ensures all { (n : ℕ) → 2 * n ≤ length bytes.now → AllPaired (units_of high_first bytes.now) 1 n → n ≤ result }
+    ensures paired { AllPaired (units_of E.HIGH_FIRST bytes.now) start result }
+    ensures all { (n : ℕ) → 2 * n ≤ length bytes.now → AllPaired (units_of E.HIGH_FIRST bytes.now) 1 n → n ≤ result }
 {
     let units = bytes.len() / 2;
     let mut place = start;
     while place < units {
         let block = place.min(units - 8);
-        let count = paired_lanes(high_first, bytes, block);
+        let count = paired_lanes::<E>(bytes, block);
         if count < 8 {
             return block + count;
         }
@@ -115,26 +116,26 @@ fn paired_lane_by_lane(high_first: bool, bytes: &[u8], start: usize) -> usize
 
 // Whether each of the 32 units from the place on pairs with the one before it.
 #[inline(always)]
-fn is_paired_block(high_first: bool, bytes: &[u8], place: usize) -> bool
+fn is_paired_block<E: ByteOrder>(bytes: &[u8], place: usize) -> bool
     requires start { 1 ≤ place }
     requires within { 2 * place + 64 ≤ length bytes.now }
-    ensures { IsTrue result → AllPaired (units_of high_first bytes.now) place (place + 32) }
+    ensures { IsTrue result → AllPaired (units_of E.HIGH_FIRST bytes.now) place (place + 32) }
 {
-    let first = unpaired(high_first, bytes, place) | unpaired(high_first, bytes, place + 8);
-    let second = unpaired(high_first, bytes, place + 16) | unpaired(high_first, bytes, place + 24);
+    let first = unpaired::<E>(bytes, place) | unpaired::<E>(bytes, place + 8);
+    let second = unpaired::<E>(bytes, place + 16) | unpaired::<E>(bytes, place + 24);
     (first | second).simd_ne(u8x16::splat(0)).to_bitmask() == 0
 }
 
 // How many of the eight units from the place on pair with the one before them, up to the first that does not.
 #[inline(always)]
-fn paired_lanes(high_first: bool, bytes: &[u8], place: usize) -> usize
+fn paired_lanes<E: ByteOrder>(bytes: &[u8], place: usize) -> usize
     requires start { 1 ≤ place }
     requires within { 2 * place + 16 ≤ length bytes.now }
     ensures most { result ≤ 8 }
-    ensures paired { AllPaired (units_of high_first bytes.now) place (place + result) }
-    ensures all { (n : ℕ) → n ≤ 8 → AllPaired (units_of high_first bytes.now) place (place + n) → n ≤ result }
+    ensures paired { AllPaired (units_of E.HIGH_FIRST bytes.now) place (place + result) }
+    ensures all { (n : ℕ) → n ≤ 8 → AllPaired (units_of E.HIGH_FIRST bytes.now) place (place + n) → n ≤ result }
 {
-    let wrong = unpaired(high_first, bytes, place)
+    let wrong = unpaired::<E>(bytes, place)
         .simd_ne(u8x16::splat(0))
         .to_bitmask();
     if wrong == 0 {
@@ -146,14 +147,14 @@ fn paired_lanes(high_first: bool, bytes: &[u8], place: usize) -> usize
 
 // The eight units from the place on, each after the one before it: in the lane of its high byte, 0 where they pair.
 #[inline(always)]
-fn unpaired(high_first: bool, bytes: &[u8], place: usize) -> u8x16
+fn unpaired<E: ByteOrder>(bytes: &[u8], place: usize) -> u8x16
     requires start { 1 ≤ place }
     requires within { 2 * place + 16 ≤ length bytes.now }
     ensures len { length result ≡ 16 }
-    ensures lanes { ZerosPair (units_of high_first bytes.now) place (high_byte high_first result) }
-    ensures others { (k : ℕ) → k < 8 → low_byte high_first result k ≡ 0 }
+    ensures lanes { ZerosPair (units_of E.HIGH_FIRST bytes.now) place (high_byte E.HIGH_FIRST result) }
+    ensures others { (k : ℕ) → k < 8 → low_byte E.HIGH_FIRST result k ≡ 0 }
 {
-    let bits = upper_bits(high_first);
+    let bits = upper_bits::<E>();
     let here = u8x16::from_slice(&bytes[2 * place..]) & bits;
     let before = u8x16::from_slice(&bytes[2 * place - 2..]) & bits;
     where_equal(here, 0xdc) ^ where_equal(before, 0xd8)
@@ -161,12 +162,12 @@ fn unpaired(high_first: bool, bytes: &[u8], place: usize) -> u8x16
 
 // Six bits of each high byte, and none of the low bytes.
 #[inline(always)]
-fn upper_bits(high_first: bool) -> u8x16
+fn upper_bits<E: ByteOrder>() -> u8x16
     ensures len { length result ≡ 16 }
-    ensures lanes { (k : ℕ) → k < 8 → high_byte high_first result k ≡ 0xFC }
-    ensures others { (k : ℕ) → k < 8 → low_byte high_first result k ≡ 0 }
+    ensures lanes { (k : ℕ) → k < 8 → high_byte E.HIGH_FIRST result k ≡ 0xFC }
+    ensures others { (k : ℕ) → k < 8 → low_byte E.HIGH_FIRST result k ≡ 0 }
 {
-    if high_first {
+    if E::HIGH_FIRST {
         u8x16::from_array(HIGH_IS_FIRST)
     } else {
         u8x16::from_array(HIGH_IS_SECOND)

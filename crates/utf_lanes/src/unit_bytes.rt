@@ -4,6 +4,7 @@ ghost use Rattle.utf_lanes.specs.Lanes.{AreBitsOf, AreLanesOf};
 ghost use Rattle.utf_lanes.specs.UnitCodes.{AreCharacters, lane_unit, lane_after, first_byte, middle_byte, last_byte, first_in_text, middle_in_text, last_in_text, lead_byte, second_byte, third_byte};
 ghost use Rattle.utf_lanes.specs.BytePairs.{unit_number};
 
+use crate::byte_order::ByteOrder;
 use std::simd::prelude::*;
 
 /// Whether all units are ASCII.
@@ -154,14 +155,18 @@ fn third_bytes<const N: usize>(
 
 /// The low and high halves of the first sixteen units.
 #[inline(always)]
-pub fn sixteen_halves(high_first: bool, bytes: &[u8]) -> (u8x16, u8x16)
+pub fn sixteen_halves<E: ByteOrder>(bytes: &[u8]) -> (u8x16, u8x16)
     requires { 32 ≤ length bytes.now }
     ensures low_len { length result.0 ≡ 16 }
     ensures high_len { length result.1 ≡ 16 }
-    ensures units { (k : ℕ) → k < 16 → lane_unit result.0 result.1 k ≡ unit_number high_first bytes.now k }
+    ensures units { (k : ℕ) → k < 16 → lane_unit result.0 result.1 k ≡ unit_number E.HIGH_FIRST bytes.now k }
 {
     let front = u8x16::from_slice(bytes);
     let back = u8x16::from_slice(&bytes[16..]);
     let (even, odd) = front.deinterleave(back);
-    if high_first { (odd, even) } else { (even, odd) }
+    if E::HIGH_FIRST {
+        (odd, even)
+    } else {
+        (even, odd)
+    }
 }

@@ -4,19 +4,24 @@ ghost use Rattle.utf_lanes.specs.Lanes.{AreLanesOf, crossed_lane};
 ghost use Rattle.utf_lanes.specs.UnitCodes.{lane_unit};
 ghost use Rattle.utf_lanes.specs.BytePairs.{unit_number};
 
+use crate::byte_order::ByteOrder;
 use crate::wide_rows::joined;
 use std::simd::prelude::*;
 
 /// The low and high halves of the first thirty-two units.
 #[inline(always)]
-pub fn thirty_two_halves(high_first: bool, bytes: &[u8]) -> (u8x32, u8x32)
+pub fn thirty_two_halves<E: ByteOrder>(bytes: &[u8]) -> (u8x32, u8x32)
     requires { 64 ≤ length bytes.now }
     ensures low_len { length result.0 ≡ 32 }
     ensures high_len { length result.1 ≡ 32 }
-    ensures units { (k : ℕ) → k < 32 → lane_unit result.0 result.1 k ≡ unit_number high_first bytes.now k }
+    ensures units { (k : ℕ) → k < 32 → lane_unit result.0 result.1 k ≡ unit_number E.HIGH_FIRST bytes.now k }
 {
     let (even, odd) = even_and_odd(bytes);
-    if high_first { (odd, even) } else { (even, odd) }
+    if E::HIGH_FIRST {
+        (odd, even)
+    } else {
+        (even, odd)
+    }
 }
 
 // The even bytes of 64, and the odd ones.

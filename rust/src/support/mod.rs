@@ -16,13 +16,13 @@ pub(crate) mod trust;
 
 // What is the same in Rust.
 #[allow(unused_imports)]
-pub(crate) use core::{array, ascii, borrow, char, cmp, convert, error, fmt, hash, iter, mem, num, ops, slice, str};
+pub(crate) use core::{array, ascii, borrow, char, cmp, convert, error, fmt, hash, iter, marker, mem, num, ops, slice, str};
 
 /// The same for the copy of the proved text for processors with AVX2: its vectors go by thirty-two bytes.
 #[cfg(all(target_arch = "x86_64", target_feature = "sse2", feature = "std"))]
 #[allow(unused_imports)]
 pub(crate) mod wide {
-    pub(crate) use super::{alloc, cmp, fmt, io, mem, ops};
+    pub(crate) use super::{alloc, cmp, fmt, io, marker, mem, ops};
     pub(crate) mod simd {
         pub(crate) use crate::support::simd::wide as prelude;
     }

@@ -1,5 +1,4 @@
-use Rattle.std.proofs.Common.{◌+◌, not, arith}
-use Rattle.std.specs.Prelude.{eqb}
+use Rattle.std.proofs.Common.{◌+◌, arith}
 use Rattle.recoding.proofs.AsciiToUtf16.{appended_twice, widened_more}
 use Rattle.utf_lanes.proofs.LaneLemmas.{ascii_block, ascii_on}
 use Rattle.recoding.proofs.ascii_to_utf16.put_ascii_front.Goals as goal
@@ -19,5 +18,5 @@ loop-place-preserved g c =
     record {
       within = omega arith;
       ascii = ascii_on xs 0 (place + 64) (place + 64 + 64) c.loop-place.invariant.ascii next;
-      appends = rw (widened_more (not (eqb g.row.BIG_ENDIAN 0)) xs place 64) at (appended_twice g.met.O.Output.appends_more c.loop-place.invariant.appends c.put_ascii_64.ensures);
+      appends = rw (widened_more g.E.ByteOrder.HIGH_FIRST xs place 64) at (appended_twice g.met.O.Output.appends_more c.loop-place.invariant.appends c.put_ascii_64.ensures);
     }

@@ -1,5 +1,4 @@
-use Rattle.std.proofs.Common.{not, ◌-◌, ◌+◌, ◌≤◌, length, take}
-use Rattle.std.specs.Prelude.{eqb}
+use Rattle.std.proofs.Common.{◌-◌, ◌+◌, ◌≤◌, length, take}
 use Rattle.recoding.specs.UnitRuns.{widened}
 use Rattle.utf_lanes.specs.AsciiTexts.{AreAscii}
 use Rattle.recoding.proofs.ascii_to_utf16.put_ascii_front.Given as goal
@@ -8,7 +7,7 @@ abbrev pub invariant-loop-place : goal.invariant-loop-place
 invariant-loop-place g l = record {
   within : l.place + 64 ≤ length l.bytes;
   ascii : AreAscii l.bytes 0 (l.place + 64);
-  appends : g.O.Output.appends l.fn.out (widened (not (eqb g.row.BIG_ENDIAN 0)) (take l.place l.bytes)) l.out;
+  appends : g.O.Output.appends l.fn.out (widened g.E.ByteOrder.HIGH_FIRST (take l.place l.bytes)) l.out;
 }
 
 abbrev pub decreases-loop-place : goal.decreases-loop-place

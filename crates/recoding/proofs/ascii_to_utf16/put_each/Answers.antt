@@ -1,5 +1,4 @@
-use Rattle.std.proofs.Common.{not, arith}
-use Rattle.std.specs.Prelude.{eqb}
+use Rattle.std.proofs.Common.{arith}
 use Rattle.recoding.proofs.AsciiToUtf16.{appended_twice, widened_more, widened_one}
 use Rattle.recoding.proofs.ascii_to_utf16.put_each.Goals as goal
 
@@ -7,6 +6,6 @@ pub loop-place-preserved : goal.loop-place-preserved
 loop-place-preserved g c = record {
   within = omega arith;
   appends =
-      rw (widened_more (not (eqb g.row.BIG_ENDIAN 0)) c.args.bytes.now c.loop-place.place 1) at (appended_twice g.met.O.Output.appends_more c.loop-place.invariant.appends
-      (rw (widened_one (not (eqb g.row.BIG_ENDIAN 0)) c.args.bytes.now c.loop-place.place c.loop-place-test.true) at c.put_one.ensures));
+      rw (widened_more g.E.ByteOrder.HIGH_FIRST c.args.bytes.now c.loop-place.place 1) at (appended_twice g.met.O.Output.appends_more c.loop-place.invariant.appends
+      (rw (widened_one g.E.ByteOrder.HIGH_FIRST c.args.bytes.now c.loop-place.place c.loop-place-test.true) at c.put_one.ensures));
 }

@@ -1,12 +1,11 @@
-use Rattle.std.proofs.Common.{not, ◌-◌, ◌≤◌, length, take}
-use Rattle.std.specs.Prelude.{eqb}
+use Rattle.std.proofs.Common.{◌-◌, ◌≤◌, length, take}
 use Rattle.recoding.specs.UnitRuns.{widened}
 use Rattle.recoding.proofs.ascii_to_utf16.put_each.Given as goal
 
 abbrev pub invariant-loop-place : goal.invariant-loop-place
 invariant-loop-place g l = record {
   within : l.place ≤ length l.bytes;
-  appends : g.O.Output.appends l.fn.out (widened (not (eqb g.row.BIG_ENDIAN 0)) (take l.place l.bytes)) l.out;
+  appends : g.O.Output.appends l.fn.out (widened g.E.ByteOrder.HIGH_FIRST (take l.place l.bytes)) l.out;
 }
 
 abbrev pub decreases-loop-place : goal.decreases-loop-place

@@ -1,5 +1,4 @@
-use Rattle.std.proofs.Common.{[], arith, refl, not}
-use Rattle.std.specs.Prelude.{eqb}
+use Rattle.std.proofs.Common.{[], arith, refl}
 use Rattle.recoding.specs.Recodes.{differ}
 use Rattle.recoding.proofs.SwappedRuns.{turned_none}
 use Rattle.recoding.proofs.copied.copy_units.Goals as goal
@@ -9,10 +8,10 @@ returns-then-len-eq0 g c = record {
   within = omega arith;
   even = refl;
   codes = record { scalars = []; all = λ i d lt. absurd (omega arith); codes = refl };
-  appended = rw (turned_none (differ (not (eqb g.row.BIG_ENDIAN 0)) (not (eqb g.row.WANTED 0)))) at (g.met.O.Output.appends_none c.args.out.now);
+  appended = rw (turned_none (differ g.E.ByteOrder.HIGH_FIRST g.W.ByteOrder.HIGH_FIRST)) at (g.met.O.Output.appends_none c.args.out.now);
 }
 
 pub returns : goal.returns
 returns g c =
     let judged = c.units_len-len.ensures in
-    record { within = judged.within; even = omega arith; codes = judged.codes; appended = c.put_turned.ensures }
+    record { within = judged.within; even = omega arith; codes = judged.codes; appended = rw (c.HIGH_FIRST.ensures, c.HIGH_FIRST-2.ensures) at c.put_turned.ensures }

@@ -1,6 +1,5 @@
-use Rattle.std.proofs.Common.{◌≡◌, ◌+◌, ◌-◌, drop, not, arith, length-drop}
+use Rattle.std.proofs.Common.{◌≡◌, ◌+◌, ◌-◌, drop, arith, length-drop}
 use Rattle.std.proofs.lemmas.List.{take_rest}
-use Rattle.std.specs.Prelude.{eqb}
 use Rattle.recoding.specs.NextScalars.{utf16_form}
 use Rattle.recoding.specs.declared.form.Form.TheVariants.{Utf8}
 use Rattle.recoding.specs.Strict.{PutsText}
@@ -15,7 +14,7 @@ loop-place-preserved g c =
     let bytes = c.args.bytes.now in
     let place = c.loop-place.place in
     let span : place + 16 - place ≡ 16 = omega arith in
-    let block : PutsText g.O.Output.appends (utf16_form (not (eqb g.row.BIG_ENDIAN 0))) Utf8 (drop place bytes) _ _ 16 = record {
+    let block : PutsText g.O.Output.appends (utf16_form g.E.ByteOrder.HIGH_FIRST) Utf8 (drop place bytes) _ _ 16 = record {
       within = omega (arith, length-drop place bytes);
       grown = c.in-Some.ascii;
       appended = c.put.ensures;

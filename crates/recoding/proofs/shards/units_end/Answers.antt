@@ -5,13 +5,13 @@ use Rattle.recoding.proofs.shards.units_end.Goals as goal
 use Rattle.recoding.proofs.shards.units_end.Goals.{else-place-ge2-via-then-place-ge2+else-is_pair, else-place-ge2-via-else-place-ge2}
 
 pub returns-then-is_pair-clause-end : goal.returns-then-is_pair-clause-end
-returns-then-is_pair-clause-end c =
-    end_before_pair c.args.high_first c.args.bytes.now c.args.at (c.args.at - c.args.at % 2) c.requires refl c.if-place-ge2.true
+returns-then-is_pair-clause-end g c =
+    end_before_pair g.E.ByteOrder.HIGH_FIRST c.args.bytes.now c.args.at (c.args.at - c.args.at % 2) c.requires refl c.if-place-ge2.true
     (rw (take_rest c.args.bytes.now (c.args.at - c.args.at % 2 - 2)) at (c.if-is_pair.ensures.yes refl))
 
 pub returns-else-place-ge2-clause-end : goal.returns-else-place-ge2-clause-end
-returns-else-place-ge2-clause-end c =
-    end_of_units c.args.high_first c.args.bytes.now c.args.at (c.args.at - c.args.at % 2) c.requires refl
+returns-else-place-ge2-clause-end g c =
+    end_of_units g.E.ByteOrder.HIGH_FIRST c.args.bytes.now c.args.at (c.args.at - c.args.at % 2) c.requires refl
     (elim c.else-place-ge2.branch [
       | else-place-ge2-via-then-place-ge2+else-is_pair w ↦ λ two. rw (take_rest c.args.bytes.now (c.args.at - c.args.at % 2 - 2)) at (w.if-is_pair.ensures.no refl)
       | else-place-ge2-via-else-place-ge2 w ↦ λ two. absurd (omega arith)

@@ -1,5 +1,4 @@
-use Rattle.std.proofs.Common.{◌≡◌, ℕ, ◌+◌, ◌-◌, ◌<◌, ◌≤◌, not, length, drop}
-use Rattle.std.specs.Prelude.{eqb}
+use Rattle.std.proofs.Common.{◌≡◌, ℕ, ◌+◌, ◌-◌, ◌<◌, ◌≤◌, length, drop}
 use Rattle.recoding.specs.NextScalars.{utf16_form}
 use Rattle.recoding.specs.Replacing.{FillsPlace, at_place}
 use Rattle.recoding.specs.Strict.{PutsText}
@@ -12,8 +11,8 @@ abbrev pub invariant-loop-read : goal.invariant-loop-read
 invariant-loop-read g l = record {
   bytes : l.read + 64 ≤ length l.bytes;
   room : l.end + 112 ≤ length l.room;
-  runs : PutsText FillsPlace (utf16_form (not (eqb g.row.BIG_ENDIAN 0))) Utf8 l.bytes (at_place l.fn.room l.start) (at_place l.room l.end) l.read;
-  units : (k : ℕ) → k < 32 → lane_unit l.low l.high k ≡ unit_number (not (eqb g.row.BIG_ENDIAN 0)) (drop l.read l.bytes) k;
+  runs : PutsText FillsPlace (utf16_form g.E.ByteOrder.HIGH_FIRST) Utf8 l.bytes (at_place l.fn.room l.start) (at_place l.room l.end) l.read;
+  units : (k : ℕ) → k < 32 → lane_unit l.low l.high k ≡ unit_number g.E.ByteOrder.HIGH_FIRST (drop l.read l.bytes) k;
   characters : AreCharacters 32 l.high;
 }
 

@@ -8,10 +8,10 @@ use Rattle.recoding.proofs.Utf16ToUtf8.{PutsText-narrowed}
 use Rattle.recoding.proofs.utf16_to_utf8.write_short_blocks.Goals as goal
 
 pub loop-place-init : goal.loop-place-init
-loop-place-init c = PutsText-start c.requires
+loop-place-init g c = PutsText-start c.requires
 
 pub loop-place-preserved : goal.loop-place-preserved
-loop-place-preserved c =
+loop-place-preserved g c =
     let before = c.loop-place.invariant in
     let bytes = c.args.bytes.now in
     let place = c.loop-place.place in
@@ -25,7 +25,7 @@ loop-place-preserved c =
     PutsText-after FillsPlace-more before block
 
 pub returns-then-count-eq0 : goal.returns-then-count-eq0
-returns-then-count-eq0 c =
+returns-then-count-eq0 g c =
     let before = c.loop-place.invariant in
     let bytes = c.args.bytes.now in
     let place = c.loop-place.place in

@@ -6,7 +6,7 @@ use Rattle.recoding.specs.declared.form.Form.TheVariants.{Utf8}
 use Rattle.recoding.proofs.utf16_to_utf8.write_short_blocks.Given as goal
 
 abbrev pub invariant-loop-place : goal.invariant-loop-place
-invariant-loop-place l = PutsText FillsPlace (utf16_form l.high_first) Utf8 l.bytes (at_place l.fn.room l.start) (at_place l.room l.end) l.place
+invariant-loop-place g l = PutsText FillsPlace (utf16_form g.E.ByteOrder.HIGH_FIRST) Utf8 l.bytes (at_place l.fn.room l.start) (at_place l.room l.end) l.place
 
 abbrev pub decreases-loop-place : goal.decreases-loop-place
-decreases-loop-place l = length l.bytes - l.place
+decreases-loop-place g l = length l.bytes - l.place

@@ -1,5 +1,4 @@
-use Rattle.std.proofs.Common.{not, ◌+◌, ◌-◌, ◌*◌, ◌≤◌, length}
-use Rattle.std.specs.Prelude.{eqb}
+use Rattle.std.proofs.Common.{◌+◌, ◌-◌, ◌*◌, ◌≤◌, length}
 use Rattle.utf_lanes.specs.UnitCodes.{Writes}
 use Rattle.utf_lanes.specs.Utf8ToUtf16.{utf16_bytes}
 use Rattle.recoding.proofs.utf8_to_utf16.write_wide.Given as goal
@@ -8,7 +7,7 @@ abbrev pub invariant-loop-place : goal.invariant-loop-place
 invariant-loop-place g l = record {
   least : 16 ≤ l.place;
   within : l.place ≤ length l.text;
-  written : Writes l.fn.room l.room l.at l.end (utf16_bytes (not (eqb g.row.BIG_ENDIAN 0)) l.text 16 (l.place - 16));
+  written : Writes l.fn.room l.room l.at l.end (utf16_bytes g.E.ByteOrder.HIGH_FIRST l.text 16 (l.place - 16));
   most : l.end + 2 * (length l.text - l.place) ≤ l.at + 2 * (length l.text - 16);
 }
 

@@ -3,7 +3,7 @@ use Rattle.utf_lanes.proofs.BlockUnits.{front_loaded}
 use Rattle.utf_lanes.proofs.text_units.front_units.Goals as goal
 
 pub returns-clause-units : goal.returns-clause-units
-returns-clause-units c =
+returns-clause-units g c =
     let here = c.args.here in
     let lanes = c.before_lanes.ensures in
     c.lane_units.ensures.units (0 ∷ 0 ∷ 0 ∷ here) 3

@@ -5,10 +5,10 @@ use Rattle.utf_lanes.proofs.UnitPairs.{pair_on, pair_before}
 use Rattle.utf_lanes.proofs.unit_blocks.is_paired_block.Goals as goal
 
 pub returns : goal.returns
-returns c holds =
-    let us = units_of c.args.high_first c.args.bytes.now in
+returns g c holds =
+    let us = units_of g.E.ByteOrder.HIGH_FIRST c.args.bytes.now in
     let p = c.args.place in
-    let high = c.args.high_first in
+    let high = g.E.ByteOrder.HIGH_FIRST in
     let zero = all_zero c.unpaired.result c.unpaired-2.result c.unpaired-3.result c.unpaired-4.result (lit< tt) c.unpaired.ensures.len c.unpaired-2.ensures.len c.unpaired-3.ensures.len c.unpaired-4.ensures.len (eqb-true _ _ holds) in
     let first = pair_before high us c.unpaired.result p 16 (omega arith) (λ k lt. (zero k lt).0) c.unpaired.ensures.lanes in
     let second = pair_before high us c.unpaired-2.result (p + 8) 16 (omega arith) (λ k lt. (zero k lt).1) c.unpaired-2.ensures.lanes in

@@ -9,33 +9,33 @@ use Rattle.utf_lanes.proofs.PairedCodes.{codes_first_paired, codes_last}
 use Rattle.utf_lanes.proofs.unit_blocks.units_len.Goals as goal
 
 pub returns-then-is_utf16_leading_surrogate-clause-codes : goal.returns-then-is_utf16_leading_surrogate-clause-codes
-returns-then-is_utf16_leading_surrogate-clause-codes c =
+returns-then-is_utf16_leading_surrogate-clause-codes g c =
     let judged = c.paired_end-end.ensures in
-    units_codes_less c.args.high_first c.args.bytes.now c.type_inv.bytes c.paired_end-end.result (omega arith) judged.within judged.first judged.paired _ c.unit-last.ensures
+    units_codes_less g.E.ByteOrder.HIGH_FIRST c.args.bytes.now c.type_inv.bytes c.paired_end-end.result (omega arith) judged.within judged.first judged.paired _ c.unit-last.ensures
     (sym c.is_utf16_leading_surrogate.ensures ∙ c.if-is_utf16_leading_surrogate.true)
 
 pub returns-else-is_utf16_leading_surrogate-clause-codes : goal.returns-else-is_utf16_leading_surrogate-clause-codes
-returns-else-is_utf16_leading_surrogate-clause-codes c =
+returns-else-is_utf16_leading_surrogate-clause-codes g c =
     let judged = c.paired_end-end.ensures in
-    units_codes c.args.high_first c.args.bytes.now c.type_inv.bytes c.paired_end-end.result (omega arith) judged.within judged.first judged.paired _ c.unit-last.ensures
+    units_codes g.E.ByteOrder.HIGH_FIRST c.args.bytes.now c.type_inv.bytes c.paired_end-end.result (omega arith) judged.within judged.first judged.paired _ c.unit-last.ensures
     (sym c.is_utf16_leading_surrogate.ensures ∙ c.if-is_utf16_leading_surrogate.false)
 
 pub returns-then-end-eq0-clause-all : goal.returns-then-end-eq0-clause-all
-returns-then-end-eq0-clause-all c enough n within codes =
-    let us = units_of c.args.high_first c.args.bytes.now in
-    let front : AreCodes (take n us) = rw (units_front c.args.high_first c.args.bytes.now n) codes in
-    let end = c.paired_end-end.ensures.all n within (codes_first_paired us n (units_length c.args.high_first c.args.bytes.now n within) front) in
+returns-then-end-eq0-clause-all g c enough n within codes =
+    let us = units_of g.E.ByteOrder.HIGH_FIRST c.args.bytes.now in
+    let front : AreCodes (take n us) = rw (units_front g.E.ByteOrder.HIGH_FIRST c.args.bytes.now n) codes in
+    let end = c.paired_end-end.ensures.all n within (codes_first_paired us n (units_length g.E.ByteOrder.HIGH_FIRST c.args.bytes.now n within) front) in
     omega arith
 
 pub returns-else-is_utf16_leading_surrogate-clause-all : goal.returns-else-is_utf16_leading_surrogate-clause-all
-returns-else-is_utf16_leading_surrogate-clause-all c enough n within codes =
-    let us = units_of c.args.high_first c.args.bytes.now in
-    let front : AreCodes (take n us) = rw (units_front c.args.high_first c.args.bytes.now n) codes in
-    c.paired_end-end.ensures.all n within (codes_first_paired us n (units_length c.args.high_first c.args.bytes.now n within) front)
+returns-else-is_utf16_leading_surrogate-clause-all g c enough n within codes =
+    let us = units_of g.E.ByteOrder.HIGH_FIRST c.args.bytes.now in
+    let front : AreCodes (take n us) = rw (units_front g.E.ByteOrder.HIGH_FIRST c.args.bytes.now n) codes in
+    c.paired_end-end.ensures.all n within (codes_first_paired us n (units_length g.E.ByteOrder.HIGH_FIRST c.args.bytes.now n within) front)
 
 pub returns-then-is_utf16_leading_surrogate-clause-all : goal.returns-then-is_utf16_leading_surrogate-clause-all
-returns-then-is_utf16_leading_surrogate-clause-all c enough n within codes =
-    let high = c.args.high_first in
+returns-then-is_utf16_leading_surrogate-clause-all g c enough n within codes =
+    let high = g.E.ByteOrder.HIGH_FIRST in
     let bytes = c.args.bytes.now in
     let us = units_of high bytes in
     let e = c.paired_end-end.result in

@@ -1,5 +1,4 @@
-use Rattle.std.proofs.Common.{not, ◌-◌, length, drop, take, arith, length-take, length-drop}
-use Rattle.std.specs.Prelude.{eqb}
+use Rattle.std.proofs.Common.{◌-◌, length, drop, take, arith, length-take, length-drop}
 use Rattle.recoding.proofs.Forms.{is_utf16}
 use Rattle.recoding.proofs.TextRuns.{PutsText-none, PutsText-part, PutsText-then}
 use Rattle.recoding.proofs.AsciiToUtf16.{PutsText-widened, ascii_front, few_widened}
@@ -21,7 +20,7 @@ put_judged-requires g c =
     omega (
       arith,
       g.met.O.Output.appends_room _ _ _ c.put_ascii_front-front.ensures.appends,
-      few_widened (not (eqb g.row.BIG_ENDIAN 0)) part front,
+      few_widened g.E.ByteOrder.HIGH_FIRST part front,
       length-take c.min-most.result c.args.bytes.now,
       length-take (length part - front) (drop front part),
       length-drop front part,

@@ -1,6 +1,6 @@
 use Rattle.std.proofs.Common.{◌-◌, length, take, arith, refl, ◌∙◌}
 use Rattle.utf_lanes.proofs.TextUnits.{given_more}
-use Rattle.recoding.proofs.utf8_to_utf16.write_units.Goals as goal
+use Rattle.recoding.proofs.utf8_to_utf16.widen_text.Goals as goal
 
 pub returns-clause-written : goal.returns-clause-written
 returns-clause-written g c =

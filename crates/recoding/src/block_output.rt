@@ -1,0 +1,23 @@
+//! Where blocks of units and of text are put.
+ghost use Rattle.std.specs.Prelude.{◌*◌, ◌≤◌, length};
+ghost use Rattle.recoding.specs.NextScalars.{utf16_form};
+ghost use Rattle.recoding.specs.Strict.{PutsText};
+ghost use Rattle.recoding.specs.declared.form.Form.TheVariants.{Utf8};
+ghost use Rattle.utf_lanes.specs.Utf8ToUtf16.{utf16_bytes};
+
+use crate::output::Output;
+use utf_lanes::byte_order::ByteOrder;
+
+// An output into which blocks between UTF-8 and UTF-16 are written where they stay.
+pub(crate) trait BlockOutput: Output {
+    // Appends the units that the places of some text give.
+    fn put_units<E: ByteOrder>(&mut self, text: &[u8])
+        requires long { 32 ≤ length text.now }
+        requires room { 3 * length text.now ≤ Self.room self.old }
+        ensures { Self.appends self.old (utf16_bytes E.HIGH_FIRST text.now 0 (length text.now)) self.new };
+
+    // Recodes the blocks of units at the front of the bytes as UTF-8, as far as they have no fault and the room is surely enough.
+    // Answers how many bytes they have.
+    fn put_blocks<E: ByteOrder>(&mut self, bytes: &[u8]) -> usize
+        ensures { PutsText Self.appends (utf16_form E.HIGH_FIRST) Utf8 bytes.now self.old self.new result };
+}
