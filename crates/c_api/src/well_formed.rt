@@ -5,7 +5,7 @@ ghost use Rattle.cuts.specs.WellFormed.{IsFirstFault};
 ghost use Rattle.c_api.specs.Api.{IfForm, IsFirstFaultIn, IsForm};
 
 use crate::recodings::form_of;
-use cuts::Form;
+use cuts::{BigEndian, Form, LittleEndian};
 
 /// The offset of the first invalid byte, or how many bytes there are where none is invalid.
 #[unsafe(no_mangle)]
@@ -35,7 +35,7 @@ pub extern "C" fn nody_utf16_bytes_valid_up_to(form: u8, bytes: &[u8]) -> usize
     }
     match form_of(form) {
         Form::Utf8 => cuts::valid_up_to(bytes),
-        Form::Utf16Le => cuts::unit_bytes_valid_up_to(false, bytes),
-        Form::Utf16Be => cuts::unit_bytes_valid_up_to(true, bytes),
+        Form::Utf16Le => cuts::unit_bytes_valid_up_to::<LittleEndian>(bytes),
+        Form::Utf16Be => cuts::unit_bytes_valid_up_to::<BigEndian>(bytes),
     }
 }

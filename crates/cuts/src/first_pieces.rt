@@ -11,6 +11,7 @@ use encode_unicode::{CharExt, U16UtfExt};
 use recoding::faults::FaultKind;
 use recoding::form::Form;
 use utf_base::elements::is_continuation;
+use utf_lanes::byte_order::{BigEndian, ByteOrder, LittleEndian};
 use utf_lanes::byte_pairs::unit;
 use utf_lanes::text_front::front_of_text;
 
@@ -44,8 +45,8 @@ pub(crate) fn front_of(form: Form, bytes: &[u8]) -> Option<Front>
 {
     match form {
         Form::Utf8 => front_of_utf8(bytes),
-        Form::Utf16Le => front_of_utf16::<false>(bytes),
-        Form::Utf16Be => front_of_utf16::<true>(bytes),
+        Form::Utf16Le => front_of_utf16::<LittleEndian>(bytes),
+        Form::Utf16Be => front_of_utf16::<BigEndian>(bytes),
     }
 }
 
@@ -153,17 +154,17 @@ fn breaks_at(bytes: &[u8], place: usize) -> bool
 
 // `front_of` for UTF-16.
 #[inline(always)]
-fn front_of_utf16<const BIG_ENDIAN: bool>(bytes: &[u8]) -> Option<Front>
-    ensures begins { IfSome result (λ x. Begins (utf16_form BIG_ENDIAN) bytes.now (told_of x)) }
-    ensures waits { IfNone result (0 < length bytes.now → IsOpen (utf16_form BIG_ENDIAN) bytes.now) }
+fn front_of_utf16<E: ByteOrder>(bytes: &[u8]) -> Option<Front>
+    ensures begins { IfSome result (λ x. Begins (utf16_form E.HIGH_FIRST) bytes.now (told_of x)) }
+    ensures waits { IfNone result (0 < length bytes.now → IsOpen (utf16_form E.HIGH_FIRST) bytes.now) }
     ensures last { IfNone result (0 < length bytes.now →
-        first_told (utf16_form BIG_ENDIAN) bytes.now ≡ lacking_told (utf16_form BIG_ENDIAN) (length bytes.now)) }
+        first_told (utf16_form E.HIGH_FIRST) bytes.now ≡ lacking_told (utf16_form E.HIGH_FIRST) (length bytes.now)) }
     ensures few { IfNone result (length bytes.now ≤ 3) }
 {
     if bytes.len() < 2 {
         return None;
     }
-    let first = unit(BIG_ENDIAN, bytes[0], bytes[1]);
+    let first = unit::<E>(bytes[0], bytes[1]);
     if !first.is_utf16_leading_surrogate() {
         return match char::from_utf16_tuple((first, None)) {
             Ok(c) => Some(Front::Char(c, 2)),
@@ -173,7 +174,7 @@ fn front_of_utf16<const BIG_ENDIAN: bool>(bytes: &[u8]) -> Option<Front>
     if bytes.len() < 4 {
         return None;
     }
-    let second = unit(BIG_ENDIAN, bytes[2], bytes[3]);
+    let second = unit::<E>(bytes[2], bytes[3]);
     match char::from_utf16_tuple((first, Some(second))) {
         Ok(c) => Some(Front::Char(c, 4)),
         Err(_) => Some(fault_of_unit(Utf16PairError::UnmatchedLeadingSurrogate)),

@@ -68,4 +68,5 @@ pub use runs::walks::{walk_utf8, walk_utf16};
 pub use runs::well_formed::{units_valid_up_to, valid_up_to};
 pub use splits::{Span, SplitAscii, split_ascii};
 pub use undecided::undecided_len;
+pub use utf_lanes::byte_order::{BigEndian, ByteOrder, LittleEndian};
 pub use utf_lanes::text_front::front_of_text;

@@ -1,7 +1,7 @@
 //! Fronts that are well-formed, and what follows them.
 ghost use Rattle.std.specs.Prelude.{◌≤◌, length};
 
-use cuts::{unit_bytes_valid_up_to, units_valid_up_to, valid_up_to};
+use cuts::{LittleEndian, unit_bytes_valid_up_to, units_valid_up_to, valid_up_to};
 
 /// The bytes before the first invalid one, and those from it on.
 pub fn split_at_fault(bytes: &[u8]) -> (&[u8], &[u8]) {
@@ -18,5 +18,5 @@ pub fn split_at_faulty_unit(units: &[u16]) -> (&[u16], &[u16]) {
 pub fn good_wire_len(bytes: &[u8]) -> usize
     ensures { result ≤ length bytes.now }
 {
-    unit_bytes_valid_up_to(false, bytes)
+    unit_bytes_valid_up_to::<LittleEndian>(bytes)
 }

@@ -3,7 +3,7 @@ use Rattle.cuts.proofs.UnitFaults.{IsGoodToUnit}
 use Rattle.cuts.proofs.runs.unit_bytes.unit_bytes_valid_up_to.Given as goal
 
 abbrev pub invariant-loop-len : goal.invariant-loop-len
-invariant-loop-len l = IsGoodToUnit l.high_first l.bytes l.place
+invariant-loop-len g l = IsGoodToUnit g.E.ByteOrder.HIGH_FIRST l.bytes l.place
 
 abbrev pub decreases-loop-len : goal.decreases-loop-len
-decreases-loop-len l = length l.bytes - l.place
+decreases-loop-len g l = length l.bytes - l.place
