@@ -10,7 +10,7 @@ use Rattle.utf_lanes.specs.Lanes.{AreBits, AreLanes, ArePairs, lane_of_two, lane
 use Rattle.utf_lanes.specs.Utf8ToUtf16.{AreLoaded, concat_range, block_bytes, ends_unit, low_half, high_half, unit_low, unit_high, unit_low_at, unit_high_at, halves, halves_at, utf16_bytes_at, pair_at}
 use Rattle.utf_lanes.proofs.Joined.{joined_same, joined_none, joined_add, joined_moved}
 use Rattle.utf_lanes.proofs.LaneLemmas.{reach_mask, none_reach}
-use Rattle.utf_lanes.proofs.ChosenLanes.{where_below, where_below_len, where_below_at}
+use Rattle.utf_lanes.proofs.PassedLanes.{chosen, chosen_len, chosen_at}
 
 -- one fact at each number below 8
 pub below_8 : (P : ℕ → Type 0) → P 0 → P 1 → P 2 → P 3 → P 4 → P 5 → P 6 → P 7 → (k : ℕ) → k < 8 → P k
@@ -115,13 +115,13 @@ module _ (high_first : Bool) (xs : List ℕ) (place s : ℕ) (start : 3 ≤ plac
 
 module _ (third second : List ℕ) (p : length third ≡ 16) (q : length second ≡ 16) where
   abbrev greater : List ℕ
-  greater = where_below second third third second
+  greater = chosen ltb second third third second
 
   abbrev longest_mask : ℕ
   longest_mask = reach_mask 16 0xF0 greater
 
   greater_low : longest_mask ≡ 0 → (k : ℕ) → k < 16 → get_or greater k 0 < 0xF0
-  greater_low none k lt = none_reach 0xF0 greater (lit< tt) (where_below_len second third third second q p p q) none k lt
+  greater_low none k lt = none_reach 0xF0 greater (lit< tt) (chosen_len ltb second third third second q p p q) none k lt
 
   both_low : (a b : ℕ) (t : Bool) → ltb b a ≡ t → cond t a b < 0xF0 → (a < 0xF0) × (b < 0xF0)
   both_low a b true e h = let below = ltb-true b a e in (h, omega arith)
@@ -130,7 +130,7 @@ module _ (third second : List ℕ) (p : length third ≡ 16) (q : length second 
   short_here : longest_mask ≡ 0 → (k : ℕ) → k < 16 → (get_or third k 0 < 0xF0) × (get_or second k 0 < 0xF0)
   short_here none k lt =
       let low : cond (ltb (get_or second k 0) (get_or third k 0)) (get_or third k 0) (get_or second k 0) < 0xF0
-      = rw (where_below_at second third third second q p p q k lt) at (greater_low none k lt) in
+      = rw (chosen_at ltb second third third second q p p q k lt) at (greater_low none k lt) in
       both_low (get_or third k 0) (get_or second k 0) _ refl low
 
   short_low : (b c d : ℕ) → b < 0xF0 → low_half c d ≡ unit_low b c d

@@ -1,7 +1,6 @@
 pub mod AsciiTexts
 pub mod AsciiUnits
 pub mod BlockUnits
-pub mod ChosenLanes
 pub mod CodedUnits
 pub mod EndLanes
 pub mod FewBytes
@@ -16,9 +15,7 @@ pub mod LookUps
 pub mod NoneBegins
 pub mod PairTables
 pub mod PairedCodes
-pub mod PairedUnits
 pub mod PassedLanes
-pub mod SameLanes
 pub mod SlotLanes
 pub mod StartLemmas
 pub mod SwappedBytes

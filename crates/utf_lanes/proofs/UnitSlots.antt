@@ -1,5 +1,5 @@
 -- The lanes of units, and the bytes of UTF-8 that they give.
-use Rattle.std.proofs.Common.{◌≡◌, ℕ, ◌+◌, ◌*◌, ◌/◌, ◌%◌, ◌<◌, ◌≤◌, Bool, true, false, not, cond, eqb, ltb, List, length, get_or, replicate, bit_and, bit_or, refl, sym, ap, ap₂, ◌∙◌, arith, lit<, ◌-◌, [], ◌∷◌, ◌++◌, inl, inr, subst, eqb-true}
+use Rattle.std.proofs.Common.{◌≡◌, ℕ, ◌+◌, ◌*◌, ◌/◌, ◌%◌, ◌<◌, ◌≤◌, true, false, not, cond, eqb, ltb, List, length, get_or, replicate, bit_and, bit_or, refl, sym, ap, ap₂, ◌∙◌, arith, lit<, ◌-◌, [], ◌∷◌, ◌++◌, inl, inr, subst}
 use Rattle.std.proofs.lemmas.Bool.{cases_lt}
 use Rattle.std.proofs.lemmas.Grind.{common_steps}
 use Rattle.std.proofs.lemmas.List.{get_or-take, get_or_append_left, get_or-append_right}
@@ -12,7 +12,7 @@ use Rattle.utf_lanes.specs.BytePairs.{unit_number}
 use Rattle.utf_lanes.specs.UnitCodes.{lane_unit, lane_after, first_byte, middle_byte, last_byte, lead_byte, second_byte, third_byte, first_in_text, middle_in_text, last_in_text}
 use Rattle.utf_lanes.proofs.BlockUnits.{below_8}
 use Rattle.utf_lanes.proofs.UnitLanes.{added, up, down}
-use Rattle.utf_lanes.proofs.LaneLemmas.{IsVector, lane_fits, wide, wide_with, lane, lane_with}
+use Rattle.utf_lanes.proofs.LaneLemmas.{IsVector, lane_fits, wide, wide_with, lane, lane_with, no_difference}
 use Rattle.utf_lanes.proofs.PassedLanes.{where_passed, where_passed_len, where_passed_at, passed_mask, none_passes}
 
 -- Tests of all lanes, and of each.
@@ -20,18 +20,11 @@ use Rattle.utf_lanes.proofs.PassedLanes.{where_passed, where_passed_len, where_p
 ascii_unit : (l h either : ℕ) → h ≤ either → l / 128 ≤ either → either ≡ 0 → h * 256 + l < 0x80
 ascii_unit l h either a b e = omega arith
 
-zero_lane : (a : ℕ) → not (eqb a 0) ≡ false → a ≡ 0
-zero_lane a e = eqb-true a 0 (flip (eqb a 0) e)
-  where
-    flip : (b : Bool) → not b ≡ false → b ≡ true
-    flip true e = refl
-    flip false e = sym e
-
 pub all_ascii : {n : ℕ} (few : n ≤ 64) (low high : List ℕ) → length low ≡ n → length high ≡ n → passed_mask n (λ a b. not (eqb a b)) (zip2 bit_or high (zip2 down low (replicate n 7))) 0 ≡ 0
     → (k : ℕ) → k < n → lane_unit low high k < 0x80
 all_ascii {n} few low high p q none k lt =
     let both = zip2 bit_or high (zip2 down low (replicate n 7)) in
-    let zero = zero_lane (get_or both k 0) (none_passes few (λ a b. not (eqb a b)) both 0 (wide bit_or high _ q (wide_with down low 7 p)) none k lt) in
+    let zero = no_difference (get_or both k 0) (none_passes few (λ a b. not (eqb a b)) both 0 (wide bit_or high _ q (wide_with down low 7 p)) none k lt) in
     let at = lane bit_or high (zip2 down low (replicate n 7)) q (wide_with down low 7 p) k lt in
     let shifted : get_or (zip2 down low (replicate n 7)) k 0 ≡ get_or low k 0 / 128 = lane_with down low 7 p k lt in
     let or_zero : bit_or (get_or high k 0) (get_or low k 0 / 128) ≡ 0 = ap (bit_or (get_or high k 0)) (sym shifted) ∙ sym at ∙ zero in
@@ -40,7 +33,7 @@ all_ascii {n} few low high p q none k lt =
 pub all_short : {n : ℕ} (few : n ≤ 64) (high : List ℕ) → length high ≡ n → passed_mask n (λ a b. not (eqb a b)) (zip2 down high (replicate n 3)) 0 ≡ 0 → (k : ℕ) → k < n → get_or high k 0 < 8
 all_short {n} few high q none k lt =
     let eighths = zip2 down high (replicate n 3) in
-    let zero = zero_lane (get_or eighths k 0) (none_passes few (λ a b. not (eqb a b)) eighths 0 (wide_with down high 3 q) none k lt) in
+    let zero = no_difference (get_or eighths k 0) (none_passes few (λ a b. not (eqb a b)) eighths 0 (wide_with down high 3 q) none k lt) in
     let at = lane_with down high 3 q k lt in
     omega arith
 
