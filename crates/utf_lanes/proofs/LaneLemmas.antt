@@ -10,7 +10,7 @@ use lib.Count.{count_trailing_zeros}
 use Rattle.std.specs.Int.{bit_at}
 use lib.Lanes.{zip2, mask_l, top, Each1, chunk}
 use Rattle.utf_lanes.specs.AsciiTexts.{AreAscii}
-use Rattle.utf_lanes.specs.LookUps.{AreLookedUp}
+use Rattle.utf_lanes.specs.Lanes.{AreLookedUp}
 use Rattle.utf_lanes.specs.TextBlocks.{Follows, AllMayFollow, ArePairsLeft, IsPair, ZeroLanesFollow}
 use Rattle.utf_lanes.proofs.PairTables.{AreRight, tables_judge}
 use Rattle.utf_lanes.proofs.PassedLanes.{where_passed, where_passed_len, where_passed_at, passed_mask, mask_is, passed_most, passed_bits, none_passes, passes_none}

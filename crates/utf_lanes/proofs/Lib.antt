@@ -1,20 +1,14 @@
 pub mod AsciiTexts
-pub mod AsciiUnits
 pub mod BlockUnits
 pub mod CodedUnits
-pub mod EndLanes
 pub mod FewBytes
 pub mod Joined
 pub mod JudgedText
 pub mod JudgedUnits
-pub mod CompressPairs
 pub mod CompressRows
-pub mod CompressLanes
 pub mod LaneLemmas
 pub mod LookUps
-pub mod NoneBegins
 pub mod PairTables
-pub mod PairedCodes
 pub mod PassedLanes
 pub mod SlotLanes
 pub mod StartLemmas
@@ -26,5 +20,5 @@ pub mod UnitLanes
 pub mod UnitPairs
 pub mod UnitSlots
 pub mod UnitStartLemmas
-pub mod ValueSums
 pub mod WideShuffles
+pub mod TextFronts

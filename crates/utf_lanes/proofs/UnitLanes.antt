@@ -43,7 +43,7 @@ module _ (before here : List ℕ) (p : IsVector 16 before) (q : IsVector 16 here
       let most : giving_mask before here < 65536 = passed_most (lit≤ tt) ltb (later before here) 0xC0 later_len in
       omega (arith, and_le_l (giving_mask before here) ((2 ^ 64 - 1) * 2 ^ s % 2 ^ 64))
 
-  pub giving_bits : (s : ℕ) → s < 16 → AreBits (bit_and (giving_mask before here) ((2 ^ 64 - 1) * 2 ^ s % 2 ^ 64)) (λ k. ends_unit (get_or before k 0) (get_or here k 0) && leb s k)
+  pub giving_bits : (s : ℕ) → s < 16 → AreBits 16 (bit_and (giving_mask before here) ((2 ^ 64 - 1) * 2 ^ s % 2 ^ 64)) (λ k. ends_unit (get_or before k 0) (get_or here k 0) && leb s k)
   giving_bits s few k lt =
       rw (bit_at_and (giving_mask before here) ((2 ^ 64 - 1) * 2 ^ s % 2 ^ 64) k, ones_shl 64 s (omega arith), mask_bit k lt)
       (both (ends_unit (get_or before k 0) (get_or here k 0)) (leb s k) refl)
@@ -204,8 +204,8 @@ trailing_at first q k lt =
 
 -- Where some units may be surrogates.
 module _ (third second first here : List ℕ) (t : length third ≡ 16) (u : length second ≡ 16) {low high leading_l leading_h trailing : List ℕ}
-    (l : AreLanes low (lane_of_two low_half first here)) (h : AreLanes high (lane_of_three high_half second first here)) (ll : AreLanes leading_l (lane_of_two leading_low first here))
-    (lh : AreLanes leading_h (lane_of_three leading_high second first here)) (tr : AreLanes trailing (λ k. trailing_high (get_or first k 0))) where
+    (l : AreLanes 16 low (lane_of_two low_half first here)) (h : AreLanes 16 high (lane_of_three high_half second first here)) (ll : AreLanes 16 leading_l (lane_of_two leading_low first here))
+    (lh : AreLanes 16 leading_h (lane_of_three leading_high second first here)) (tr : AreLanes 16 trailing (λ k. trailing_high (get_or first k 0))) where
   abbrev chosen_lows : List ℕ
   chosen_lows = chosen ltb second (replicate 16 0xF0) low leading_l
 
@@ -218,14 +218,14 @@ module _ (third second first here : List ℕ) (t : length third ≡ 16) (u : len
   shorter_len : length shorter ≡ 16
   shorter_len = chosen_len ltb third (replicate 16 0xF0) high trailing t refl h.wide tr.wide
 
-  pub chosen_lows_are : AreLanes chosen_lows (lane_of_three unit_low second first here)
+  pub chosen_lows_are : AreLanes 16 chosen_lows (lane_of_three unit_low second first here)
   chosen_lows_are = record {
     wide = chosen_len ltb second (replicate 16 0xF0) low leading_l u refl l.wide ll.wide;
     each = λ k lt.
         rw (chosen_at ltb second (replicate 16 0xF0) low leading_l u refl l.wide ll.wide k lt, get_or-replicate {A = ℕ} 16 k 0xF0 0 lt, l.each k lt, ll.each k lt) refl;
   }
 
-  pub chosen_highs_are : AreLanes chosen_highs (lane_of_four unit_high third second first here)
+  pub chosen_highs_are : AreLanes 16 chosen_highs (lane_of_four unit_high third second first here)
   chosen_highs_are = record {
     wide = chosen_len ltb second (replicate 16 0xF0) shorter leading_h u refl shorter_len lh.wide;
     each = λ k lt.

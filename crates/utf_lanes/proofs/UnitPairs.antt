@@ -67,7 +67,7 @@ module _ (high : Bool) (before here bits : List ℕ) (b : IsVector 16 before) (h
       let below = place_below high in
       lane bit_and v bits wide_v long (2 * k + high_place high) (omega arith) ∙ ap (bit_and (high_byte high v k)) (upper_six k lt)
 
-  module _ {xs ys : List ℕ} (x : AreLanes xs (ones_where 255 (zip2 bit_and here bits) 0xDC)) (y : AreLanes ys (ones_where 255 (zip2 bit_and before bits) 0xD8)) where
+  module _ {xs ys : List ℕ} (x : AreLanes 16 xs (ones_where 255 (zip2 bit_and here bits) 0xDC)) (y : AreLanes 16 ys (ones_where 255 (zip2 bit_and before bits) 0xD8)) where
     lane_leaves : (k : ℕ) → k < 8
         → high_byte high (zip2 bit_xor xs ys) k ≡ bit_xor (cond (is_trailing_surrogate (unit_number high here k)) 255 0) (cond (is_leading_surrogate (unit_number high before k)) 255 0)
     lane_leaves k lt =

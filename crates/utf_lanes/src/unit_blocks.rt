@@ -199,7 +199,7 @@ fn upper_bits(high_first: bool) -> u8x16
 // 255 in each lane that is this byte, and 0 in the others.
 #[inline(always)]
 fn where_equal(lanes: u8x16, byte: u8) -> u8x16
-    ensures { AreLanes result (ones_where 255 lanes byte) }
+    ensures { AreLanes 16 result (ones_where 255 lanes byte) }
 {
     lanes
         .simd_eq(u8x16::splat(byte))
