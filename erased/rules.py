@@ -21,7 +21,7 @@ MACROS = {"assert", "assert_eq", "assert_ne", "debug_assert", "macro_rules", "ma
 CORE = {"array", "ascii", "borrow", "char", "cmp", "convert", "error", "fmt", "hash", "iter", "marker", "mem", "num", "ops", "slice", "str"}
 SUPPORT = {
     "alloc": {"AllocError", "Allocator", "Global"},
-    "simd": {"prelude"},
+    "simd": {"ToBytes", "prelude"},
 }
 GATED = {"io": {"Read", "Result", "ErrorKind"}}
 # Names of Rattle's prelude that mean something else in Rust's: src/support has these, and has no other.

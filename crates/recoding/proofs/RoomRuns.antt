@@ -10,7 +10,7 @@ use Rattle.recoding.specs.declared.form.Form.TheVariants.{Utf8, Utf16Le, Utf16Be
 use Rattle.recoding.specs.Recoded.{written}
 use Rattle.recoding.specs.Replacing.{FillsPlace, at_place}
 use Rattle.utf_lanes.specs.BytePairs.{bytes_of}
-use Rattle.utf_lanes.specs.UnitCodes.{code_at, lane_unit, WritesUnitsOf}
+use Rattle.utf_lanes.specs.UnitCodes.{code_at, lane_unit, WritesUnits}
 use Rattle.utf_lanes.specs.Utf8ToUtf16.{concat_range}
 
 few_units : (high : Bool) (s : ℕ) → length (flat_map (bytes_of high) (utf16 s)) ≤ 4
@@ -47,7 +47,7 @@ FillsPlace-more a b c xs ys f g = record {
 }
 
 -- a block of units
-pub FillsPlace-units : {old new low high : List ℕ} {width at n end : ℕ} → WritesUnitsOf width low high old new at n end → at ≤ length old → end ≤ length old
+pub FillsPlace-units : {old new low high : List ℕ} {width at n end : ℕ} → WritesUnits width low high old new at n end → at ≤ length old → end ≤ length old
     → FillsPlace (at_place old at) (concat_range (code_at (lane_unit low high)) 0 n) (at_place new end)
 FillsPlace-units {old} {new} {low} {high} {at = at} {n} {end} put before fits =
     let same = put.len in

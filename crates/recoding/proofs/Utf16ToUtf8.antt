@@ -1,5 +1,5 @@
 -- Units of text, and the same text as bytes.
-use Rattle.std.proofs.Common.{◌≡◌, ℕ, zero, suc, ◌+◌, ◌-◌, ◌*◌, ◌<◌, ◌≤◌, Bool, true, false, ◌⊎◌, List, [], ◌∷◌, ◌++◌, length, get_or, take, flat_map, arith, refl, sym, ap, ap₂, ◌∙◌, inl, inr, append_assoc, length-take, w8, Fits}
+use Rattle.std.proofs.Common.{◌≡◌, ℕ, zero, suc, ◌+◌, ◌-◌, ◌*◌, ◌<◌, ◌≤◌, Bool, true, false, ◌⊎◌, List, [], ◌∷◌, ◌++◌, length, get_or, take, drop, flat_map, arith, refl, sym, ap, ap₂, ◌∙◌, inl, inr, append_assoc, length-take, length-drop, w8, Fits}
 use Rattle.std.proofs.lemmas.List.Elements.{All-cons}
 use Rattle.std.specs.Prelude.{All}
 use Rattle.utf_base.specs.Code.{utf8, utf16}
@@ -8,14 +8,17 @@ use Rattle.utf_base.specs.Units.{is_leading_surrogate, is_trailing_surrogate, is
 use Rattle.utf_base.proofs.Utf16Code.{unit_is_code, pair_is_code, utf16-1}
 use Rattle.recoding.specs.declared.form.Form.{Form}
 use Rattle.recoding.specs.declared.form.Form.TheVariants.{Utf8}
-use Rattle.utf_lanes.specs.BytePairs.{unit_of, units_of}
+use Rattle.utf_lanes.specs.BytePairs.{unit_of, unit_number, units_of}
 use Rattle.recoding.specs.NextScalars.{HasByteOrder}
 use Rattle.utf_lanes.specs.Utf8ToUtf16.{concat_range}
 use Rattle.utf_lanes.specs.UnitBlocks.{AreCodes}
-use Rattle.utf_lanes.specs.UnitCodes.{unit_code, code_at, AreText}
+use Rattle.utf_lanes.specs.UnitCodes.{unit_code, code_at, lane_unit, AreText, WritesUnits}
+use Rattle.recoding.specs.Replacing.{FillsPlace, at_place}
 use Rattle.recoding.specs.Strict.{PutsText, Transcodes}
 use Rattle.utf_lanes.specs.AsciiTexts.{AreAscii}
-use Rattle.recoding.proofs.CopiedUnits.{coded_bytes, front_fits}
+use Rattle.recoding.proofs.CopiedUnits.{coded_bytes, front_fits, rest_fits}
+use Rattle.recoding.proofs.RoomRuns.{FillsPlace-more, FillsPlace-units}
+use Rattle.recoding.proofs.TextRuns.{PutsText-after}
 use Rattle.recoding.proofs.AsciiToUtf16.{ascii_codes, ascii_scalars}
 use Rattle.utf_lanes.proofs.UnitBytes.{no_surrogate, character_code, pair_code, not_both, not_true}
 
@@ -153,6 +156,19 @@ module _ (high : Bool) (from : Form) (w : List ℕ) (u : ℕ → ℕ) (n : ℕ) 
 
   pub PutsText-narrowed : {O : Type 0} {appends : O → List ℕ → O → Type 0} {old new : O} → appends old (concat_range (code_at u) 0 n) new → PutsText appends from Utf8 w old new (2 * n)
   PutsText-narrowed put = record { within = enough; grown = concat_range (code_at u) 0 n; appended = put; transcodes = Transcodes-narrowed }
+
+-- One more block of them, appended to any output.
+pub PutsText-block : {O : Type 0} {appends : O → List ℕ → O → Type 0} → ((a b c : O) (xs ys : List ℕ) → appends a xs b → appends b ys c → appends a (xs ++ ys) c) → (high : Bool) → {from : Form} {bytes : List ℕ} {u : ℕ → ℕ}
+    {old mid new : O} {p n : ℕ} → HasByteOrder high from → ((i : ℕ) → Fits w8 (get_or bytes i 0)) → PutsText appends from Utf8 bytes old mid p → 2 * n ≤ length bytes - p
+    → ((k : ℕ) → k < n → u k ≡ unit_number high (drop p bytes) k) → AreText u n → appends mid (concat_range (code_at u) 0 n) new → PutsText appends from Utf8 bytes old new (p + 2 * n)
+PutsText-block more high {from} {bytes} {u} {p = p} {n} form fits before enough same text put =
+    PutsText-after more before (PutsText-narrowed high from (drop p bytes) u n form (rest_fits bytes p fits) (omega (arith, length-drop p bytes)) same text put)
+
+-- and written into room
+pub FillsPlace-block : (high : Bool) → {from : Form} {bytes room now new low upper : List ℕ} {width start at n end p : ℕ} → HasByteOrder high from → ((i : ℕ) → Fits w8 (get_or bytes i 0))
+    → PutsText FillsPlace from Utf8 bytes (at_place room start) (at_place now at) p → 2 * n ≤ length bytes - p → ((k : ℕ) → k < n → lane_unit low upper k ≡ unit_number high (drop p bytes) k)
+    → WritesUnits width low upper now new at n end → end ≤ length now → PutsText FillsPlace from Utf8 bytes (at_place room start) (at_place new end) (p + 2 * n)
+FillsPlace-block high form fits before enough same put within = PutsText-block FillsPlace-more high form fits before enough same put.text (FillsPlace-units put before.appended.fits within)
 
 -- Sixteen bytes that are eight units of ASCII are text.
 pub Transcodes-ascii : (high : Bool) {from : Form} {v us ascii : List ℕ} → HasByteOrder high from → ((i : ℕ) → Fits w8 (get_or v i 0)) → length v ≡ 16 → length us ≡ 8 → us ≡ units_of high v → AreAscii us 0 8

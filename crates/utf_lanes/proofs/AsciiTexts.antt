@@ -1,10 +1,17 @@
--- Texts of ASCII alone, by their lanes.
-use Rattle.std.proofs.Common.{◌≡◌, ℕ, zero, suc, ◌+◌, ◌-◌, ◌<◌, ◌≤◌, List, [], ◌∷◌, length, get_or, arith, lit<, IsUtf8}
-use Rattle.std.proofs.lemmas.Simd.{get_or-chunk, length-chunk}
+-- Texts of ASCII alone, by their lanes; and as units: each byte and a NUL.
+use Rattle.std.proofs.Common.{◌≡◌, ℕ, zero, suc, ◌+◌, ◌-◌, ◌<◌, ◌≤◌, List, [], ◌∷◌, length, get_or, arith, lit<, IsUtf8, Bool, true, false, ◌++◌, map, replicate, refl, sym, ap, ap₂, ◌∙◌, inl, inr}
+use Rattle.std.proofs.lemmas.Simd.{get_or-chunk, length-chunk, get_or-replicate}
 use Rattle.std.proofs.lemmas.Str.{IsUtf8-from_ascii}
 use lib.Lanes.{chunk}
 use Rattle.utf_lanes.specs.AsciiTexts.{AreAscii}
 use Rattle.utf_lanes.proofs.LaneLemmas.{reach_mask, none_reach, reach_none}
+use Rattle.std.proofs.lemmas.Bool.{cases_lt}
+use Rattle.std.proofs.lemmas.Grind.{common_steps}
+use Rattle.std.proofs.lemmas.List.{get_or_append_left, get_or-append_right, length-replicate}
+use Rattle.utf_lanes.specs.TextBlocks.{EndsCharacter}
+use Rattle.utf_lanes.specs.Utf8ToUtf16.{concat_range, utf16_bytes, utf16_bytes_at, ends_unit, halves, unit_low, unit_high}
+use Rattle.utf_lanes.proofs.Joined.{joined_same, joined_moved}
+use Rattle.utf_lanes.proofs.TextUnits.{given_here}
 
 pub ascii_lanes : (bytes : List ℕ) (place : ℕ) → place + 16 ≤ length bytes → reach_mask 16 0x80 (chunk place 16 bytes) ≡ 0 → AreAscii bytes place (place + 16)
 ascii_lanes bytes place within none k ge lt =
@@ -23,3 +30,78 @@ ascii_text xs low = IsUtf8-from_ascii xs (λ i. each xs low i)
     each [] low i = lit< tt
     each (x ∷ xs) low zero = low 0 (omega arith) (omega arith)
     each (x ∷ xs) low (suc i) = each xs (λ k ge lt. low (suc k) (omega arith) (omega arith)) i
+
+-- The places of two vectors of d lanes, one beside the other.
+abbrev side_places : ℕ → ℕ → ℕ → List ℕ
+side_places d p zero = []
+side_places d p (suc n) = p ∷ (p + d) ∷ side_places d (suc p) n
+
+beside : (ys : List ℕ) (d p n : ℕ) → map (λ k. get_or ys k 0) (side_places d p n) ≡ concat_range (λ k. get_or ys k 0 ∷ get_or ys (k + d) 0 ∷ []) p n
+unfolding concat_range
+beside ys d p zero = refl
+beside ys d p (suc n) = ap (λ zs. get_or ys p 0 ∷ get_or ys (p + d) 0 ∷ zs) (beside ys d (suc p) n)
+
+module _ (d : ℕ) (xs : List ℕ) (long : length xs ≡ d) where
+  abbrev nuls : List ℕ
+  nuls = replicate d 0
+
+  right : (k : ℕ) → k < d → get_or (xs ++ nuls) k 0 ∷ get_or (xs ++ nuls) (k + d) 0 ∷ [] ≡ halves false (get_or xs k 0) 0
+  right k lt =
+      let back : k + d - d ≡ k = omega arith in
+      ap₂ (λ x y. x ∷ y ∷ []) (get_or_append_left xs nuls 0 k (omega (arith, long)))
+      (get_or-append_right xs nuls d (k + d) 0 long (omega arith) ∙ ap (λ j. get_or nuls j 0) back ∙ get_or-replicate d k 0 0 lt)
+
+  left : (k : ℕ) → k < d → get_or (nuls ++ xs) k 0 ∷ get_or (nuls ++ xs) (k + d) 0 ∷ [] ≡ halves true (get_or xs k 0) 0
+  left k lt =
+      let back : k + d - d ≡ k = omega arith in
+      let wide : length nuls ≡ d = length-replicate d 0 in
+      ap₂ (λ x y. x ∷ y ∷ []) (get_or_append_left nuls xs 0 k (omega (arith, wide)) ∙ get_or-replicate d k 0 0 lt)
+      (get_or-append_right nuls xs d (k + d) 0 wide (omega arith) ∙ ap (λ j. get_or xs j 0) back)
+
+  pub nuls_second : (p n : ℕ) → p + n ≤ d → map (λ k. get_or (xs ++ nuls) k 0) (side_places d p n) ≡ concat_range (λ k. halves false (get_or xs k 0) 0) p n
+  nuls_second p n within = beside (xs ++ nuls) d p n ∙ joined_same _ _ p n (λ k ge lt. right k (omega arith))
+
+  pub nuls_first : (p n : ℕ) → p + n ≤ d → map (λ k. get_or (nuls ++ xs) k 0) (side_places d p n) ≡ concat_range (λ k. halves true (get_or xs k 0) 0) p n
+  nuls_first p n within = beside (nuls ++ xs) d p n ∙ joined_same _ _ p n (λ k ge lt. left k (omega arith))
+
+-- what a byte of ASCII gives after bytes that ask for no more
+one_given : (high : Bool) (xs : List ℕ) (k : ℕ) → get_or xs k 0 < 0xF0 → get_or xs (k + 1) 0 < 0xE0 → get_or xs (k + 2) 0 < 0xC0 → get_or xs (k + 3) 0 < 0x80
+    → utf16_bytes_at high xs k ≡ halves high (get_or xs (k + 3) 0) 0
+unfolding utf16_bytes_at
+one_given high xs k a b c d = rw (opens _ _ d c, low _ _ _ b d, upper _ _ _ _ a b d) refl
+  where
+    opens : (c d : ℕ) → d < 0x80 → c < 0xC0 → ends_unit c d ≡ true
+    opens c d x y = grind (arith, common_steps)
+
+    low : (b c d : ℕ) → b < 0xE0 → d < 0x80 → unit_low b c d ≡ d
+    low b c d x y = grind (arith, common_steps)
+
+    upper : (a b c d : ℕ) → a < 0xF0 → b < 0xE0 → d < 0x80 → unit_high a b c d ≡ 0
+    upper a b c d x y z = grind (arith, common_steps)
+
+pub ascii_given : (high : Bool) (text : List ℕ) (place i n : ℕ) → 3 ≤ place → i + n ≤ 64 → EndsCharacter text place → ((k : ℕ) → k < 64 → get_or text (place + k) 0 < 0x80)
+    → concat_range (λ k. halves high (get_or (chunk place 64 text) k 0) 0) i n ≡ utf16_bytes high text (place + i) n
+ascii_given high text place i n start within closed low =
+    joined_moved _ (utf16_bytes_at high text) i (place - 3 + i) n (λ k lt.
+    let before = closed (place - 3) (omega arith) in
+    let ends : (j : ℕ) → place ≤ j + 1 → j < place + 64 → get_or text j 0 < 0xC0
+    = λ j ge more. elim (cases_lt j place) [
+      | inl less ↦ (let e : place - 3 + 2 ≡ j = omega arith in rw e at before.2)
+      | inr here ↦ (let e : place + (j - place) ≡ j = omega arith in let g = rw e at (low (j - place) (omega arith)) in omega arith)
+    ] in
+    let second : (j : ℕ) → place ≤ j + 2 → j < place + 64 → get_or text j 0 < 0xE0
+    = λ j ge more. elim (cases_lt (j + 1) place) [
+      | inl less ↦ (let e : place - 3 + 1 ≡ j = omega arith in rw e at before.1)
+      | inr here ↦ (let g = ends j here more in omega arith)
+    ] in
+    let third : (j : ℕ) → place ≤ j + 3 → j < place + 64 → get_or text j 0 < 0xF0
+    = λ j ge more. elim (cases_lt (j + 2) place) [
+      | inl less ↦ (let e : place - 3 ≡ j = omega arith in rw e at before.0)
+      | inr here ↦ (let g = second j here more in omega arith)
+    ] in
+    let at : place - 3 + i + k + 3 ≡ place + (i + k) = omega arith in
+    let byte : get_or text (place - 3 + i + k + 3) 0 < 0x80 = rw at (low (i + k) (omega arith)) in
+    let loaded : get_or (chunk place 64 text) (i + k) 0 ≡ get_or text (place - 3 + i + k + 3) 0 = get_or-chunk place 64 text (i + k) 0 (omega arith) ∙ ap (λ j. get_or text j 0) (sym at) in
+    ap (λ d. halves high d 0) loaded
+    ∙ sym (one_given high text (place - 3 + i + k) (third (place - 3 + i + k) (omega arith) (omega arith)) (second (place - 3 + i + k + 1) (omega arith) (omega arith)) (ends (place - 3 + i + k + 2) (omega arith) (omega arith)) byte))
+    ∙ given_here high text place i n start

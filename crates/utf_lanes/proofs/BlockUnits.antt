@@ -10,7 +10,7 @@ use Rattle.utf_lanes.specs.Lanes.{AreBits, AreLanes, ArePairs, lane_of_two, lane
 use Rattle.utf_lanes.specs.Utf8ToUtf16.{AreLoaded, concat_range, block_bytes, ends_unit, low_half, high_half, unit_low, unit_high, unit_low_at, unit_high_at, halves, halves_at, utf16_bytes_at, pair_at}
 use Rattle.utf_lanes.proofs.Joined.{joined_same, joined_none, joined_add, joined_moved}
 use Rattle.utf_lanes.proofs.LaneLemmas.{reach_mask, none_reach}
-use Rattle.utf_lanes.proofs.ChosenLanes.{where_below, where_below_len, where_below_at}
+use Rattle.utf_lanes.proofs.PassedLanes.{chosen, chosen_len, chosen_at}
 
 -- one fact at each number below 8
 pub below_8 : (P : ℕ → Type 0) → P 0 → P 1 → P 2 → P 3 → P 4 → P 5 → P 6 → P 7 → (k : ℕ) → k < 8 → P k
@@ -67,8 +67,8 @@ kept_pair m i v pair false bit e = rw bit refl
 
 -- The lanes of one block.
 module _ (high_first : Bool) (xs : List ℕ) (place s : ℕ) (start : 3 ≤ place) (few : s < 16) (mask : ℕ)
-    (bits : AreBits mask (λ k. ends_unit (get_or xs (place - 1 + k) 0) (get_or xs (place + k) 0) && leb s k)) {low high : List ℕ}
-    (lows : AreLanes low (unit_low_at xs place)) (highs : AreLanes high (unit_high_at xs place)) (front back : List ℕ)
+    (bits : AreBits 16 mask (λ k. ends_unit (get_or xs (place - 1 + k) 0) (get_or xs (place + k) 0) && leb s k)) {low high : List ℕ}
+    (lows : AreLanes 16 low (unit_low_at xs place)) (highs : AreLanes 16 high (unit_high_at xs place)) (front back : List ℕ)
     (fronts : ArePairs front (halves_at high_first low high)) (backs : ArePairs back (λ k. halves_at high_first low high (8 + k))) where
   abbrev lane_given : ℕ → List ℕ
   lane_given k = cond (ends_unit (get_or xs (place - 1 + k) 0) (get_or xs (place + k) 0) && leb s k) (halves high_first (get_or low k 0) (get_or high k 0)) []
@@ -115,13 +115,13 @@ module _ (high_first : Bool) (xs : List ℕ) (place s : ℕ) (start : 3 ≤ plac
 
 module _ (third second : List ℕ) (p : length third ≡ 16) (q : length second ≡ 16) where
   abbrev greater : List ℕ
-  greater = where_below second third third second
+  greater = chosen ltb second third third second
 
   abbrev longest_mask : ℕ
   longest_mask = reach_mask 16 0xF0 greater
 
   greater_low : longest_mask ≡ 0 → (k : ℕ) → k < 16 → get_or greater k 0 < 0xF0
-  greater_low none k lt = none_reach 0xF0 greater (lit< tt) (where_below_len second third third second q p p q) none k lt
+  greater_low none k lt = none_reach 0xF0 greater (lit< tt) (chosen_len ltb second third third second q p p q) none k lt
 
   both_low : (a b : ℕ) (t : Bool) → ltb b a ≡ t → cond t a b < 0xF0 → (a < 0xF0) × (b < 0xF0)
   both_low a b true e h = let below = ltb-true b a e in (h, omega arith)
@@ -130,7 +130,7 @@ module _ (third second : List ℕ) (p : length third ≡ 16) (q : length second 
   short_here : longest_mask ≡ 0 → (k : ℕ) → k < 16 → (get_or third k 0 < 0xF0) × (get_or second k 0 < 0xF0)
   short_here none k lt =
       let low : cond (ltb (get_or second k 0) (get_or third k 0)) (get_or third k 0) (get_or second k 0) < 0xF0
-      = rw (where_below_at second third third second q p p q k lt) at (greater_low none k lt) in
+      = rw (chosen_at ltb second third third second q p p q k lt) at (greater_low none k lt) in
       both_low (get_or third k 0) (get_or second k 0) _ refl low
 
   short_low : (b c d : ℕ) → b < 0xF0 → low_half c d ≡ unit_low b c d
@@ -139,13 +139,13 @@ module _ (third second : List ℕ) (p : length third ≡ 16) (q : length second 
   short_high : (a b c d : ℕ) → a < 0xF0 → b < 0xF0 → high_half b c d ≡ unit_high a b c d
   short_high a b c d la lb = grind (arith, common_steps)
 
-  pub short_lows : longest_mask ≡ 0 → (first here : List ℕ) → {low : List ℕ} → AreLanes low (lane_of_two low_half first here) → AreLanes low (lane_of_three unit_low second first here)
+  pub short_lows : longest_mask ≡ 0 → (first here : List ℕ) → {low : List ℕ} → AreLanes 16 low (lane_of_two low_half first here) → AreLanes 16 low (lane_of_three unit_low second first here)
   short_lows none first here lows = record {
     wide = lows.wide;
     each = λ k lt. lows.each k lt ∙ short_low (get_or second k 0) (get_or first k 0) (get_or here k 0) (short_here none k lt).1;
   }
 
-  pub short_highs : longest_mask ≡ 0 → (first here : List ℕ) → {high : List ℕ} → AreLanes high (lane_of_three high_half second first here) → AreLanes high (lane_of_four unit_high third second first here)
+  pub short_highs : longest_mask ≡ 0 → (first here : List ℕ) → {high : List ℕ} → AreLanes 16 high (lane_of_three high_half second first here) → AreLanes 16 high (lane_of_four unit_high third second first here)
   short_highs none first here highs = record {
     wide = highs.wide;
     each = λ k lt.
@@ -167,14 +167,14 @@ module _ {third second first here xs : List ℕ} {place : ℕ} (loaded : AreLoad
   here_at : (k : ℕ) → k < 16 → get_or here k 0 ≡ get_or xs (place + k) 0
   here_at k lt = ap (λ v. get_or v k 0) loaded.here ∙ get_or-chunk place 16 xs k 0 lt
 
-  pub loaded_bits : (mask s : ℕ) → AreBits mask (λ k. ends_unit (get_or first k 0) (get_or here k 0) && leb s k)
-      → AreBits mask (λ k. ends_unit (get_or xs (place - 1 + k) 0) (get_or xs (place + k) 0) && leb s k)
+  pub loaded_bits : (mask s : ℕ) → AreBits 16 mask (λ k. ends_unit (get_or first k 0) (get_or here k 0) && leb s k)
+      → AreBits 16 mask (λ k. ends_unit (get_or xs (place - 1 + k) 0) (get_or xs (place + k) 0) && leb s k)
   loaded_bits mask s bits k lt = rw (first_at k lt, here_at k lt) at (bits k lt)
 
-  pub loaded_lows : {low : List ℕ} → AreLanes low (lane_of_three unit_low second first here) → AreLanes low (unit_low_at xs place)
+  pub loaded_lows : {low : List ℕ} → AreLanes 16 low (lane_of_three unit_low second first here) → AreLanes 16 low (unit_low_at xs place)
   loaded_lows lows = record { wide = lows.wide; each = λ k lt. rw (second_at k lt, first_at k lt, here_at k lt) at (lows.each k lt) }
 
-  pub loaded_highs : {high : List ℕ} → AreLanes high (lane_of_four unit_high third second first here) → AreLanes high (unit_high_at xs place)
+  pub loaded_highs : {high : List ℕ} → AreLanes 16 high (lane_of_four unit_high third second first here) → AreLanes 16 high (unit_high_at xs place)
   loaded_highs highs = record { wide = highs.wide; each = λ k lt. rw (third_at k lt, second_at k lt, first_at k lt, here_at k lt) at (highs.each k lt) }
 
 -- Vectors before sixteen bytes that NULs stand before have what would be loaded there.

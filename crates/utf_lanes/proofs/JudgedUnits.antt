@@ -10,7 +10,7 @@ use Rattle.std.proofs.lemmas.Nat.Bits.{bit_at-lt, bit_at-suc, bit_at_lowest, bit
 use Rattle.std.specs.Int.{bit_at}
 use Rattle.utf_base.specs.Units.{is_leading_surrogate, is_trailing_surrogate, is_surrogate}
 use Rattle.utf_lanes.specs.Utf8ToUtf16.{concat_range}
-use Rattle.utf_lanes.specs.UnitCodes.{lane_unit, unit_code, code_at, AreText, lane_bytes, slot_at, first_byte, middle_byte, last_byte, lead_byte, second_byte, first_in_text, middle_in_text, last_in_text, nonzero_lead, lanes_at, Writes, WritesUnitsOf}
+use Rattle.utf_lanes.specs.UnitCodes.{lane_unit, unit_code, code_at, AreText, lane_bytes, slot_at, first_byte, middle_byte, last_byte, lead_byte, second_byte, first_in_text, middle_in_text, last_in_text, nonzero_lead, lanes_at, Writes, WritesUnits}
 use Rattle.utf_lanes.proofs.Joined.{joined_add, joined_same, joined_moved, joined_1}
 use Rattle.utf_lanes.proofs.UnitBytes.{not_both, ascii_code, leading_code}
 use Rattle.utf_lanes.proofs.UnitSlots.{leading_is, surrogate_is}
@@ -167,7 +167,7 @@ module _ (n m : ℕ) (one : n ≡ m + 1) (u : ℕ → ℕ) (old new : List ℕ) 
 
 -- bytes of all units, written into room
 pub WritesUnits-all : {n : ℕ} {low high old new bytes : List ℕ} {at end : ℕ} → AreText (lane_unit low high) n → Writes old new at end bytes
-    → bytes ≡ concat_range (code_at (lane_unit low high)) 0 n → end ≤ at + 3 * n → WritesUnitsOf n low high old new at n end
+    → bytes ≡ concat_range (code_at (lane_unit low high)) 0 n → end ≤ at + 3 * n → WritesUnits n low high old new at n end
 WritesUnits-all {old = old} {at = at} text written codes fits = record {
   most = omega arith;
   text = text;

@@ -1,17 +1,19 @@
 -- The lanes of a vector, as many as it has, and what they say of the bytes that were loaded.
-use Rattle.std.proofs.Common.{◌≡◌, ◌↔◌, ℕ, ◌+◌, ◌-◌, ◌/◌, ◌%◌, ◌^◌, ◌<◌, ◌≤◌, Bool, true, false, not, cond, eqb, leb, ltb, List, [], ◌∷◌, suc, map, length, get_or, replicate, bit_and, bit_or, bit_xor, refl, sym, ap, ap₂, ◌∙◌, subst, true≢false, inl, inr, arith, lit<, w8, Fits, eqb-true, eq-eqb, leb-false, ltb-true, ltb-false}
+use Rattle.std.proofs.Common.{◌≡◌, ◌↔◌, ℕ, ◌+◌, ◌-◌, ◌/◌, ◌%◌, ◌^◌, ◌<◌, ◌≤◌, Bool, true, false, not, cond, eqb, leb, ltb, List, map, length, get_or, replicate, bit_and, bit_or, bit_xor, refl, sym, ap, ap₂, ◌∙◌, subst, true≢false, inl, inr, arith, lit<, w8, Fits, eqb-true, eq-eqb, leb-false, ltb-true, ltb-false}
 use Rattle.std.proofs.lemmas.Bool.{cases_lt, lt-leb}
 use Rattle.std.proofs.lemmas.List.Sums.{prefix_len_passes, prefix_len_stops, prefix_len-le-length}
 use Rattle.std.proofs.lemmas.Nat.{and_le_r, le_or_l, le_or_r, or_lt}
 use Rattle.std.proofs.lemmas.Nat.Bits.{and_pow, bit_at_or}
-use Rattle.std.proofs.lemmas.Simd.{Each1-get_or, length-zip2, get_or-zip2, get_or-replicate, get_or-chunk, length-chunk, length-sel_l, get_or-sel_l, tops_compared, bitmask_splat, zip2_splat, zip2_splat_left, leading_from_mask_l, trailing_mask_l, length-replicate}
+use Rattle.std.proofs.lemmas.Simd.{Each1-get_or, length-zip2, get_or-zip2, get_or-replicate, get_or-chunk, length-chunk, zip2_splat, zip2_splat_left, trailing_mask_l, length-replicate}
 use Rattle.std.specs.List.{prefix_len}
 use lib.Count.{count_trailing_zeros}
-use lib.Lanes.{zip2, sel_l, mask_l, top, Each1, chunk}
+use Rattle.std.specs.Int.{bit_at}
+use lib.Lanes.{zip2, mask_l, top, Each1, chunk}
 use Rattle.utf_lanes.specs.AsciiTexts.{AreAscii}
-use Rattle.utf_lanes.specs.LookUps.{AreLookedUp}
+use Rattle.utf_lanes.specs.Lanes.{AreLookedUp}
 use Rattle.utf_lanes.specs.TextBlocks.{Follows, AllMayFollow, ArePairsLeft, IsPair, ZeroLanesFollow}
 use Rattle.utf_lanes.proofs.PairTables.{AreRight, tables_judge}
+use Rattle.utf_lanes.proofs.PassedLanes.{where_passed, where_passed_len, where_passed_at, passed_mask, mask_is, passed_most, passed_bits, none_passes, passes_none}
 
 -- as many bytes as a vector has lanes
 abbrev pub IsVector : ℕ → List ℕ → Type 0
@@ -75,39 +77,25 @@ module _ {n : ℕ} (high low here : List ℕ) {by_high by_low by_here : List ℕ
 abbrev less : ℕ → ℕ → ℕ
 less a b = (a + (2 ^ 8 - b)) % 2 ^ 8
 
-abbrev below_mask : ℕ → ℕ → ℕ
-below_mask a b = cond (ltb a b) 255 0
-
 abbrev pub excess : ℕ → List ℕ → ℕ → List ℕ
-excess n xs y = zip2 less (sel_l (map (top 7) (zip2 below_mask xs (replicate n y))) (replicate n y) xs) (replicate n y)
+excess n xs y = zip2 less (where_passed n ltb xs y (replicate n y) xs) (replicate n y)
 
 one_excess : (a b : ℕ) (t : Bool) → ltb a b ≡ t → a < 256 → b < 256 → less (cond t b a) b ≡ a - b
 one_excess a b true e A B = omega (arith, ltb-true a b e)
 one_excess a b false e A B = omega (arith, ltb-false a b e)
 
 module _ {n : ℕ} (xs : List ℕ) (y : ℕ) (fits : IsVector n xs) (Y : y < 256) where
-  splat_len : length (replicate n y) ≡ n
-  splat_len = length-replicate n y
-
-  tests_len : length (zip2 ltb xs (replicate n y)) ≡ n
-  tests_len = length-zip2 ltb xs (replicate n y) (fits.0 ∙ sym splat_len) ∙ fits.0
-
-  greater_len : length (sel_l (zip2 ltb xs (replicate n y)) (replicate n y) xs) ≡ n
-  greater_len = length-sel_l (zip2 ltb xs (replicate n y)) (replicate n y) xs (tests_len ∙ sym splat_len) (tests_len ∙ sym fits.0) ∙ tests_len
+  greater_len : length (where_passed n ltb xs y (replicate n y) xs) ≡ n
+  greater_len = where_passed_len n ltb xs y (replicate n y) xs fits.0 (length-replicate n y) fits.0
 
   pub excess_len : length (excess n xs y) ≡ n
-  excess_len = rw (tops_compared w8 ltb xs (replicate n y)) (wide_with less (sel_l (zip2 ltb xs (replicate n y)) (replicate n y) xs) y greater_len)
+  excess_len = wide_with less (where_passed n ltb xs y (replicate n y) xs) y greater_len
 
   pub excess_at : (k : ℕ) → k < n → get_or (excess n xs y) k 0 ≡ get_or xs k 0 - y
   excess_at k lt =
-      let tests = zip2 ltb xs (replicate n y) in
-      let test : get_or tests k false ≡ ltb (get_or xs k 0) y
-      = get_or-zip2 ltb xs (replicate n y) k 0 0 false (omega (arith, fits.0)) (omega (arith, splat_len)) ∙ ap (ltb (get_or xs k 0)) (get_or-replicate n k y 0 lt) in
       rw (
-        tops_compared w8 ltb xs (replicate n y),
-        lane_with less (sel_l tests (replicate n y) xs) y greater_len k lt,
-        get_or-sel_l tests (replicate n y) xs k 0 (omega (arith, tests_len)) (omega (arith, splat_len)) (omega (arith, fits.0)),
-        test,
+        lane_with less (where_passed n ltb xs y (replicate n y) xs) y greater_len k lt,
+        where_passed_at n ltb xs y (replicate n y) xs fits.0 (length-replicate n y) fits.0 k lt,
         get_or-replicate {A = ℕ} n k y 0 lt,
       )
       (one_excess (get_or xs k 0) y (ltb (get_or xs k 0) y) refl (lane_fits xs k fits lt) Y)
@@ -214,33 +202,29 @@ not_not : (b : Bool) → not (not b) ≡ true → b ≡ true
 not_not true e = refl
 not_not false e = e
 
--- where no lane passes a test, no bit is set
-pub mask_none : (p : ℕ → Bool) (v : List ℕ) → ((k : ℕ) → k < length v → p (get_or v k 0) ≡ false) → mask_l (map p v) ≡ 0
-mask_none p [] none = refl
-mask_none p (x ∷ v) none = rw (none 0 (omega arith), mask_none p v (λ k lt. none (suc k) (omega arith))) refl
-
 -- before the first lane that is not 0, each is
-pub zero_before : (v : List ℕ) (k : ℕ) → k < prefix_len (λ x. not (not (eqb x 0))) v → get_or v k 0 ≡ 0
+zero_before : (v : List ℕ) (k : ℕ) → k < prefix_len (λ x. not (not (eqb x 0))) v → get_or v k 0 ≡ 0
 zero_before v k lt = eqb-true (get_or v k 0) 0 (not_not _ (prefix_len_passes (λ x. not (not (eqb x 0))) v k 0 lt))
 
+abbrev differs : ℕ → ℕ → Bool
+differs a b = not (eqb a b)
+
+pub no_difference : (a : ℕ) → differs a 0 ≡ false → a ≡ 0
+no_difference a e = eqb-true a 0 (not_not _ (ap not e))
+
 abbrev pub differ_mask : ℕ → List ℕ → ℕ
-differ_mask n v = mask_l (map (top 7) (zip2 (λ a b. cond (not (eqb a b)) 255 0) v (replicate n 0))) % 2 ^ 64
+differ_mask n v = passed_mask n differs v 0
 
 module _ {n : ℕ} (v : List ℕ) (few : n ≤ 64) (long : length v ≡ n) where
-  differ_mask_is : differ_mask n v ≡ mask_l (map (λ x. not (eqb x 0)) v)
-  differ_mask_is = bitmask_splat w8 (λ a b. not (eqb a b)) v n 0 long few
-
   pub none_differs : differ_mask n v ≡ 0 → (k : ℕ) → k < n → get_or v k 0 ≡ 0
-  none_differs none k lt =
-      let all = leading_from_mask_l (λ x. not (eqb x 0)) v (sym differ_mask_is ∙ none) in
-      zero_before v k (omega (arith, all, long))
+  none_differs none k lt = no_difference (get_or v k 0) (none_passes few differs v 0 long none k lt)
 
   pub all_same : ((k : ℕ) → k < n → get_or v k 0 ≡ 0) → differ_mask n v ≡ 0
-  all_same each = differ_mask_is ∙ mask_none (λ x. not (eqb x 0)) v (λ k lt. ap not (eq-eqb (get_or v k 0) 0 (each k (omega (arith, long)))))
+  all_same each = passes_none few differs v 0 long (λ k lt. ap not (eq-eqb (get_or v k 0) 0 (each k lt)))
 
   pub first_differs : (r : ℕ) → (differ_mask n v ≡ 0 → ⊥) → r ≡ count_trailing_zeros 64 (differ_mask n v) → (r ≤ n) × ((k : ℕ) → k < r → get_or v k 0 ≡ 0)
   first_differs r some e =
-      let mask = differ_mask_is in
+      let mask = mask_is few differs v 0 long in
       let first = trailing_mask_l (λ x. not (eqb x 0)) 64 v (omega (arith, long)) (omega (arith, mask)) in
       let at : r ≡ prefix_len (λ x. not (not (eqb x 0))) v = rw mask at e ∙ first in
       (omega (arith, at, prefix_len-le-length (λ x. not (not (eqb x 0))) v, long), λ k lt. zero_before v k (omega (arith, at)))
@@ -248,7 +232,7 @@ module _ {n : ℕ} (v : List ℕ) (few : n ≤ 64) (long : length v ≡ n) where
   -- and it is not 0
   pub differs_first : (r : ℕ) → (differ_mask n v ≡ 0 → ⊥) → r ≡ count_trailing_zeros 64 (differ_mask n v) → (r < n) × (get_or v r 0 ≡ 0 → ⊥)
   differs_first r some e =
-      let mask = differ_mask_is in
+      let mask = mask_is few differs v 0 long in
       let first = trailing_mask_l (λ x. not (eqb x 0)) 64 v (omega (arith, long)) (omega (arith, mask)) in
       let at : r ≡ prefix_len (λ x. not (not (eqb x 0))) v = rw mask at e ∙ first in
       let each = first_differs r some e in
@@ -266,27 +250,27 @@ at_most a b = cond (leb a b) 255 0
 abbrev pub reach_mask : ℕ → ℕ → List ℕ → ℕ
 reach_mask n y v = mask_l (map (top 7) (zip2 at_most (replicate n y) v)) % 2 ^ 64
 
-not_reached : (y x : ℕ) → not (leb y x) ≡ true → x < y
-not_reached y x e = leb-false y x (flip (leb y x) e)
-  where
-    flip : (b : Bool) → not b ≡ true → b ≡ false
-    flip true e = sym e
-    flip false e = refl
-
 module _ {n : ℕ} (y : ℕ) (v : List ℕ) (few : n ≤ 64) (long : length v ≡ n) where
+  abbrev reaches : ℕ → ℕ → Bool
+  reaches a b = leb b a
+
+  turned : reach_mask n y v ≡ passed_mask n reaches v y
+  turned = ap (λ zs. mask_l (map (top 7) zs) % 2 ^ 64) (zip2_splat_left at_most y n v long ∙ sym (zip2_splat (λ a b. at_most b a) v n y long))
+
   pub reach_mask_is : reach_mask n y v ≡ mask_l (map (λ x. leb y x) v)
-  reach_mask_is =
-      let turned : zip2 at_most (replicate n y) v ≡ zip2 (λ a b. at_most b a) v (replicate n y)
-      = zip2_splat_left at_most y n v long ∙ sym (zip2_splat (λ a b. at_most b a) v n y long) in
-      rw turned (bitmask_splat w8 (λ a b. leb b a) v n y long few)
+  reach_mask_is = turned ∙ mask_is few reaches v y long
+
+  pub reach_most : reach_mask n y v < 2 ^ n
+  reach_most = rw turned (passed_most few reaches v y long)
+
+  pub reach_bits : (k : ℕ) → k < n → bit_at (reach_mask n y v) k ≡ cond (leb y (get_or v k 0)) 1 0
+  reach_bits k lt = rw turned (passed_bits few reaches v y long k lt)
 
   pub none_reach : reach_mask n y v ≡ 0 → (k : ℕ) → k < n → get_or v k 0 < y
-  none_reach none k lt =
-      let all : prefix_len (λ x. not (leb y x)) v ≡ length v = leading_from_mask_l (λ x. leb y x) v (sym reach_mask_is ∙ none) in
-      not_reached y (get_or v k 0) (prefix_len_passes (λ x. not (leb y x)) v k 0 (omega (arith, all, long)))
+  none_reach none k lt = leb-false y (get_or v k 0) (none_passes few reaches v y long (sym turned ∙ none) k lt)
 
   pub reach_none : ((k : ℕ) → k < n → get_or v k 0 < y) → reach_mask n y v ≡ 0
-  reach_none low = reach_mask_is ∙ mask_none (λ x. leb y x) v (λ k lt. lt-leb y (get_or v k 0) (low k (omega (arith, long))))
+  reach_none low = turned ∙ passes_none few reaches v y long (λ k lt. lt-leb y (get_or v k 0) (low k lt))
 
 -- Some vectors at once: no lane of one is greater than that of all.
 

@@ -3,7 +3,7 @@ use Rattle.std.proofs.Common.{◌≡◌, ℕ, ◌+◌, ◌-◌, ◌*◌, ◌/◌
 use Rattle.std.proofs.lemmas.Bool.{cases_lt}
 use Rattle.std.proofs.lemmas.List.{get_or_append_left, get_or-append_right}
 use Rattle.std.proofs.lemmas.Simd.{Each1-from_get_or, swz_l, SwzOk, SwzOk-from_below, length-swz_l, get_or-swz_l_below}
-use Rattle.utf_lanes.specs.LookUps.{ArePlaces, AreLookedUp}
+use Rattle.utf_lanes.specs.Lanes.{ArePlaces, AreLookedUp}
 
 pub places_ok : (b n : ℕ) (places : List ℕ) → n ≡ b * 16 → length places ≡ n → ArePlaces n places → SwzOk w8 16 n 0 places
 places_ok b n places blocks long below = SwzOk-from_below w8 16 b n 0 places blocks (omega (arith, long)) (Each1-from_get_or (λ j. j < 16) places 0 (λ k lt. below k (omega (arith, long))))

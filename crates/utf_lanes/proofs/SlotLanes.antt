@@ -1,16 +1,14 @@
 -- Slots of bytes in two and in three vectors, and which of their bytes are kept.
-use Rattle.std.proofs.Common.{◌≡◌, ℕ, ◌+◌, ◌*◌, ◌/◌, ◌%◌, ◌^◌, ◌<◌, ◌≤◌, Bool, true, false, cond, eqb, leb, ltb, List, [], ◌∷◌, ◌++◌, map, length, get_or, take, drop, replicate, bit_and, refl, sym, ap, ap₂, ◌∙◌, arith}
+use Rattle.std.proofs.Common.{◌≡◌, ℕ, ◌+◌, ◌*◌, ◌/◌, ◌%◌, ◌^◌, ◌<◌, Bool, true, false, cond, eqb, leb, ltb, List, [], ◌∷◌, ◌++◌, length, get_or, take, drop, bit_and, refl, sym, ap, ap₂, ◌∙◌, arith}
 use Rattle.std.proofs.lemmas.Grind.{common_steps}
 use Rattle.std.proofs.lemmas.List.{get_or-take, get_or-drop}
 use Rattle.std.proofs.lemmas.Nat.{shr-shr}
-use Rattle.std.proofs.lemmas.Simd.{zip2_splat, zip2_splat_left}
 use Rattle.std.specs.Int.{bit_at}
-use lib.Lanes.{zip2, mask_l, top}
 use Rattle.utf_lanes.specs.Lanes.{ArePairs}
 use Rattle.utf_lanes.specs.UnitCodes.{nonzero_lead, lane_bytes, slot_at, slots_of, short_slots_of, marked, row_bytes, row_of, row_slots, lanes_at, lanes_of}
 use Rattle.utf_lanes.proofs.BlockUnits.{low_bit, high_bit}
 use Rattle.utf_lanes.proofs.Joined.{joined_halves}
-use Rattle.utf_lanes.proofs.PassedLanes.{passed_mask, passed_most, passed_bits}
+use Rattle.utf_lanes.proofs.LaneLemmas.{reach_mask, reach_bits}
 
 -- What the first and the second of each pair of a vector are.
 abbrev HasBoth : List ℕ → (ℕ → ℕ) → (ℕ → ℕ) → Type 0
@@ -35,21 +33,6 @@ module _ (vs : List ℕ) (f g : ℕ → ℕ) (pairs : HasBoth vs f g) where
   pair_second k lt = ap (λ l. get_or l 1 0) (pairs k lt)
 
 -- A mask has the bits of the bytes that are kept.
-
-abbrev at_most : ℕ → ℕ → ℕ
-at_most a b = cond (leb a b) 255 0
-
-abbrev pub kept_mask : ℕ → List ℕ → ℕ
-kept_mask n v = mask_l (map (top 7) (zip2 at_most (replicate n 0x80) v)) % 2 ^ 64
-
-turned : {n : ℕ} (v : List ℕ) → length v ≡ n → kept_mask n v ≡ passed_mask n (λ a b. leb b a) v 0x80
-turned {n} v long = ap (λ zs. mask_l (map (top 7) zs) % 2 ^ 64) (zip2_splat_left at_most 0x80 n v long ∙ sym (zip2_splat (λ a b. at_most b a) v n 0x80 long))
-
-pub kept_most : {n : ℕ} (few : n ≤ 64) (v : List ℕ) → length v ≡ n → kept_mask n v < 2 ^ n
-kept_most few v long = rw (turned v long) (passed_most few (λ a b. leb b a) v 0x80 long)
-
-pub kept_bits : {n : ℕ} (few : n ≤ 64) (v : List ℕ) → length v ≡ n → (k : ℕ) → k < n → bit_at (kept_mask n v) k ≡ cond (leb 0x80 (get_or v k 0)) 1 0
-kept_bits few v long k lt = rw (turned v long) (passed_bits few (λ a b. leb b a) v 0x80 long k lt)
 
 -- bits of the byte of a mask that begins at one of its bits
 pub byte_bit : (m s k : ℕ) → k < 8 → bit_at (bit_and (m / 2 ^ s) 255) k ≡ bit_at m (s + k)
@@ -133,26 +116,26 @@ slot_halves firsts middles lasts =
 -- The rows of sixteen lanes, and of the halves of thirty-two.
 
 pub narrow_rows : (fronts lasts vs ws : List ℕ) → length fronts ≡ 16 → HasBoth vs (at_front fronts) (at_front lasts) → HasBoth ws (at_back fronts) (at_back lasts) → (short : Bool)
-    → row_of short (bit_and (kept_mask 16 fronts) 255) vs ++ row_of short (kept_mask 16 fronts / 256) ws ≡ lanes_of short fronts lasts
+    → row_of short (bit_and (reach_mask 16 0x80 fronts) 255) vs ++ row_of short (reach_mask 16 0x80 fronts / 256) ws ≡ lanes_of short fronts lasts
 narrow_rows fronts lasts vs ws long pairs more short =
-    rows_joined fronts lasts vs ws pairs more short _ _ (λ k lt. low_bit (kept_mask 16 fronts) k lt ∙ kept_bits (omega arith) fronts long k (omega arith))
-    (λ k lt. high_bit (kept_mask 16 fronts) k lt ∙ kept_bits (omega arith) fronts long (8 + k) (omega arith))
+    rows_joined fronts lasts vs ws pairs more short _ _ (λ k lt. low_bit (reach_mask 16 0x80 fronts) k lt ∙ reach_bits 0x80 fronts (omega arith) long k (omega arith))
+    (λ k lt. high_bit (reach_mask 16 0x80 fronts) k lt ∙ reach_bits 0x80 fronts (omega arith) long (8 + k) (omega arith))
 
 module _ (fronts lasts vs ws : List ℕ) (long : length fronts ≡ 32) (short : Bool) where
   abbrev mask : ℕ
-  mask = kept_mask 32 fronts
+  mask = reach_mask 32 0x80 fronts
 
   abbrev bit_of : ℕ → ℕ
   bit_of x = cond (leb 0x80 x) 1 0
 
   bit_from : (s k j : ℕ) → k < 8 → s + k ≡ j → j < 32 → bit_at (bit_and (mask / 2 ^ s) 255) k ≡ bit_of (get_or fronts j 0)
-  bit_from s k j lt at less = byte_bit mask s k lt ∙ ap (bit_at mask) at ∙ kept_bits (omega arith) fronts long j less
+  bit_from s k j lt at less = byte_bit mask s k lt ∙ ap (bit_at mask) at ∙ reach_bits 0x80 fronts (omega arith) long j less
 
   pub front_rows : HasBoth (take 16 vs) (at_front (take 16 fronts)) (at_front (take 16 lasts)) → HasBoth (take 16 ws) (at_back (take 16 fronts)) (at_back (take 16 lasts))
       → row_of short (bit_and mask 255) (take 16 vs) ++ row_of short (bit_and (mask / 2 ^ 8) 255) (take 16 ws) ≡ lanes_of short (take 16 fronts) (take 16 lasts)
   front_rows pairs more =
       rows_joined (take 16 fronts) (take 16 lasts) (take 16 vs) (take 16 ws) pairs more short _ _
-      (λ k lt. low_bit mask k lt ∙ kept_bits (omega arith) fronts long k (omega arith) ∙ ap bit_of (sym (get_or-take 16 fronts k 0 (omega arith))))
+      (λ k lt. low_bit mask k lt ∙ reach_bits 0x80 fronts (omega arith) long k (omega arith) ∙ ap bit_of (sym (get_or-take 16 fronts k 0 (omega arith))))
       (λ k lt. bit_from 8 k (8 + k) lt refl (omega arith) ∙ ap bit_of (sym (get_or-take 16 fronts (8 + k) 0 (omega arith))))
 
   pub back_rows : HasBoth (drop 16 vs) (at_front (drop 16 fronts)) (at_front (drop 16 lasts)) → HasBoth (drop 16 ws) (at_back (drop 16 fronts)) (at_back (drop 16 lasts))

@@ -1,16 +1,15 @@
 -- The lanes of a block of text, and the units that they give.
-use Rattle.std.proofs.Common.{◌≡◌, ℕ, ◌+◌, ◌-◌, ◌*◌, ◌/◌, ◌%◌, ◌^◌, ◌<◌, Bool, true, false, cond, leb, ltb, ◌&&◌, List, map, length, get_or, replicate, min, bit_and, refl, ap, ◌∙◌, arith, lit<, w8, leb-true, leb-false}
+use Rattle.std.proofs.Common.{◌≡◌, ℕ, ◌+◌, ◌-◌, ◌*◌, ◌/◌, ◌%◌, ◌^◌, ◌<◌, Bool, true, false, cond, leb, ltb, ◌&&◌, List, length, get_or, replicate, min, bit_and, refl, ap, ◌∙◌, arith, lit<, lit≤, leb-true, leb-false}
 use Rattle.std.proofs.lemmas.Nat.Bits.{bit_at_and, ones_shl, bit_at_mask_inside, bit_at_mask_below}
 use Rattle.std.proofs.lemmas.Nat.{and_le_l, and_mask}
-use Rattle.std.proofs.lemmas.Simd.{get_or-replicate, bitmask_splat, bit_mask_l, mask_l-lt}
+use Rattle.std.proofs.lemmas.Simd.{get_or-replicate}
 use Rattle.std.proofs.lemmas.Grind.{common_steps}
-use Rattle.std.proofs.lemmas.List.{get_or-map, length-map}
 use Rattle.std.specs.Int.{bit_at}
-use lib.Lanes.{zip2, mask_l, top}
+use lib.Lanes.{zip2}
 use Rattle.utf_lanes.specs.Lanes.{AreBits, AreLanes, lane_of_two, lane_of_three, lane_of_four}
 use Rattle.utf_lanes.specs.Utf8ToUtf16.{ends_unit, low_half, high_half, unit_low, unit_high, leading_low, leading_high, trailing_high, continued_byte}
 use Rattle.utf_lanes.proofs.LaneLemmas.{IsVector, wide, wide_with, lane, lane_with, excess, excess_len, excess_at}
-use Rattle.utf_lanes.proofs.ChosenLanes.{where_below, where_below_len, where_below_at}
+use Rattle.utf_lanes.proofs.PassedLanes.{chosen, chosen_len, chosen_at, passed_mask, passed_most, passed_bits}
 
 -- Which lanes give a unit.
 
@@ -19,41 +18,32 @@ greater_below c d true t u e f g = grind (arith, common_steps)
 greater_below c d false t u e f g = grind (arith, common_steps)
 
 abbrev later : List ℕ → List ℕ → List ℕ
-later before here = where_below (excess 16 before 0x20) here here (excess 16 before 0x20)
+later before here = chosen ltb (excess 16 before 0x20) here here (excess 16 before 0x20)
 
 abbrev giving_mask : List ℕ → List ℕ → ℕ
-giving_mask before here = mask_l (map (top 7) (zip2 (λ a b. cond (ltb a b) 255 0) (later before here) (replicate 16 0xC0))) % 2 ^ 64
+giving_mask before here = passed_mask 16 ltb (later before here) 0xC0
 
 module _ (before here : List ℕ) (p : IsVector 16 before) (q : IsVector 16 here) where
   less_len : length (excess 16 before 0x20) ≡ 16
   less_len = excess_len before 0x20 p (lit< tt)
 
   later_len : length (later before here) ≡ 16
-  later_len = where_below_len (excess 16 before 0x20) here here (excess 16 before 0x20) less_len q.0 q.0 less_len
-
-  mask_is : giving_mask before here ≡ mask_l (map (λ x. ltb x 0xC0) (later before here))
-  mask_is = bitmask_splat w8 ltb (later before here) 16 0xC0 later_len (lit< tt)
+  later_len = chosen_len ltb (excess 16 before 0x20) here here (excess 16 before 0x20) less_len q.0 q.0 less_len
 
   lane_gives : (k : ℕ) → k < 16 → ltb (get_or (later before here) k 0) 0xC0 ≡ ends_unit (get_or before k 0) (get_or here k 0)
   lane_gives k lt =
-      rw (where_below_at (excess 16 before 0x20) here here (excess 16 before 0x20) less_len q.0 q.0 less_len k lt, excess_at before 0x20 p (lit< tt) k lt)
+      rw (chosen_at ltb (excess 16 before 0x20) here here (excess 16 before 0x20) less_len q.0 q.0 less_len k lt, excess_at before 0x20 p (lit< tt) k lt)
       (greater_below (get_or before k 0) (get_or here k 0) _ _ _ refl refl refl)
 
   mask_bit : (k : ℕ) → k < 16 → bit_at (giving_mask before here) k ≡ cond (ends_unit (get_or before k 0) (get_or here k 0)) 1 0
-  mask_bit k lt =
-      let bit = bit_mask_l (map (λ x. ltb x 0xC0) (later before here)) k in
-      let test : get_or (map (λ x. ltb x 0xC0) (later before here)) k false ≡ ends_unit (get_or before k 0) (get_or here k 0)
-      = get_or-map (λ x. ltb x 0xC0) (later before here) k 0 false (omega (arith, later_len)) ∙ lane_gives k lt in
-      rw mask_is (bit ∙ ap (λ (b : Bool). cond {A = ℕ} b 1 0) test)
+  mask_bit k lt = passed_bits (lit≤ tt) ltb (later before here) 0xC0 later_len k lt ∙ ap (λ (b : Bool). cond {A = ℕ} b 1 0) (lane_gives k lt)
 
   pub giving_most : (s : ℕ) → bit_and (giving_mask before here) ((2 ^ 64 - 1) * 2 ^ s % 2 ^ 64) < 65536
   giving_most s =
-      let most = mask_l-lt (map (λ x. ltb x 0xC0) (later before here)) in
-      let long : length (map (λ x. ltb x 0xC0) (later before here)) ≡ 16 = length-map (later before here) (λ x. ltb x 0xC0) ∙ later_len in
-      let below : mask_l (map (λ x. ltb x 0xC0) (later before here)) < 2 ^ 16 = rw long at most in
-      omega (arith, mask_is, and_le_l (giving_mask before here) ((2 ^ 64 - 1) * 2 ^ s % 2 ^ 64))
+      let most : giving_mask before here < 65536 = passed_most (lit≤ tt) ltb (later before here) 0xC0 later_len in
+      omega (arith, and_le_l (giving_mask before here) ((2 ^ 64 - 1) * 2 ^ s % 2 ^ 64))
 
-  pub giving_bits : (s : ℕ) → s < 16 → AreBits (bit_and (giving_mask before here) ((2 ^ 64 - 1) * 2 ^ s % 2 ^ 64)) (λ k. ends_unit (get_or before k 0) (get_or here k 0) && leb s k)
+  pub giving_bits : (s : ℕ) → s < 16 → AreBits 16 (bit_and (giving_mask before here) ((2 ^ 64 - 1) * 2 ^ s % 2 ^ 64)) (λ k. ends_unit (get_or before k 0) (get_or here k 0) && leb s k)
   giving_bits s few k lt =
       rw (bit_at_and (giving_mask before here) ((2 ^ 64 - 1) * 2 ^ s % 2 ^ 64) k, ones_shl 64 s (omega arith), mask_bit k lt)
       (both (ends_unit (get_or before k 0) (get_or here k 0)) (leb s k) refl)
@@ -76,7 +66,7 @@ abbrev pub down : ℕ → ℕ → ℕ
 down a b = a / 2 ^ b
 
 abbrev continues : List ℕ → List ℕ → List ℕ
-continues first here = where_below here (replicate 16 0x80) (replicate 16 0) first
+continues first here = chosen ltb here (replicate 16 0x80) (replicate 16 0) first
 
 abbrev pub lows : List ℕ → List ℕ → List ℕ
 lows first here = zip2 added (zip2 bit_and here (replicate 16 0x7F)) (zip2 up (continues first here) (replicate 16 6))
@@ -86,11 +76,11 @@ highs second first here = zip2 added (zip2 bit_and (zip2 down (continues first h
 
 module _ (first here : List ℕ) (q : IsVector 16 first) (r : IsVector 16 here) where
   continues_len : length (continues first here) ≡ 16
-  continues_len = where_below_len here (replicate 16 0x80) (replicate 16 0) first r.0 refl refl q.0
+  continues_len = chosen_len ltb here (replicate 16 0x80) (replicate 16 0) first r.0 refl refl q.0
 
   continues_at : (k : ℕ) → k < 16 → get_or (continues first here) k 0 ≡ continued_byte (get_or first k 0) (get_or here k 0)
   continues_at k lt =
-      rw (where_below_at here (replicate 16 0x80) (replicate 16 0) first r.0 refl refl q.0 k lt, get_or-replicate {A = ℕ} 16 k 0x80 0 lt, get_or-replicate {A = ℕ} 16 k 0 0 lt) refl
+      rw (chosen_at ltb here (replicate 16 0x80) (replicate 16 0) first r.0 refl refl q.0 k lt, get_or-replicate {A = ℕ} 16 k 0x80 0 lt, get_or-replicate {A = ℕ} 16 k 0 0 lt) refl
 
   pub lows_len : length (lows first here) ≡ 16
   lows_len = wide added _ _ (wide_with bit_and here 0x7F r.0) (wide_with up (continues first here) 6 continues_len)
@@ -133,7 +123,7 @@ abbrev leading_lows : List ℕ → List ℕ → List ℕ
 leading_lows first here = zip2 added (zip2 added (zip2 up (zip2 bit_and first (replicate 16 0x3F)) (replicate 16 2)) (zip2 down (zip2 bit_and here (replicate 16 0x3F)) (replicate 16 4))) (replicate 16 0xC0)
 
 abbrev carried : List ℕ → List ℕ → List ℕ
-carried first here = where_below (leading_lows first here) (replicate 16 0xC0) (replicate 16 0xD8) (replicate 16 0xD7)
+carried first here = chosen ltb (leading_lows first here) (replicate 16 0xC0) (replicate 16 0xD8) (replicate 16 0xD7)
 
 abbrev leading_highs : List ℕ → List ℕ → List ℕ → List ℕ
 leading_highs second first here = zip2 added (zip2 bit_and second (replicate 16 7)) (carried first here)
@@ -179,7 +169,7 @@ module _ (first here : List ℕ) (q : length first ≡ 16) (r : length here ≡ 
       (sum_is (get_or first k 0) (get_or here k 0))
 
   carried_len : length (carried first here) ≡ 16
-  carried_len = where_below_len (leading_lows first here) (replicate 16 0xC0) (replicate 16 0xD8) (replicate 16 0xD7) leading_lows_len refl refl refl
+  carried_len = chosen_len ltb (leading_lows first here) (replicate 16 0xC0) (replicate 16 0xD8) (replicate 16 0xD7) leading_lows_len refl refl refl
 
   pub leading_highs_len : (second : List ℕ) → length second ≡ 16 → length (leading_highs second first here) ≡ 16
   leading_highs_len second p = wide added _ _ (wide_with bit_and second 7 p) carried_len
@@ -190,7 +180,7 @@ module _ (first here : List ℕ) (q : length first ≡ 16) (r : length here ≡ 
       rw (
         lane added (zip2 bit_and second (replicate 16 7)) (carried first here) (wide_with bit_and second 7 p) carried_len k lt,
         lane_with bit_and second 7 p k lt,
-        where_below_at (leading_lows first here) (replicate 16 0xC0) (replicate 16 0xD8) (replicate 16 0xD7) leading_lows_len refl refl refl k lt,
+        chosen_at ltb (leading_lows first here) (replicate 16 0xC0) (replicate 16 0xD8) (replicate 16 0xD7) leading_lows_len refl refl refl k lt,
         leading_lows_at k lt,
         get_or-replicate {A = ℕ} 16 k 0xC0 0 lt,
         get_or-replicate {A = ℕ} 16 k 0xD8 0 lt,
@@ -214,34 +204,34 @@ trailing_at first q k lt =
 
 -- Where some units may be surrogates.
 module _ (third second first here : List ℕ) (t : length third ≡ 16) (u : length second ≡ 16) {low high leading_l leading_h trailing : List ℕ}
-    (l : AreLanes low (lane_of_two low_half first here)) (h : AreLanes high (lane_of_three high_half second first here)) (ll : AreLanes leading_l (lane_of_two leading_low first here))
-    (lh : AreLanes leading_h (lane_of_three leading_high second first here)) (tr : AreLanes trailing (λ k. trailing_high (get_or first k 0))) where
+    (l : AreLanes 16 low (lane_of_two low_half first here)) (h : AreLanes 16 high (lane_of_three high_half second first here)) (ll : AreLanes 16 leading_l (lane_of_two leading_low first here))
+    (lh : AreLanes 16 leading_h (lane_of_three leading_high second first here)) (tr : AreLanes 16 trailing (λ k. trailing_high (get_or first k 0))) where
   abbrev chosen_lows : List ℕ
-  chosen_lows = where_below second (replicate 16 0xF0) low leading_l
+  chosen_lows = chosen ltb second (replicate 16 0xF0) low leading_l
 
   abbrev shorter : List ℕ
-  shorter = where_below third (replicate 16 0xF0) high trailing
+  shorter = chosen ltb third (replicate 16 0xF0) high trailing
 
   abbrev chosen_highs : List ℕ
-  chosen_highs = where_below second (replicate 16 0xF0) shorter leading_h
+  chosen_highs = chosen ltb second (replicate 16 0xF0) shorter leading_h
 
   shorter_len : length shorter ≡ 16
-  shorter_len = where_below_len third (replicate 16 0xF0) high trailing t refl h.wide tr.wide
+  shorter_len = chosen_len ltb third (replicate 16 0xF0) high trailing t refl h.wide tr.wide
 
-  pub chosen_lows_are : AreLanes chosen_lows (lane_of_three unit_low second first here)
+  pub chosen_lows_are : AreLanes 16 chosen_lows (lane_of_three unit_low second first here)
   chosen_lows_are = record {
-    wide = where_below_len second (replicate 16 0xF0) low leading_l u refl l.wide ll.wide;
+    wide = chosen_len ltb second (replicate 16 0xF0) low leading_l u refl l.wide ll.wide;
     each = λ k lt.
-        rw (where_below_at second (replicate 16 0xF0) low leading_l u refl l.wide ll.wide k lt, get_or-replicate {A = ℕ} 16 k 0xF0 0 lt, l.each k lt, ll.each k lt) refl;
+        rw (chosen_at ltb second (replicate 16 0xF0) low leading_l u refl l.wide ll.wide k lt, get_or-replicate {A = ℕ} 16 k 0xF0 0 lt, l.each k lt, ll.each k lt) refl;
   }
 
-  pub chosen_highs_are : AreLanes chosen_highs (lane_of_four unit_high third second first here)
+  pub chosen_highs_are : AreLanes 16 chosen_highs (lane_of_four unit_high third second first here)
   chosen_highs_are = record {
-    wide = where_below_len second (replicate 16 0xF0) shorter leading_h u refl shorter_len lh.wide;
+    wide = chosen_len ltb second (replicate 16 0xF0) shorter leading_h u refl shorter_len lh.wide;
     each = λ k lt.
         rw (
-          where_below_at second (replicate 16 0xF0) shorter leading_h u refl shorter_len lh.wide k lt,
-          where_below_at third (replicate 16 0xF0) high trailing t refl h.wide tr.wide k lt,
+          chosen_at ltb second (replicate 16 0xF0) shorter leading_h u refl shorter_len lh.wide k lt,
+          chosen_at ltb third (replicate 16 0xF0) high trailing t refl h.wide tr.wide k lt,
           get_or-replicate {A = ℕ} 16 k 0xF0 0 lt,
           h.each k lt,
           lh.each k lt,

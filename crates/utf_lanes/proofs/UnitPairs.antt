@@ -1,15 +1,15 @@
 -- Units that pair with the one before them: what lanes say of them, and that they are codes.
-use Rattle.std.proofs.Common.{◌≡◌, ℕ, zero, suc, ◌+◌, ◌-◌, ◌*◌, ◌/◌, ◌<◌, ◌≤◌, Bool, true, false, cond, eqb, ◌∷◌, [], List, length, get_or, bit_and, bit_xor, refl, sym, ap, ◌∙◌, ◌%◌, inl, inr, arith, lit<, w8, Fits, eqb-true}
+use Rattle.std.proofs.Common.{◌≡◌, ℕ, zero, suc, ◌+◌, ◌-◌, ◌*◌, ◌/◌, ◌<◌, ◌≤◌, Bool, true, false, cond, eqb, ◌∷◌, [], List, length, get_or, bit_and, bit_or, bit_xor, refl, sym, ap, ap₂, ◌∙◌, ◌%◌, inl, inr, arith, lit<, w16, Fits, eqb-true}
 use Rattle.std.proofs.lemmas.Bool.{cases_lt}
 use Rattle.std.proofs.lemmas.Grind.{common_steps}
 use Rattle.std.proofs.lemmas.Nat.{and_le_r}
-use Rattle.std.proofs.lemmas.Simd.{get_or-chunk, length-chunk}
-use lib.Lanes.{zip2, chunk}
+use Rattle.std.proofs.lemmas.Simd.{get_or-chunk, below_from_Fits, chunk-fits, get_or_narrower}
+use lib.Lanes.{zip2, chunk, digits_l, number_l}
 use Rattle.utf_base.specs.Units.{is_leading_surrogate, is_trailing_surrogate}
-use Rattle.utf_lanes.specs.BytePairs.{unit_of, units_of, high_byte, low_byte, high_place}
+use Rattle.utf_lanes.specs.BytePairs.{unit_of, units_of, unit_number, high_byte, low_byte, high_place}
 use Rattle.utf_lanes.specs.Lanes.{AreLanes, ones_where}
-use Rattle.utf_lanes.specs.UnitBlocks.{AllPaired, ZerosPair}
-use Rattle.utf_lanes.proofs.LaneLemmas.{lane}
+use Rattle.utf_lanes.specs.UnitBlocks.{AllPaired, AreJudged, BlockIsJudged, JudgesPairs, ZerosPair}
+use Rattle.utf_lanes.proofs.LaneLemmas.{IsVector, lane_fits, wide, lane, differ_mask, all_zero, zero_both}
 use Rattle.utf_lanes.proofs.PairTables.{at_each}
 
 -- Units by their bytes.
@@ -50,66 +50,98 @@ place_below : (h : Bool) → high_place h < 2
 place_below true = lit< tt
 place_below false = lit< tt
 
--- The lanes of two loads, the second one unit before the first.
-module _ (high : Bool) (bytes : List ℕ) (fits : (k : ℕ) → Fits w8 (get_or bytes k 0)) where
-  leads_at : (h : Bool) (j m : ℕ) → m ≡ 2 * j + high_place h → 2 * j + 1 < length bytes → eqb (bit_and (get_or bytes m 0) 0xFC) 0xD8 ≡ is_leading_surrogate (get_or (units_of h bytes) j 0)
-  leads_at true j m at lt =
-      let first : m ≡ 2 * j = omega arith in
-      rw (first, unit_at true bytes j lt) (leads (get_or bytes (2 * j) 0) (get_or bytes (2 * j + 1) 0) (fits (2 * j)).fits (fits (2 * j + 1)).fits)
-  leads_at false j m at lt = rw (at, unit_at false bytes j lt) (leads (get_or bytes (2 * j + 1) 0) (get_or bytes (2 * j) 0) (fits (2 * j + 1)).fits (fits (2 * j)).fits)
+-- The lanes of eight units in one vector, each after that in another.
 
-  trails_at : (h : Bool) (j m : ℕ) → m ≡ 2 * j + high_place h → 2 * j + 1 < length bytes → eqb (bit_and (get_or bytes m 0) 0xFC) 0xDC ≡ is_trailing_surrogate (get_or (units_of h bytes) j 0)
-  trails_at true j m at lt =
-      let first : m ≡ 2 * j = omega arith in
-      rw (first, unit_at true bytes j lt) (trails (get_or bytes (2 * j) 0) (get_or bytes (2 * j + 1) 0) (fits (2 * j)).fits (fits (2 * j + 1)).fits)
-  trails_at false j m at lt = rw (at, unit_at false bytes j lt) (trails (get_or bytes (2 * j + 1) 0) (get_or bytes (2 * j) 0) (fits (2 * j + 1)).fits (fits (2 * j)).fits)
+unit_leads : (h : Bool) (v : List ℕ) → IsVector 16 v → (k : ℕ) → k < 8 → eqb (bit_and (high_byte h v k) 0xFC) 0xD8 ≡ is_leading_surrogate (unit_number h v k)
+unit_leads true v fits k lt = let at : 2 * k + 0 ≡ 2 * k = omega arith in rw at (leads (get_or v (2 * k) 0) (get_or v (2 * k + 1) 0) (lane_fits v (2 * k) fits (omega arith)) (lane_fits v (2 * k + 1) fits (omega arith)))
+unit_leads false v fits k lt = leads (get_or v (2 * k + 1) 0) (get_or v (2 * k) 0) (lane_fits v (2 * k + 1) fits (omega arith)) (lane_fits v (2 * k) fits (omega arith))
 
-  module _ (place : ℕ) (start : 1 ≤ place) (within : 2 * place + 16 ≤ length bytes) (bits : List ℕ) (long : length bits ≡ 16)
-      (upper_six : (k : ℕ) → k < 8 → high_byte high bits k ≡ 0xFC) where
-    abbrev here : List ℕ
-    here = zip2 bit_and (chunk (2 * place) 16 bytes) bits
+unit_trails : (h : Bool) (v : List ℕ) → IsVector 16 v → (k : ℕ) → k < 8 → eqb (bit_and (high_byte h v k) 0xFC) 0xDC ≡ is_trailing_surrogate (unit_number h v k)
+unit_trails true v fits k lt = let at : 2 * k + 0 ≡ 2 * k = omega arith in rw at (trails (get_or v (2 * k) 0) (get_or v (2 * k + 1) 0) (lane_fits v (2 * k) fits (omega arith)) (lane_fits v (2 * k + 1) fits (omega arith)))
+unit_trails false v fits k lt = trails (get_or v (2 * k + 1) 0) (get_or v (2 * k) 0) (lane_fits v (2 * k + 1) fits (omega arith)) (lane_fits v (2 * k) fits (omega arith))
 
-    abbrev before : List ℕ
-    before = zip2 bit_and (chunk (2 * place - 2) 16 bytes) bits
+module _ (high : Bool) (before here bits : List ℕ) (b : IsVector 16 before) (h : IsVector 16 here) (long : length bits ≡ 16) (upper_six : (k : ℕ) → k < 8 → high_byte high bits k ≡ 0xFC)
+    (none : (k : ℕ) → k < 8 → low_byte high bits k ≡ 0) where
+  masked : (v : List ℕ) → length v ≡ 16 → (k : ℕ) → k < 8 → high_byte high (zip2 bit_and v bits) k ≡ bit_and (high_byte high v k) 0xFC
+  masked v wide_v k lt =
+      let below = place_below high in
+      lane bit_and v bits wide_v long (2 * k + high_place high) (omega arith) ∙ ap (bit_and (high_byte high v k)) (upper_six k lt)
 
-    -- what the two lanes of a high byte leave
-    abbrev left : ℕ → ℕ
-    left j = bit_xor (cond (is_trailing_surrogate (get_or (units_of high bytes) (j + 1) 0)) 255 0) (cond (is_leading_surrogate (get_or (units_of high bytes) j 0)) 255 0)
+  module _ {xs ys : List ℕ} (x : AreLanes 16 xs (ones_where 255 (zip2 bit_and here bits) 0xDC)) (y : AreLanes 16 ys (ones_where 255 (zip2 bit_and before bits) 0xD8)) where
+    lane_leaves : (k : ℕ) → k < 8
+        → high_byte high (zip2 bit_xor xs ys) k ≡ bit_xor (cond (is_trailing_surrogate (unit_number high here k)) 255 0) (cond (is_leading_surrogate (unit_number high before k)) 255 0)
+    lane_leaves k lt =
+        let below = place_below high in
+        let i = 2 * k + high_place high in
+        let inside : i < 16 = omega arith in
+        rw (
+          lane bit_xor xs ys x.wide y.wide i inside,
+          x.each i inside,
+          y.each i inside,
+          masked here h.0 k lt,
+          masked before b.0 k lt,
+          unit_trails high here h k lt,
+          unit_leads high before b k lt,
+        ) refl
 
-    masked : (n i k : ℕ) → n + 16 ≤ length bytes → i ≡ 2 * k + high_place high → k < 8 → i < 16 → get_or (zip2 bit_and (chunk n 16 bytes) bits) i 0 ≡ bit_and (get_or bytes (n + i) 0) 0xFC
-    masked n i k room at lt inside =
-        rw (lane bit_and (chunk n 16 bytes) bits (length-chunk n 16 bytes room) long i inside, get_or-chunk n 16 bytes i 0 inside) (ap (bit_and (get_or bytes (n + i) 0)) (rw (sym at) at (upper_six k lt)))
+    low_lanes : (k : ℕ) → k < 8 → low_byte high (zip2 bit_xor xs ys) k ≡ 0
+    low_lanes k lt =
+        let i = 2 * k + (1 - high_place high) in
+        let inside : i < 16 = omega arith in
+        let nothing : (v : List ℕ) → length v ≡ 16 → get_or (zip2 bit_and v bits) i 0 ≡ 0
+        = λ v wide_v. let most = and_le_r (get_or v i 0) (get_or bits i 0) in omega (arith, lane bit_and v bits wide_v long i inside, most, none k lt) in
+        rw (lane bit_xor xs ys x.wide y.wide i inside, x.each i inside, y.each i inside, nothing here h.0, nothing before b.0) refl
 
-    module _ {xs ys : List ℕ} (x : AreLanes xs (ones_where 255 here 0xDC)) (y : AreLanes ys (ones_where 255 before 0xD8)) where
-      lane_leaves : (k j : ℕ) → k < 8 → place + k ≡ j + 1 → high_byte high (zip2 bit_xor xs ys) k ≡ left j
-      lane_leaves k j lt at =
-          let below = place_below high in
-          let i = 2 * k + high_place high in
-          let inside : i < 16 = omega arith in
-          rw (
-            lane bit_xor xs ys x.wide y.wide i inside,
-            x.each i inside,
-            y.each i inside,
-            masked (2 * place) i k (omega arith) refl lt inside,
-            masked (2 * place - 2) i k (omega arith) refl lt inside,
-            trails_at high (j + 1) (2 * place + i) (omega arith) (omega arith),
-            leads_at high j (2 * place - 2 + i) (omega arith) (omega arith),
-          ) refl
+    pub lanes_judged : JudgesPairs high before here (zip2 bit_xor xs ys)
+    lanes_judged = record {
+      wide = wide bit_xor xs ys x.wide y.wide;
+      lanes = λ k lt. (λ zero. agree _ _ (sym (lane_leaves k lt) ∙ zero), λ pair. lane_leaves k lt ∙ none_left _ _ pair);
+      others = low_lanes;
+    }
 
-      pub lanes_pair : ZerosPair (units_of high bytes) place (high_byte high (zip2 bit_xor xs ys))
-      lanes_pair k lt = (
-        λ none j least most. agree _ _ (sym (lane_leaves k j lt (omega arith)) ∙ none),
-        λ pair. lane_leaves k (place + k - 1) lt (omega arith) ∙ none_left _ _ (pair (place + k - 1) (omega arith) (omega arith)),
-      )
+-- The vectors have the units from a place on, and those from the one before it on.
+pub judged_from : {high : Bool} {before here v : List ℕ} (us : List ℕ) (place : ℕ) → 1 ≤ place → JudgesPairs high before here v
+    → ((k : ℕ) → k < 8 → unit_number high before k ≡ get_or us (place - 1 + k) 0) → ((k : ℕ) → k < 8 → unit_number high here k ≡ get_or us (place + k) 0) → AreJudged high us place v
+judged_from us place start judged b h = record {
+  wide = judged.wide;
+  lanes = λ k lt. (
+    λ zero m least most.
+        let at : place - 1 + k ≡ m = omega arith in
+        let next : place + k ≡ m + 1 = omega arith in
+        ap is_leading_surrogate (sym (b k lt ∙ ap (λ i. get_or us i 0) at)) ∙ (judged.lanes k lt).0 zero ∙ ap is_trailing_surrogate (h k lt ∙ ap (λ i. get_or us i 0) next),
+    λ pair.
+        let at : place - 1 + k ≡ place + k - 1 = omega arith in
+        let next : place + k ≡ place + k - 1 + 1 = omega arith in
+        (judged.lanes k lt).1
+        (ap is_leading_surrogate (b k lt ∙ ap (λ i. get_or us i 0) at) ∙ pair (place + k - 1) (omega arith) (omega arith) ∙ ap is_trailing_surrogate (sym (h k lt ∙ ap (λ i. get_or us i 0) next))),
+  );
+  others = judged.others;
+}
 
-      -- the lanes of low bytes are 0
-      pub low_lanes : ((k : ℕ) → k < 8 → low_byte high bits k ≡ 0) → (k : ℕ) → k < 8 → low_byte high (zip2 bit_xor xs ys) k ≡ 0
-      low_lanes none k lt =
-          let i = 2 * k + (1 - high_place high) in
-          let inside : i < 16 = omega arith in
-          let nothing : (n : ℕ) → n + 16 ≤ length bytes → get_or (zip2 bit_and (chunk n 16 bytes) bits) i 0 ≡ 0
-          = λ n room. let most = and_le_r (get_or (chunk n 16 bytes) i 0) (get_or bits i 0) in omega (arith, lane bit_and (chunk n 16 bytes) bits (length-chunk n 16 bytes room) long i inside, most, none k lt) in
-          rw (lane bit_xor xs ys x.wide y.wide i inside, x.each i inside, y.each i inside, nothing (2 * place) (omega arith), nothing (2 * place - 2) (omega arith)) refl
+-- as bytes
+pub bytes_loaded : (high : Bool) (bytes : List ℕ) (n place : ℕ) → n ≡ 2 * place → n + 16 ≤ length bytes → (k : ℕ) → k < 8 → unit_number high (chunk n 16 bytes) k ≡ get_or (units_of high bytes) (place + k) 0
+bytes_loaded high bytes n place at within k lt =
+    let first : n + 2 * k ≡ 2 * (place + k) = omega arith in
+    let second : n + (2 * k + 1) ≡ 2 * (place + k) + 1 = omega arith in
+    ap₂ (unit_of high) (get_or-chunk n 16 bytes (2 * k) 0 (omega arith) ∙ ap (λ i. get_or bytes i 0) first) (get_or-chunk n 16 bytes (2 * k + 1) 0 (omega arith) ∙ ap (λ i. get_or bytes i 0) second)
+    ∙ sym (unit_at high bytes (place + k) (omega arith))
+
+-- as units, whose low bytes stand first then
+pub units_loaded : (us : List ℕ) (n place : ℕ) → ((k : ℕ) → Fits w16 (get_or us k 0)) → n ≡ place → n + 8 ≤ length us → (k : ℕ) → k < 8
+    → unit_number false (digits_l 256 16 (number_l 65536 (chunk n 8 us))) k ≡ get_or us (place + k) 0
+units_loaded us n place fits at within k lt =
+    let v = chunk n 8 us in
+    let each = below_from_Fits w16 v (chunk-fits w16 n 8 us fits) in
+    let low : 2 * k + 0 ≡ 2 * k = omega arith in
+    let first = get_or_narrower 65536 2 256 16 v k 0 refl each (lit< tt) (omega arith) in
+    let second = get_or_narrower 65536 2 256 16 v k 1 refl each (lit< tt) (omega arith) in
+    let below = (fits (n + k)).fits in
+    let here : get_or v k 0 ≡ get_or us (n + k) 0 = get_or-chunk n 8 us k 0 lt in
+    let whole : get_or us (n + k) 0 / 256 % 256 * 256 + get_or us (n + k) 0 % 256 ≡ get_or us (n + k) 0 = omega arith in
+    let unit : get_or us (n + k) 0 ≡ get_or us (place + k) 0 = ap (λ m. get_or us (m + k) 0) at in
+    let one : get_or (digits_l 256 16 (number_l 65536 v)) (2 * k) 0 ≡ get_or us (n + k) 0 % 256 = ap (λ i. get_or (digits_l 256 16 (number_l 65536 v)) i 0) (sym low) ∙ first ∙ ap (λ m. m / 1 % 256) here ∙ omega arith in
+    let two : get_or (digits_l 256 16 (number_l 65536 v)) (2 * k + 1) 0 ≡ get_or us (n + k) 0 / 256 % 256 = second ∙ ap (λ m. m / 256 % 256) here in
+    ap₂ (λ a b. b * 256 + a) one two ∙ whole ∙ unit
 
 -- Units that pair, one part after another.
 
@@ -143,3 +175,34 @@ pair_first high us v i r n few some each none pairs = elim (cases_lt (r / 2) n) 
         ]
       ]
 ]
+
+-- Where the units pair, all lanes are 0.
+pairs_zero : {high : Bool} {us v : List ℕ} {i : ℕ} → AreJudged high us i v → AllPaired us i (i + 8) → (k : ℕ) → k < 16 → get_or v k 0 ≡ 0
+pairs_zero {high} {us} {v} {i} judged pairs k lt = elim (cases_lt 0 (get_or v k 0)) [
+  | inr none ↦ omega arith
+  | inl some ↦ (let least : 8 ≤ k / 2 = pair_first high us v i k 8 (omega arith) (λ zero. omega arith) judged.lanes judged.others pairs in absurd (omega arith))
+]
+
+-- Four vectors at once.
+module _ (high : Bool) (us : List ℕ) (i : ℕ) {v w x y : List ℕ} (block : BlockIsJudged high us i v w x y) where
+  pub block_pairs : differ_mask 16 (zip2 bit_or (zip2 bit_or v w) (zip2 bit_or x y)) ≡ 0 → AllPaired us i (i + 32)
+  block_pairs none =
+      let zero = all_zero v w x y (lit< tt) block.first.wide block.second.wide block.third.wide block.fourth.wide none in
+      let one = pair_before high us v i 16 (omega arith) (λ k lt. (zero k lt).0) block.first.lanes in
+      let two = pair_before high us w (i + 8) 16 (omega arith) (λ k lt. (zero k lt).1) block.second.lanes in
+      let three = pair_before high us x (i + 16) 16 (omega arith) (λ k lt. (zero k lt).2) block.third.lanes in
+      let four = pair_before high us y (i + 24) 16 (omega arith) (λ k lt. (zero k lt).3) block.fourth.lanes in
+      let at : i + 8 + 8 ≡ i + 16 = omega arith in
+      let end : i + 16 + 8 ≡ i + 24 = omega arith in
+      let last : i + 24 + 8 ≡ i + 32 = omega arith in
+      pair_on us i (i + 24) (i + 32) (pair_on us i (i + 16) (i + 24) (pair_on us i (i + 8) (i + 16) one (rw at at two)) (rw end at three)) (rw last at four)
+
+  pub pairs_block : AllPaired us i (i + 32) → differ_mask 16 (zip2 bit_or (zip2 bit_or v w) (zip2 bit_or x y)) ≡ 0
+  pairs_block pairs =
+      let part : (j : ℕ) → i ≤ j → j + 8 ≤ i + 32 → AllPaired us j (j + 8) = λ j from to m least most. pairs m (omega arith) (omega arith) in
+      let front = wide bit_or v w block.first.wide block.second.wide in
+      let back = wide bit_or x y block.third.wide block.fourth.wide in
+      zero_both (zip2 bit_or v w) (zip2 bit_or x y) (lit< tt) front back (λ k lt. (
+        lane bit_or v w block.first.wide block.second.wide k lt ∙ ap₂ bit_or (pairs_zero block.first (part i (omega arith) (omega arith)) k lt) (pairs_zero block.second (part (i + 8) (omega arith) (omega arith)) k lt),
+        lane bit_or x y block.third.wide block.fourth.wide k lt ∙ ap₂ bit_or (pairs_zero block.third (part (i + 16) (omega arith) (omega arith)) k lt) (pairs_zero block.fourth (part (i + 24) (omega arith) (omega arith)) k lt),
+      ))

@@ -1,5 +1,5 @@
 -- The lanes of units, and the bytes of UTF-8 that they give.
-use Rattle.std.proofs.Common.{◌≡◌, ℕ, ◌+◌, ◌*◌, ◌/◌, ◌%◌, ◌<◌, ◌≤◌, Bool, true, false, not, cond, eqb, ltb, List, length, get_or, replicate, bit_and, bit_or, refl, sym, ap, ap₂, ◌∙◌, arith, lit<, ◌-◌, [], ◌∷◌, ◌++◌, inl, inr, subst, eqb-true}
+use Rattle.std.proofs.Common.{◌≡◌, ℕ, ◌+◌, ◌*◌, ◌/◌, ◌%◌, ◌<◌, ◌≤◌, true, false, not, cond, eqb, ltb, List, length, get_or, replicate, bit_and, bit_or, refl, sym, ap, ap₂, ◌∙◌, arith, ◌-◌, ◌++◌, inl, inr}
 use Rattle.std.proofs.lemmas.Bool.{cases_lt}
 use Rattle.std.proofs.lemmas.Grind.{common_steps}
 use Rattle.std.proofs.lemmas.List.{get_or-take, get_or_append_left, get_or-append_right}
@@ -7,12 +7,12 @@ use Rattle.std.proofs.lemmas.Nat.{and_mask, le_or_l, le_or_r}
 use Rattle.std.proofs.lemmas.Simd.{get_or-replicate, get_or-chunk, length-chunk, length-replicate}
 use lib.Lanes.{zip2, chunk}
 use Rattle.utf_base.specs.Units.{is_leading_surrogate, is_surrogate}
-use Rattle.utf_lanes.specs.Lanes.{AreLanesOf}
+use Rattle.utf_lanes.specs.Lanes.{AreLanes}
 use Rattle.utf_lanes.specs.BytePairs.{unit_number}
 use Rattle.utf_lanes.specs.UnitCodes.{lane_unit, lane_after, first_byte, middle_byte, last_byte, lead_byte, second_byte, third_byte, first_in_text, middle_in_text, last_in_text}
-use Rattle.utf_lanes.proofs.BlockUnits.{below_8}
 use Rattle.utf_lanes.proofs.UnitLanes.{added, up, down}
-use Rattle.utf_lanes.proofs.LaneLemmas.{IsVector, lane_fits, wide, wide_with, lane, lane_with}
+use Rattle.utf_lanes.proofs.WideShuffles.{picked, picked_at}
+use Rattle.utf_lanes.proofs.LaneLemmas.{IsVector, lane_fits, wide, wide_with, lane, lane_with, no_difference}
 use Rattle.utf_lanes.proofs.PassedLanes.{where_passed, where_passed_len, where_passed_at, passed_mask, none_passes}
 
 -- Tests of all lanes, and of each.
@@ -20,18 +20,11 @@ use Rattle.utf_lanes.proofs.PassedLanes.{where_passed, where_passed_len, where_p
 ascii_unit : (l h either : ℕ) → h ≤ either → l / 128 ≤ either → either ≡ 0 → h * 256 + l < 0x80
 ascii_unit l h either a b e = omega arith
 
-zero_lane : (a : ℕ) → not (eqb a 0) ≡ false → a ≡ 0
-zero_lane a e = eqb-true a 0 (flip (eqb a 0) e)
-  where
-    flip : (b : Bool) → not b ≡ false → b ≡ true
-    flip true e = refl
-    flip false e = sym e
-
 pub all_ascii : {n : ℕ} (few : n ≤ 64) (low high : List ℕ) → length low ≡ n → length high ≡ n → passed_mask n (λ a b. not (eqb a b)) (zip2 bit_or high (zip2 down low (replicate n 7))) 0 ≡ 0
     → (k : ℕ) → k < n → lane_unit low high k < 0x80
 all_ascii {n} few low high p q none k lt =
     let both = zip2 bit_or high (zip2 down low (replicate n 7)) in
-    let zero = zero_lane (get_or both k 0) (none_passes few (λ a b. not (eqb a b)) both 0 (wide bit_or high _ q (wide_with down low 7 p)) none k lt) in
+    let zero = no_difference (get_or both k 0) (none_passes few (λ a b. not (eqb a b)) both 0 (wide bit_or high _ q (wide_with down low 7 p)) none k lt) in
     let at = lane bit_or high (zip2 down low (replicate n 7)) q (wide_with down low 7 p) k lt in
     let shifted : get_or (zip2 down low (replicate n 7)) k 0 ≡ get_or low k 0 / 128 = lane_with down low 7 p k lt in
     let or_zero : bit_or (get_or high k 0) (get_or low k 0 / 128) ≡ 0 = ap (bit_or (get_or high k 0)) (sym shifted) ∙ sym at ∙ zero in
@@ -40,7 +33,7 @@ all_ascii {n} few low high p q none k lt =
 pub all_short : {n : ℕ} (few : n ≤ 64) (high : List ℕ) → length high ≡ n → passed_mask n (λ a b. not (eqb a b)) (zip2 down high (replicate n 3)) 0 ≡ 0 → (k : ℕ) → k < n → get_or high k 0 < 8
 all_short {n} few high q none k lt =
     let eighths = zip2 down high (replicate n 3) in
-    let zero = zero_lane (get_or eighths k 0) (none_passes few (λ a b. not (eqb a b)) eighths 0 (wide_with down high 3 q) none k lt) in
+    let zero = no_difference (get_or eighths k 0) (none_passes few (λ a b. not (eqb a b)) eighths 0 (wide_with down high 3 q) none k lt) in
     let at = lane_with down high 3 q k lt in
     omega arith
 
@@ -113,7 +106,7 @@ module _ {n : ℕ} (high : List ℕ) (q : IsVector n high) where
       )
       (first_is (get_or high k 0) (lane_fits high k q lt))
 
-  pub firsts_are : AreLanesOf n firsts (λ k. first_byte (get_or high k 0 * 256))
+  pub firsts_are : AreLanes n firsts (λ k. first_byte (get_or high k 0 * 256))
   firsts_are = record { wide = where_passed_len n ltb high 8 (replicate n 0) longs q.0 (length-replicate n 0) longs_len; each = firsts_at }
 
 module _ {n : ℕ} (low high : List ℕ) (p : IsVector n low) (q : IsVector n high) where
@@ -157,11 +150,11 @@ module _ {n : ℕ} (low high : List ℕ) (p : IsVector n low) (q : IsVector n hi
       )
       (middle_is (get_or high k 0) (get_or low k 0) (lane_fits high k q lt) (lane_fits low k p lt))
 
-  pub middles_are : AreLanesOf n middles (λ k. middle_byte (lane_unit low high k))
+  pub middles_are : AreLanes n middles (λ k. middle_byte (lane_unit low high k))
   middles_are = record { wide = where_passed_len n ltb high 8 leads (zip2 added bits (replicate n 0x80)) q.0 leads_len (wide_with added bits 0x80 bits_len); each = middles_at }
 
   -- The last of them, by those before them.
-  module _ {middle : List ℕ} (m : AreLanesOf n middle (λ k. middle_byte (lane_unit low high k))) where
+  module _ {middle : List ℕ} (m : AreLanes n middle (λ k. middle_byte (lane_unit low high k))) where
     abbrev rests : List ℕ
     rests = zip2 added (zip2 bit_and low (replicate n 0x3F)) (replicate n 0x80)
 
@@ -181,7 +174,7 @@ module _ {n : ℕ} (low high : List ℕ) (p : IsVector n low) (q : IsVector n hi
         )
         (last_is (get_or high k 0) (get_or low k 0) (get_or middle k 0) (lane_fits high k q lt) (lane_fits low k p lt) (m.each k lt))
 
-    pub lasts_are : AreLanesOf n lasts (λ k. last_byte (lane_unit low high k))
+    pub lasts_are : AreLanes n lasts (λ k. last_byte (lane_unit low high k))
     lasts_are = record { wide = where_passed_len n ltb middle 1 low rests m.wide p.0 rests_len; each = lasts_at }
 
 -- Lanes of leading and of trailing surrogates.
@@ -212,7 +205,7 @@ module _ {n : ℕ} (low : List ℕ) (p : IsVector n low) where
       )
       (second_is (get_or low k 0) (lane_fits low k p lt))
 
-  pub second_lanes_are : AreLanesOf n second_lanes (λ k. second_byte (get_or low k 0))
+  pub second_lanes_are : AreLanes n second_lanes (λ k. second_byte (get_or low k 0))
   second_lanes_are = record { wide = wide_with added _ 0x80 (wide_with bit_and sums 0x3F sums_len); each = second_lanes_at }
 
   module _ (high : List ℕ) (q : IsVector n high) where
@@ -231,7 +224,7 @@ module _ {n : ℕ} (low : List ℕ) (p : IsVector n low) where
         )
         (lead_is (get_or high k 0) (get_or low k 0) (lane_fits high k q lt) (lane_fits low k p lt))
 
-    pub lead_lanes_are : AreLanesOf n lead_lanes (λ k. lead_byte (lane_unit low high k))
+    pub lead_lanes_are : AreLanes n lead_lanes (λ k. lead_byte (lane_unit low high k))
     lead_lanes_are = record { wide = wide added _ _ (wide_with bit_and high 3 q.0) carries_len; each = lead_lanes_at }
 
     module _ (before : List ℕ) (r : IsVector n before) where
@@ -269,7 +262,7 @@ module _ {n : ℕ} (low : List ℕ) (p : IsVector n low) where
           )
           (third_is (get_or before k 0) (get_or high k 0) (get_or low k 0) (lane_fits high k q lt) (lane_fits low k p lt))
 
-      pub third_lanes_are : AreLanesOf n third_lanes (lane_after third_byte before low high)
+      pub third_lanes_are : AreLanes n third_lanes (lane_after third_byte before low high)
       third_lanes_are = record { wide = wide_with added _ 0x80 (wide added twos fours twos_len fours_len); each = third_lanes_at }
 
 -- Where some units may be surrogates.
@@ -287,8 +280,8 @@ module _ {n : ℕ} (high : List ℕ) (q : IsVector n high) where
   fourths_len : length fourths ≡ n
   fourths_len = wide_with down high 2 q.0
 
-  pub text_firsts_are : {first : List ℕ} → AreLanesOf n first (λ k. first_byte (get_or high k 0 * 256))
-      → AreLanesOf n (where_passed n eqb eighths 0x1B (replicate n 0) first) (λ k. first_in_text (get_or high k 0 * 256))
+  pub text_firsts_are : {first : List ℕ} → AreLanes n first (λ k. first_byte (get_or high k 0 * 256))
+      → AreLanes n (where_passed n eqb eighths 0x1B (replicate n 0) first) (λ k. first_in_text (get_or high k 0 * 256))
   text_firsts_are {first} f = record {
     wide = where_passed_len n eqb eighths 0x1B (replicate n 0) first eighths_len (length-replicate n 0) f.wide;
     each = λ k lt.
@@ -308,8 +301,8 @@ module _ {n : ℕ} (high : List ℕ) (q : IsVector n high) where
     fourth : (k : ℕ) → k < n → eqb (get_or fourths k 0) 0x36 ≡ is_leading_surrogate (lane_unit low high k)
     fourth k lt = rw (lane_with down high 2 q.0 k lt) (leading_is (get_or high k 0) (get_or low k 0) (lane_fits low k p lt))
 
-    pub text_lasts_are : {second last : List ℕ} → AreLanesOf n second (λ k. second_byte (get_or low k 0)) → AreLanesOf n last (λ k. last_byte (lane_unit low high k))
-        → AreLanesOf n (where_passed n eqb fourths 0x36 second last) (λ k. last_in_text (lane_unit low high k))
+    pub text_lasts_are : {second last : List ℕ} → AreLanes n second (λ k. second_byte (get_or low k 0)) → AreLanes n last (λ k. last_byte (lane_unit low high k))
+        → AreLanes n (where_passed n eqb fourths 0x36 second last) (λ k. last_in_text (lane_unit low high k))
     text_lasts_are {second} {last} s l = record {
       wide = where_passed_len n eqb fourths 0x36 second last fourths_len s.wide l.wide;
       each = λ k lt.
@@ -322,15 +315,15 @@ module _ {n : ℕ} (high : List ℕ) (q : IsVector n high) where
           ) refl;
     }
 
-    module _ (before : List ℕ) {middle lead third : List ℕ} (m : AreLanesOf n middle (λ k. middle_byte (lane_unit low high k))) (d : AreLanesOf n lead (λ k. lead_byte (lane_unit low high k)))
-        (t : AreLanesOf n third (lane_after third_byte before low high)) where
+    module _ (before : List ℕ) {middle lead third : List ℕ} (m : AreLanes n middle (λ k. middle_byte (lane_unit low high k))) (d : AreLanes n lead (λ k. lead_byte (lane_unit low high k)))
+        (t : AreLanes n third (lane_after third_byte before low high)) where
       abbrev paired : List ℕ
       paired = where_passed n eqb eighths 0x1B third middle
 
       paired_len : length paired ≡ n
       paired_len = where_passed_len n eqb eighths 0x1B third middle eighths_len t.wide m.wide
 
-      pub text_middles_are : AreLanesOf n (where_passed n eqb fourths 0x36 lead paired) (lane_after middle_in_text before low high)
+      pub text_middles_are : AreLanes n (where_passed n eqb fourths 0x36 lead paired) (lane_after middle_in_text before low high)
       text_middles_are = record {
         wide = where_passed_len n eqb fourths 0x36 lead paired fourths_len d.wide paired_len;
         each = λ k lt.
@@ -347,20 +340,13 @@ module _ {n : ℕ} (high : List ℕ) (q : IsVector n high) where
 
 -- The first bytes by the whole units.
 
-pub firsts_of_units : {n : ℕ} (low high first : List ℕ) → ((k : ℕ) → k < n → get_or low k 0 < 256) → AreLanesOf n first (λ k. first_byte (get_or high k 0 * 256)) → AreLanesOf n first (λ k. first_byte (lane_unit low high k))
+pub firsts_of_units : {n : ℕ} (low high first : List ℕ) → ((k : ℕ) → k < n → get_or low k 0 < 256) → AreLanes n first (λ k. first_byte (get_or high k 0 * 256)) → AreLanes n first (λ k. first_byte (lane_unit low high k))
 firsts_of_units low high first fits f = record { wide = f.wide; each = λ k lt. f.each k lt ∙ first_by_high (get_or high k 0) (get_or low k 0) (fits k lt) }
 
-pub text_firsts_of_units : {n : ℕ} (low high first : List ℕ) → ((k : ℕ) → k < n → get_or low k 0 < 256) → AreLanesOf n first (λ k. first_in_text (get_or high k 0 * 256)) → AreLanesOf n first (λ k. first_in_text (lane_unit low high k))
+pub text_firsts_of_units : {n : ℕ} (low high first : List ℕ) → ((k : ℕ) → k < n → get_or low k 0 < 256) → AreLanes n first (λ k. first_in_text (get_or high k 0 * 256)) → AreLanes n first (λ k. first_in_text (lane_unit low high k))
 text_firsts_of_units low high first fits f = record { wide = f.wide; each = λ k lt. f.each k lt ∙ text_first_by_high (get_or high k 0) (get_or low k 0) (fits k lt) }
 
 -- Shuffles.
-
-pub below_16 : (P : ℕ → Type 0) → P 0 → P 1 → P 2 → P 3 → P 4 → P 5 → P 6 → P 7 → P 8 → P 9 → P 10 → P 11 → P 12 → P 13 → P 14 → P 15 → (k : ℕ) → k < 16 → P k
-below_16 P p0 p1 p2 p3 p4 p5 p6 p7 p8 p9 p10 p11 p12 p13 p14 p15 k lt =
-    elim (cases_lt k 8) [
-      | inl low ↦ below_8 P p0 p1 p2 p3 p4 p5 p6 p7 k low
-      | inr high ↦ (let at : 8 + (k - 8) ≡ k = omega arith in subst P at (below_8 (λ j. P (8 + j)) p8 p9 p10 p11 p12 p13 p14 p15 (k - 8) (omega arith)))
-    ]
 
 module _ (xs : List ℕ) (enough : 32 ≤ length xs) where
   abbrev both : List ℕ
@@ -375,16 +361,16 @@ module _ (xs : List ℕ) (enough : 32 ≤ length xs) where
       ]
 
   abbrev evens : List ℕ
-  evens = get_or both 0 0 ∷ get_or both 2 0 ∷ get_or both 4 0 ∷ get_or both 6 0 ∷ get_or both 8 0 ∷ get_or both 10 0 ∷ get_or both 12 0 ∷ get_or both 14 0 ∷ get_or both 16 0 ∷ get_or both 18 0 ∷ get_or both 20 0 ∷ get_or both 22 0 ∷ get_or both 24 0 ∷ get_or both 26 0 ∷ get_or both 28 0 ∷ get_or both 30 0 ∷ []
+  evens = picked both (λ i. 2 * i) 16
 
   abbrev odds : List ℕ
-  odds = get_or both 1 0 ∷ get_or both 3 0 ∷ get_or both 5 0 ∷ get_or both 7 0 ∷ get_or both 9 0 ∷ get_or both 11 0 ∷ get_or both 13 0 ∷ get_or both 15 0 ∷ get_or both 17 0 ∷ get_or both 19 0 ∷ get_or both 21 0 ∷ get_or both 23 0 ∷ get_or both 25 0 ∷ get_or both 27 0 ∷ get_or both 29 0 ∷ get_or both 31 0 ∷ []
+  odds = picked both (λ i. 2 * i + 1) 16
 
   evens_at : (k : ℕ) → k < 16 → get_or evens k 0 ≡ get_or xs (2 * k) 0
-  evens_at = below_16 (λ i. get_or evens i 0 ≡ get_or xs (2 * i) 0) (both_at 0 (lit< tt)) (both_at 2 (lit< tt)) (both_at 4 (lit< tt)) (both_at 6 (lit< tt)) (both_at 8 (lit< tt)) (both_at 10 (lit< tt)) (both_at 12 (lit< tt)) (both_at 14 (lit< tt)) (both_at 16 (lit< tt)) (both_at 18 (lit< tt)) (both_at 20 (lit< tt)) (both_at 22 (lit< tt)) (both_at 24 (lit< tt)) (both_at 26 (lit< tt)) (both_at 28 (lit< tt)) (both_at 30 (lit< tt))
+  evens_at k lt = picked_at both (λ i. 2 * i) 16 k lt ∙ both_at (2 * k) (omega arith)
 
   odds_at : (k : ℕ) → k < 16 → get_or odds k 0 ≡ get_or xs (2 * k + 1) 0
-  odds_at = below_16 (λ i. get_or odds i 0 ≡ get_or xs (2 * i + 1) 0) (both_at 1 (lit< tt)) (both_at 3 (lit< tt)) (both_at 5 (lit< tt)) (both_at 7 (lit< tt)) (both_at 9 (lit< tt)) (both_at 11 (lit< tt)) (both_at 13 (lit< tt)) (both_at 15 (lit< tt)) (both_at 17 (lit< tt)) (both_at 19 (lit< tt)) (both_at 21 (lit< tt)) (both_at 23 (lit< tt)) (both_at 25 (lit< tt)) (both_at 27 (lit< tt)) (both_at 29 (lit< tt)) (both_at 31 (lit< tt))
+  odds_at k lt = picked_at both (λ i. 2 * i + 1) 16 k lt ∙ both_at (2 * k + 1) (omega arith)
 
   pub high_first_units : (k : ℕ) → k < 16 → lane_unit odds evens k ≡ unit_number true xs k
   high_first_units k lt = ap₂ (λ a b. a * 256 + b) (evens_at k lt) (odds_at k lt)

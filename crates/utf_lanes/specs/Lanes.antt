@@ -1,27 +1,19 @@
 -- Vectors by their lanes, and masks by their bits.
-use Rattle.std.specs.Prelude.{◌≡◌, ℕ, ◌+◌, ◌*◌, ◌/◌, ◌%◌, ◌<◌, Bool, if◌then◌else◌, List, [], ◌∷◌, ◌++◌, length, nat_eq, slice_index}
+use Rattle.std.specs.Prelude.{◌≡◌, ℕ, ◌+◌, ◌*◌, ◌/◌, ◌%◌, ◌<◌, Bool, if◌then◌else◌, List, [], ◌∷◌, ◌++◌, length, nat_eq, slice_index, ◌-◌, nat_lt}
 use Rattle.std.specs.Int.{bit_at}
 
 -- A vector has n lanes, and each is what its number says.
-pub record AreLanesOf (n : ℕ) (v : List ℕ) (lane : ℕ → ℕ) : Type 0 where
+pub record AreLanes (n : ℕ) (v : List ℕ) (lane : ℕ → ℕ) : Type 0 where
   pub wide : length v ≡ n
   pub each : (k : ℕ) → k < n → slice_index v k ≡ lane k
-
--- The same of sixteen.
-abbrev pub AreLanes : List ℕ → (ℕ → ℕ) → Type 0
-AreLanes = AreLanesOf 16
 
 -- a vector has eight pairs of lanes, and each is what its number says
 abbrev pub ArePairs : List ℕ → (ℕ → List ℕ) → Type 0
 ArePairs v pair = (k : ℕ) → k < 8 → slice_index v (2 * k) ∷ slice_index v (2 * k + 1) ∷ [] ≡ pair k
 
 -- a mask has n bits, and each is set where the test of its number passes
-abbrev pub AreBitsOf : ℕ → ℕ → (ℕ → Bool) → Type 0
-AreBitsOf n mask test = (k : ℕ) → k < n → bit_at mask k ≡ (if test k then 1 else 0)
-
--- The same of sixteen.
-abbrev pub AreBits : ℕ → (ℕ → Bool) → Type 0
-AreBits = AreBitsOf 16
+abbrev pub AreBits : ℕ → ℕ → (ℕ → Bool) → Type 0
+AreBits n mask test = (k : ℕ) → k < n → bit_at mask k ≡ (if test k then 1 else 0)
 
 -- What a function gives of the lanes k of two, three and four vectors.
 abbrev pub lane_of_two : (ℕ → ℕ → ℕ) → List ℕ → List ℕ → ℕ → ℕ
@@ -48,3 +40,20 @@ half_place k = k / 32 * 16 + k / 16 % 2 * 32 + k % 16
 -- that lane, where two vectors have the four parts
 abbrev pub crossed_lane : List ℕ → List ℕ → ℕ → ℕ
 crossed_lane v w k = slice_index (v ++ w) (half_place k)
+
+-- The place of the byte in the lane k, where so many of the first bytes stand before so many of the last, of n bytes.
+abbrev pub end_place : ℕ → ℕ → ℕ → ℕ
+end_place width n k = if nat_lt k width then k else n - width + (k - width)
+
+-- that byte
+abbrev pub end_byte : ℕ → List ℕ → ℕ → ℕ
+end_byte width xs k = slice_index xs (end_place width (length xs) k)
+
+-- each of n lanes is a place in a row
+abbrev pub ArePlaces : ℕ → List ℕ → Type 0
+ArePlaces n places = (k : ℕ) → k < n → slice_index places k < 16
+
+-- A vector has n lanes, and each is what the row has at the place in that lane.
+pub record AreLookedUp (n : ℕ) (row places v : List ℕ) : Type 0 where
+  pub wide : length v ≡ n
+  pub each : (k : ℕ) → k < n → slice_index v k ≡ slice_index row (slice_index places k)

@@ -1,5 +1,6 @@
--- Text judged by each byte and the three before it.
-use Rattle.std.specs.Prelude.{◌≡◌, ◌↔◌, ℕ, ◌+◌, ◌<◌, ◌≤◌, List, length, slice_index, bit_xor}
+-- Text judged by each byte and the three before it, and what is known of some bytes once the first two are judged.
+use Rattle.std.specs.Prelude.{◌≡◌, ◌↔◌, ℕ, ◌+◌, ◌<◌, ◌≤◌, List, length, slice_index, bit_xor, true}
+use Rattle.utf_base.specs.Kinds.{is_continuation}
 
 -- a continuation byte
 abbrev pub IsContinuation : ℕ → Type 0
@@ -51,3 +52,10 @@ pub record IsPair (c d left : ℕ) : Type 0 where
 -- each lane of `left` is what look-ups leave of the byte in that lane of `here`, after the one in that of `before`
 abbrev pub ArePairsLeft : List ℕ → List ℕ → List ℕ → Type 0
 ArePairsLeft before here left = (k : ℕ) → k < length left → IsPair (slice_index before k) (slice_index here k) (slice_index left k)
+
+-- Four bytes or more, of which the first is from `least` on and before `past`, and the second continues.
+pub record IsBegun (least past : ℕ) (w : List ℕ) : Type 0 where
+  pub enough : 4 ≤ length w
+  pub low : least ≤ slice_index w 0
+  pub high : slice_index w 0 < past
+  pub second : is_continuation (slice_index w 1) ≡ true

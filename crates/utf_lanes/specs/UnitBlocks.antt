@@ -3,7 +3,7 @@ use Rattle.std.specs.Prelude.{◌≡◌, ◌↔◌, ℕ, ◌+◌, ◌<◌, ◌�
 use Rattle.utf_base.specs.Scalar.{IsScalar}
 use Rattle.utf_base.specs.Code.{utf16}
 use Rattle.utf_base.specs.Units.{is_leading_surrogate, is_trailing_surrogate}
-use Rattle.utf_lanes.specs.BytePairs.{units_of}
+use Rattle.utf_lanes.specs.BytePairs.{units_of, unit_number, high_byte, low_byte}
 
 -- each unit from the place i on and before j ends a pair just where the one before it begins one
 abbrev pub AllPaired : List ℕ → ℕ → ℕ → Type 0
@@ -17,6 +17,26 @@ pub record AreFirstPaired (us : List ℕ) (n : ℕ) : Type 0 where
 -- a lane is 0 just where this holds of the unit of its number, counted from the place i on
 abbrev pub ZerosPair : List ℕ → ℕ → (ℕ → ℕ) → Type 0
 ZerosPair us i lane = (k : ℕ) → k < 8 → lane k ≡ 0 ↔ AllPaired us (i + k) (i + k + 1)
+
+-- Eight units in one vector, each after that in another, were judged: of its two lanes that of the high byte is 0 just where they pair,
+-- and the other always.
+pub record JudgesPairs (high_first : Bool) (before here v : List ℕ) : Type 0 where
+  pub wide : length v ≡ 16
+  pub lanes : (k : ℕ) → k < 8 → high_byte high_first v k ≡ 0 ↔ (is_leading_surrogate (unit_number high_first before k) ≡ is_trailing_surrogate (unit_number high_first here k))
+  pub others : (k : ℕ) → k < 8 → low_byte high_first v k ≡ 0
+
+-- The eight units from the place i on were so judged, each after the one before it.
+pub record AreJudged (high_first : Bool) (us : List ℕ) (i : ℕ) (v : List ℕ) : Type 0 where
+  pub wide : length v ≡ 16
+  pub lanes : ZerosPair us i (high_byte high_first v)
+  pub others : (k : ℕ) → k < 8 → low_byte high_first v k ≡ 0
+
+-- and 32 units, eight in each of four vectors
+pub record BlockIsJudged (high_first : Bool) (us : List ℕ) (i : ℕ) (v w x y : List ℕ) : Type 0 where
+  pub first : AreJudged high_first us i v
+  pub second : AreJudged high_first us (i + 8) w
+  pub third : AreJudged high_first us (i + 16) x
+  pub fourth : AreJudged high_first us (i + 24) y
 
 -- the units are the codes of some scalars
 pub record AreCodes (us : List ℕ) : Type 0 where

@@ -75,17 +75,13 @@ abbrev pub AreCharacters : ℕ → List ℕ → Type 0
 AreCharacters n high = (k : ℕ) → k < n → nat_eq (slice_index high k / 8) 0x1B ≡ false
 
 -- The first n of so many units are text, and their bytes were written into room, from one place to another.
-pub record WritesUnitsOf (width : ℕ) (low high old new : List ℕ) (at n end : ℕ) : Type 0 where
+pub record WritesUnits (width : ℕ) (low high old new : List ℕ) (at n end : ℕ) : Type 0 where
   pub most : n ≤ width
   pub text : AreText (lane_unit low high) n
   pub len : length new ≡ length old
   pub bytes : take end new ≡ take at old ++ concat_range (code_at (lane_unit low high)) 0 n
   pub short : end ≤ at + 6 * n
   pub fits : end ≤ at + 3 * width
-
--- The same of sixteen.
-abbrev pub WritesUnits : List ℕ → List ℕ → List ℕ → List ℕ → ℕ → ℕ → ℕ → Type 0
-WritesUnits = WritesUnitsOf 16
 
 -- the slot in the lane k of three vectors
 abbrev pub slot_at : List ℕ → List ℕ → List ℕ → ℕ → List ℕ

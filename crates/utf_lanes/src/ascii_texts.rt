@@ -16,7 +16,7 @@ pub fn is_ascii(bytes: &[u8]) -> bool
     if bytes.len() <= 16 {
         return is_ascii_few(bytes);
     }
-    let wide = ascii_end(bytes, 0);
+    let wide = ascii_wide_end(bytes, 0);
     is_ascii_from(bytes, wide)
 }
 
@@ -102,24 +102,6 @@ pub fn is_ascii_block(bytes: &[u8], place: usize) -> bool
 {
     let either = u8x32::from_slice(&bytes[place..]) | u8x32::from_slice(&bytes[place + 32..]);
     either.simd_ge(u8x32::splat(0x80)).to_bitmask() == 0
-}
-
-// Where the blocks of ASCII end that begin at the place.
-#[inline(always)]
-pub(crate) fn ascii_end(bytes: &[u8], start: usize) -> usize
-    requires { start ≤ length bytes.now }
-    ensures least { start ≤ result }
-    ensures within { result ≤ length bytes.now }
-    ensures ascii { AreAscii bytes.now start result }
-{
-    let mut place = start;
-    while 64 <= bytes.len() - place {
-        if !is_ascii_block(bytes, place) {
-            return place;
-        }
-        place += 64;
-    }
-    place
 }
 
 /// Where the blocks of 64 bytes of ASCII end that begin at the place, judged two at once as far as that goes.

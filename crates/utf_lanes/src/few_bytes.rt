@@ -1,6 +1,6 @@
 //! Bytes that are fewer than a vector has lanes, as one vector.
 ghost use Rattle.std.specs.Prelude.{◌≡◌, ℕ, ◌+◌, ◌-◌, ◌<◌, ◌≤◌, ◌∷◌, ◌++◌, length, replicate, slice_index};
-ghost use Rattle.utf_lanes.specs.FewBytes.{end_byte};
+ghost use Rattle.utf_lanes.specs.Lanes.{end_byte};
 
 use crate::shuffles::PADDED_ROWS;
 use std::simd::prelude::*;

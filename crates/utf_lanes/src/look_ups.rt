@@ -1,5 +1,5 @@
 //! Look-ups in a row of sixteen bytes, by vectors of sixteen lanes and of 32.
-ghost use Rattle.utf_lanes.specs.LookUps.{ArePlaces, AreLookedUp};
+ghost use Rattle.utf_lanes.specs.Lanes.{ArePlaces, AreLookedUp};
 
 use std::simd::prelude::*;
 

@@ -1,8 +1,10 @@
 //! How far units are well-formed, judged eight at once: each ends a pair just where the one before it begins one.
-ghost use Rattle.std.specs.Prelude.{◌≡◌, ℕ, ◌+◌, ◌<◌, ◌≤◌, IsTrue, length, take, slice_index};
-ghost use Rattle.utf_lanes.specs.Lanes.{ones_where};
-ghost use Rattle.utf_lanes.specs.UnitBlocks.{AllPaired, AreCodes, ZerosPair};
+ghost use Rattle.std.specs.Prelude.{ℕ, ◌+◌, ◌<◌, ◌≤◌, IsTrue, false, length, take};
+ghost use Rattle.utf_lanes.specs.UnitBlocks.{AllPaired, AreCodes, AreJudged};
 
+use crate::byte_order::LittleEndian;
+use crate::unit_blocks::{all_pair, unpaired_lanes};
+use std::simd::ToBytes;
 use std::simd::prelude::*;
 use utf_base::elements::is_trailing_surrogate;
 use utf_base::traits::U16UtfExt;
@@ -52,31 +54,22 @@ fn is_paired_block(units: &[u16], place: usize) -> bool
     ensures paired { IsTrue result → AllPaired units.now place (place + 32) }
     ensures all { AllPaired units.now place (place + 32) → IsTrue result }
 {
-    let first = unpaired(units, place) | unpaired(units, place + 8);
-    let second = unpaired(units, place + 16) | unpaired(units, place + 24);
-    (first | second).simd_ne(u16x8::splat(0)).to_bitmask() == 0
+    all_pair(
+        unpaired(units, place),
+        unpaired(units, place + 8),
+        unpaired(units, place + 16),
+        unpaired(units, place + 24),
+    )
 }
 
-// The eight units from the place on, each after the one before it: 0 where they pair.
+// The eight units from the place on, each after the one before it: in the lane of its high byte, 0 where they pair.
 #[inline(always)]
-fn unpaired(units: &[u16], place: usize) -> u16x8
+fn unpaired(units: &[u16], place: usize) -> u8x16
     requires start { 1 ≤ place }
     requires within { place + 8 ≤ length units.now }
-    ensures len { length result ≡ 8 }
-    ensures lanes { ZerosPair units.now place (slice_index result) }
+    ensures { AreJudged false units.now place result }
 {
-    let here = u16x8::from_slice(&units[place..]) >> u16x8::splat(10);
-    let before = u16x8::from_slice(&units[place - 1..]) >> u16x8::splat(10);
-    where_equal(here, 0xdc00 >> 10) ^ where_equal(before, 0xd800 >> 10)
-}
-
-// All bits of each lane that is this number, and none of the others.
-#[inline(always)]
-fn where_equal(lanes: u16x8, number: u16) -> u16x8
-    ensures len { length result ≡ 8 }
-    ensures lanes { (k : ℕ) → k < 8 → slice_index result k ≡ ones_where 0xFFFF lanes number k }
-{
-    lanes
-        .simd_eq(u16x8::splat(number))
-        .select(u16x8::splat(0xffff), u16x8::splat(0))
+    let here = u16x8::from_slice(&units[place..]).to_le_bytes();
+    let before = u16x8::from_slice(&units[place - 1..]).to_le_bytes();
+    unpaired_lanes::<LittleEndian>(before, here)
 }

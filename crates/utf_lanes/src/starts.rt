@@ -107,17 +107,18 @@ fn block_starts(bytes: &[u8], place: usize) -> usize
     requires { place + 64 ≤ length bytes.now }
     ensures { result ≡ start_count (slice_range bytes.now place (place + 64)) }
 {
-    lane_starts(bytes, place) + lane_starts(bytes, place + 32)
+    lane_starts::<32>(bytes, place) + lane_starts::<32>(bytes, place + 32)
 }
 
-// The same of 32. A continuation byte is below 0x40, once 0x80 is added.
+// The same of as many as a vector has lanes. A continuation byte is below 0x40, once 0x80 is added.
 #[inline(always)]
-fn lane_starts(bytes: &[u8], place: usize) -> usize
-    requires { place + 32 ≤ length bytes.now }
-    ensures { result ≡ start_count (slice_range bytes.now place (place + 32)) }
+fn lane_starts<const N: usize>(bytes: &[u8], place: usize) -> usize
+    requires few { N ≤ 64 }
+    requires within { place + N ≤ length bytes.now }
+    ensures { result ≡ start_count (slice_range bytes.now place (place + N)) }
 {
-    let lanes = u8x32::from_slice(&bytes[place..]) + u8x32::splat(0x80);
-    lanes.simd_ge(u8x32::splat(0x40)).to_bitmask().count_ones() as usize
+    let lanes = Simd::<u8, N>::from_slice(&bytes[place..]) + Simd::splat(0x80);
+    lanes.simd_ge(Simd::splat(0x40)).to_bitmask().count_ones() as usize
 }
 
 // The same of few blocks of sixteen, and what is left.
@@ -128,20 +129,10 @@ fn short_starts(bytes: &[u8]) -> usize
     let mut place = 0;
     let mut starts = 0;
     while 16 <= bytes.len() - place {
-        starts += short_lane_starts(bytes, place);
+        starts += lane_starts::<16>(bytes, place);
         place += 16;
     }
     starts + few_starts(&bytes[place..])
-}
-
-// Those of sixteen.
-#[inline(always)]
-fn short_lane_starts(bytes: &[u8], place: usize) -> usize
-    requires { place + 16 ≤ length bytes.now }
-    ensures { result ≡ start_count (slice_range bytes.now place (place + 16)) }
-{
-    let lanes = u8x16::from_slice(&bytes[place..]) + u8x16::splat(0x80);
-    lanes.simd_ge(u8x16::splat(0x40)).to_bitmask().count_ones() as usize
 }
 
 // The same of all, one by one.

@@ -4,7 +4,7 @@ ghost use Rattle.utf_base.specs.Code.{utf8};
 ghost use Rattle.utf_base.specs.Decoded.{decoded};
 ghost use Rattle.utf_base.specs.Front.{as_scalar, BeginsWith, IsFrontLen, NoneBegins};
 ghost use Rattle.utf_base.specs.Kinds.{is_continuation};
-ghost use Rattle.utf_lanes.specs.TextFront.{IsBegun};
+ghost use Rattle.utf_lanes.specs.TextBlocks.{IsBegun};
 
 use utf_base::elements::is_continuation;
 

@@ -93,7 +93,7 @@ fn paired<E: ByteOrder>(low: u8x16, high: u8x16) -> (u8x16, u8x16)
 fn mask_of_unit_ends(before: u8x16, here: u8x16, skipped: usize) -> usize
     requires few { skipped < 16 }
     ensures most { result < 65536 }
-    ensures bits { AreBits result
+    ensures bits { AreBits 16 result
         (λ k. ends_unit (slice_index before k) (slice_index here k) && nat_le skipped k) }
 {
     let later = before.saturating_sub(u8x16::splat(0x20)).simd_max(here);
@@ -104,8 +104,8 @@ fn mask_of_unit_ends(before: u8x16, here: u8x16, skipped: usize) -> usize
 // The low and high halves of the units.
 #[inline(always)]
 fn lane_halves(third: u8x16, second: u8x16, first: u8x16, here: u8x16) -> (u8x16, u8x16)
-    ensures low { AreLanes result.0 (lane_of_three unit_low second first here) }
-    ensures high { AreLanes result.1 (lane_of_four unit_high third second first here) }
+    ensures low { AreLanes 16 result.0 (lane_of_three unit_low second first here) }
+    ensures high { AreLanes 16 result.1 (lane_of_four unit_high third second first here) }
 {
     if second
         .simd_max(third)
@@ -122,8 +122,8 @@ fn lane_halves(third: u8x16, second: u8x16, first: u8x16, here: u8x16) -> (u8x16
 // The halves of units that end codes of at most three bytes.
 #[inline(always)]
 fn short_halves(second: u8x16, first: u8x16, here: u8x16) -> (u8x16, u8x16)
-    ensures low { AreLanes result.0 (lane_of_two low_half first here) }
-    ensures high { AreLanes result.1 (lane_of_three high_half second first here) }
+    ensures low { AreLanes 16 result.0 (lane_of_two low_half first here) }
+    ensures high { AreLanes 16 result.1 (lane_of_three high_half second first here) }
 {
     let none = u8x16::splat(0);
     let continued = here.simd_lt(u8x16::splat(0x80)).select(none, first);
@@ -136,8 +136,8 @@ fn short_halves(second: u8x16, first: u8x16, here: u8x16) -> (u8x16, u8x16)
 // The halves of units, some of which may be surrogates.
 #[inline(never)]
 fn long_halves(third: u8x16, second: u8x16, first: u8x16, here: u8x16) -> (u8x16, u8x16)
-    ensures low { AreLanes result.0 (lane_of_three unit_low second first here) }
-    ensures high { AreLanes result.1 (lane_of_four unit_high third second first here) }
+    ensures low { AreLanes 16 result.0 (lane_of_three unit_low second first here) }
+    ensures high { AreLanes 16 result.1 (lane_of_four unit_high third second first here) }
 {
     let (low, high) = short_halves(second, first, here);
     let (leading_low, leading_high) = leading_halves(second, first, here);
@@ -155,8 +155,8 @@ fn long_halves(third: u8x16, second: u8x16, first: u8x16, here: u8x16) -> (u8x16
 // The halves of leading surrogates.
 #[inline(always)]
 fn leading_halves(second: u8x16, first: u8x16, here: u8x16) -> (u8x16, u8x16)
-    ensures low { AreLanes result.0 (lane_of_two leading_low first here) }
-    ensures high { AreLanes result.1 (lane_of_three leading_high second first here) }
+    ensures low { AreLanes 16 result.0 (lane_of_two leading_low first here) }
+    ensures high { AreLanes 16 result.1 (lane_of_three leading_high second first here) }
 {
     let bits = (first & u8x16::splat(0x3f)) << u8x16::splat(2);
     let more = (here & u8x16::splat(0x3f)) >> u8x16::splat(4);
@@ -169,7 +169,7 @@ fn leading_halves(second: u8x16, first: u8x16, here: u8x16) -> (u8x16, u8x16)
 // The high halves of trailing surrogates.
 #[inline(always)]
 fn trailing_halves(first: u8x16) -> u8x16
-    ensures { AreLanes result (λ k. trailing_high (slice_index first k)) }
+    ensures { AreLanes 16 result (λ k. trailing_high (slice_index first k)) }
 {
     ((first >> u8x16::splat(2)) & u8x16::splat(3)) + u8x16::splat(0xdc)
 }

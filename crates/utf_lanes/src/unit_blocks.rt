@@ -2,10 +2,10 @@
 //!
 //! A unit is judged by the one before it: it ends a pair just where that begins one. Six bits of its high byte tell
 //! either.
-ghost use Rattle.std.specs.Prelude.{◌≡◌, ℕ, ◌+◌, ◌-◌, ◌*◌, ◌<◌, ◌≤◌, ◌∷◌, IsTrue, false, length, take, slice_index};
+ghost use Rattle.std.specs.Prelude.{◌≡◌, ℕ, ◌+◌, ◌-◌, ◌*◌, ◌<◌, ◌≤◌, ◌∷◌, Bool, IsTrue, List, false, length, take, slice_index};
 ghost use Rattle.utf_base.specs.Units.{is_trailing_surrogate};
 ghost use Rattle.utf_lanes.specs.Lanes.{AreLanes, ones_where};
-ghost use Rattle.utf_lanes.specs.UnitBlocks.{AllPaired, AreCodes, AreFirstPaired, PairsTo, ZerosPair};
+ghost use Rattle.utf_lanes.specs.UnitBlocks.{AllPaired, AreCodes, AreFirstPaired, AreJudged, BlockIsJudged, JudgesPairs, PairsTo};
 ghost use Rattle.utf_lanes.specs.BytePairs.{high_byte, low_byte, units_of};
 
 use crate::byte_order::ByteOrder;
@@ -121,9 +121,26 @@ fn is_paired_block<E: ByteOrder>(bytes: &[u8], place: usize) -> bool
     requires within { 2 * place + 64 ≤ length bytes.now }
     ensures { IsTrue result → AllPaired (units_of E.HIGH_FIRST bytes.now) place (place + 32) }
 {
-    let first = unpaired::<E>(bytes, place) | unpaired::<E>(bytes, place + 8);
-    let second = unpaired::<E>(bytes, place + 16) | unpaired::<E>(bytes, place + 24);
-    (first | second).simd_ne(u8x16::splat(0)).to_bitmask() == 0
+    all_pair(
+        unpaired::<E>(bytes, place),
+        unpaired::<E>(bytes, place + 8),
+        unpaired::<E>(bytes, place + 16),
+        unpaired::<E>(bytes, place + 24),
+    )
+}
+
+// Whether 32 units pair that were judged, eight in each vector.
+#[inline(always)]
+pub(crate) fn all_pair(first: u8x16, second: u8x16, third: u8x16, fourth: u8x16) -> bool
+    ensures paired { (high_first : Bool) (us : List ℕ) (i : ℕ) → BlockIsJudged high_first us i first second third fourth →
+        IsTrue result → AllPaired us i (i + 32) }
+    ensures all { (high_first : Bool) (us : List ℕ) (i : ℕ) → BlockIsJudged high_first us i first second third fourth →
+        AllPaired us i (i + 32) → IsTrue result }
+{
+    ((first | second) | (third | fourth))
+        .simd_ne(u8x16::splat(0))
+        .to_bitmask()
+        == 0
 }
 
 // How many of the eight units from the place on pair with the one before them, up to the first that does not.
@@ -150,14 +167,20 @@ fn paired_lanes<E: ByteOrder>(bytes: &[u8], place: usize) -> usize
 fn unpaired<E: ByteOrder>(bytes: &[u8], place: usize) -> u8x16
     requires start { 1 ≤ place }
     requires within { 2 * place + 16 ≤ length bytes.now }
-    ensures len { length result ≡ 16 }
-    ensures lanes { ZerosPair (units_of E.HIGH_FIRST bytes.now) place (high_byte E.HIGH_FIRST result) }
-    ensures others { (k : ℕ) → k < 8 → low_byte E.HIGH_FIRST result k ≡ 0 }
+    ensures { AreJudged E.HIGH_FIRST (units_of E.HIGH_FIRST bytes.now) place result }
+{
+    let here = u8x16::from_slice(&bytes[2 * place..]);
+    let before = u8x16::from_slice(&bytes[2 * place - 2..]);
+    unpaired_lanes::<E>(before, here)
+}
+
+// The same of the eight units of one vector, each after that in another.
+#[inline(always)]
+pub(crate) fn unpaired_lanes<E: ByteOrder>(before: u8x16, here: u8x16) -> u8x16
+    ensures { JudgesPairs E.HIGH_FIRST before here result }
 {
     let bits = upper_bits::<E>();
-    let here = u8x16::from_slice(&bytes[2 * place..]) & bits;
-    let before = u8x16::from_slice(&bytes[2 * place - 2..]) & bits;
-    where_equal(here, 0xdc) ^ where_equal(before, 0xd8)
+    where_equal(here & bits, 0xdc) ^ where_equal(before & bits, 0xd8)
 }
 
 // Six bits of each high byte, and none of the low bytes.
@@ -177,7 +200,7 @@ fn upper_bits<E: ByteOrder>() -> u8x16
 // 255 in each lane that is this byte, and 0 in the others.
 #[inline(always)]
 fn where_equal(lanes: u8x16, byte: u8) -> u8x16
-    ensures { AreLanes result (ones_where 255 lanes byte) }
+    ensures { AreLanes 16 result (ones_where 255 lanes byte) }
 {
     lanes
         .simd_eq(u8x16::splat(byte))

@@ -1,6 +1,6 @@
 //! Units of UTF-16 as bytes of UTF-8, as many at once as vectors have lanes.
 ghost use Rattle.std.specs.Prelude.{◌≡◌, ℕ, ◌+◌, ◌*◌, ◌<◌, ◌≤◌, IsTrue, length, slice_index, nat_eq, false, ◌/◌, ◌^◌};
-ghost use Rattle.utf_lanes.specs.Lanes.{AreBitsOf, AreLanesOf};
+ghost use Rattle.utf_lanes.specs.Lanes.{AreBits, AreLanes};
 ghost use Rattle.utf_lanes.specs.UnitCodes.{AreCharacters, lane_unit, lane_after, first_byte, middle_byte, last_byte, first_in_text, middle_in_text, last_in_text, lead_byte, second_byte, third_byte};
 ghost use Rattle.utf_lanes.specs.BytePairs.{unit_number};
 
@@ -44,7 +44,7 @@ pub fn are_characters<const N: usize>(high: Simd<u8, N>) -> bool
 pub(crate) fn mask_of_top_bits<const N: usize>(high: Simd<u8, N>, top: u8) -> usize
     requires { N ≤ 64 }
     ensures most { result < 2 ^ N }
-    ensures bits { AreBitsOf N result (λ k. nat_eq (slice_index high.entry k / 4) top) }
+    ensures bits { AreBits N result (λ k. nat_eq (slice_index high.entry k / 4) top) }
 {
     (high >> Simd::splat(2))
         .simd_eq(Simd::splat(top))
@@ -54,7 +54,7 @@ pub(crate) fn mask_of_top_bits<const N: usize>(high: Simd<u8, N>, top: u8) -> us
 // The bytes of units that are characters: the first, where there are three.
 #[inline(always)]
 pub(crate) fn first_bytes<const N: usize>(high: Simd<u8, N>) -> Simd<u8, N>
-    ensures { AreLanesOf N result (λ k. first_byte (slice_index high.entry k * 256)) }
+    ensures { AreLanes N result (λ k. first_byte (slice_index high.entry k * 256)) }
 {
     let long = (high >> Simd::splat(4)) + Simd::splat(0xe0);
     high.simd_lt(Simd::splat(8)).select(Simd::splat(0), long)
@@ -63,7 +63,7 @@ pub(crate) fn first_bytes<const N: usize>(high: Simd<u8, N>) -> Simd<u8, N>
 // The one before the last, where there are two or three.
 #[inline(always)]
 pub(crate) fn middle_bytes<const N: usize>(low: Simd<u8, N>, high: Simd<u8, N>) -> Simd<u8, N>
-    ensures { AreLanesOf N result (λ k. middle_byte (lane_unit low.entry high.entry k)) }
+    ensures { AreLanes N result (λ k. middle_byte (lane_unit low.entry high.entry k)) }
 {
     let bits = ((high & Simd::splat(15)) << Simd::splat(2)) + (low >> Simd::splat(6));
     let lead = bits
@@ -76,7 +76,7 @@ pub(crate) fn middle_bytes<const N: usize>(low: Simd<u8, N>, high: Simd<u8, N>) 
 // The last.
 #[inline(always)]
 pub(crate) fn last_bytes<const N: usize>(low: Simd<u8, N>, high: Simd<u8, N>) -> Simd<u8, N>
-    ensures { AreLanesOf N result (λ k. last_byte (lane_unit low.entry high.entry k)) }
+    ensures { AreLanes N result (λ k. last_byte (lane_unit low.entry high.entry k)) }
 {
     let rest = (low & Simd::splat(0x3f)) + Simd::splat(0x80);
     middle_bytes(low, high)
@@ -87,7 +87,7 @@ pub(crate) fn last_bytes<const N: usize>(low: Simd<u8, N>, high: Simd<u8, N>) ->
 // The same of units in text, by the low halves of those before them.
 #[inline(always)]
 pub(crate) fn text_first_bytes<const N: usize>(high: Simd<u8, N>) -> Simd<u8, N>
-    ensures { AreLanesOf N result (λ k. first_in_text (slice_index high.entry k * 256)) }
+    ensures { AreLanes N result (λ k. first_in_text (slice_index high.entry k * 256)) }
 {
     (high >> Simd::splat(3))
         .simd_eq(Simd::splat(0x1b))
@@ -100,7 +100,7 @@ pub(crate) fn text_middle_bytes<const N: usize>(
     low: Simd<u8, N>,
     high: Simd<u8, N>,
 ) -> Simd<u8, N>
-    ensures { AreLanesOf N result (lane_after middle_in_text before.entry low.entry high.entry) }
+    ensures { AreLanes N result (lane_after middle_in_text before.entry low.entry high.entry) }
 {
     let plain = (high >> Simd::splat(3))
         .simd_eq(Simd::splat(0x1b))
@@ -112,7 +112,7 @@ pub(crate) fn text_middle_bytes<const N: usize>(
 
 #[inline(always)]
 pub(crate) fn text_last_bytes<const N: usize>(low: Simd<u8, N>, high: Simd<u8, N>) -> Simd<u8, N>
-    ensures { AreLanesOf N result (λ k. last_in_text (lane_unit low.entry high.entry k)) }
+    ensures { AreLanes N result (λ k. last_in_text (lane_unit low.entry high.entry k)) }
 {
     (high >> Simd::splat(2))
         .simd_eq(Simd::splat(0x36))
@@ -122,7 +122,7 @@ pub(crate) fn text_last_bytes<const N: usize>(low: Simd<u8, N>, high: Simd<u8, N
 // The first of four bytes, which leading surrogates give.
 #[inline(always)]
 fn lead_bytes<const N: usize>(low: Simd<u8, N>, high: Simd<u8, N>) -> Simd<u8, N>
-    ensures { AreLanesOf N result (λ k. lead_byte (lane_unit low.entry high.entry k)) }
+    ensures { AreLanes N result (λ k. lead_byte (lane_unit low.entry high.entry k)) }
 {
     let carry = low
         .simd_lt(Simd::splat(0xc0))
@@ -133,7 +133,7 @@ fn lead_bytes<const N: usize>(low: Simd<u8, N>, high: Simd<u8, N>) -> Simd<u8, N
 // The second, which they give too.
 #[inline(always)]
 fn second_bytes<const N: usize>(low: Simd<u8, N>) -> Simd<u8, N>
-    ensures { AreLanesOf N result (λ k. second_byte (slice_index low.entry k)) }
+    ensures { AreLanes N result (λ k. second_byte (slice_index low.entry k)) }
 {
     let six = ((low >> Simd::splat(2)) + Simd::splat(16)) & Simd::splat(0x3f);
     six + Simd::splat(0x80)
@@ -146,7 +146,7 @@ fn third_bytes<const N: usize>(
     low: Simd<u8, N>,
     high: Simd<u8, N>,
 ) -> Simd<u8, N>
-    ensures { AreLanesOf N result (lane_after third_byte before.entry low.entry high.entry) }
+    ensures { AreLanes N result (lane_after third_byte before.entry low.entry high.entry) }
 {
     let two = (before & Simd::splat(3)) << Simd::splat(4);
     let four = ((high & Simd::splat(3)) << Simd::splat(2)) + (low >> Simd::splat(6));

@@ -1,6 +1,6 @@
 //! Sixteen or thirty-two units of UTF-16 as bytes of UTF-8, written into room from a place on.
 ghost use Rattle.std.specs.Prelude.{◌≡◌, ℕ, ◌+◌, ◌-◌, ◌*◌, ◌<◌, ◌≤◌, true, length, slice_index};
-ghost use Rattle.utf_lanes.specs.UnitCodes.{lane_unit, AreCharacters, AreText, WritesUnits, WritesUnitsOf};
+ghost use Rattle.utf_lanes.specs.UnitCodes.{lane_unit, AreCharacters, AreText, WritesUnits};
 ghost use Rattle.utf_base.specs.Units.{is_leading_surrogate};
 
 use crate::sixteen_slots::Sixteen;
@@ -16,7 +16,7 @@ use std::simd::prelude::*;
 #[inline(always)]
 pub fn write_sixteen(low: u8x16, high: u8x16, room: &mut [u8], at: usize) -> (usize, usize)
     requires { at + 64 ≤ length room.old }
-    ensures { WritesUnits low high room.old room.new at result.0 result.1 }
+    ensures { WritesUnits 16 low high room.old room.new at result.0 result.1 }
 {
     if are_ascii(low, high) {
         return (16, write_ascii_units(low, high, room, at));
@@ -28,7 +28,7 @@ pub fn write_sixteen(low: u8x16, high: u8x16, room: &mut [u8], at: usize) -> (us
 #[inline(always)]
 pub fn write_others(low: u8x16, high: u8x16, room: &mut [u8], at: usize) -> (usize, usize)
     requires { at + 64 ≤ length room.old }
-    ensures { WritesUnits low high room.old room.new at result.0 result.1 }
+    ensures { WritesUnits 16 low high room.old room.new at result.0 result.1 }
 {
     if are_short(high) {
         return (16, write_short_units::<16, Sixteen>(low, high, room, at));
@@ -44,7 +44,7 @@ pub fn write_others(low: u8x16, high: u8x16, room: &mut [u8], at: usize) -> (usi
 pub fn write_characters(low: u8x32, high: u8x32, room: &mut [u8], at: usize) -> usize
     requires room { at + 112 ≤ length room.old }
     requires characters { AreCharacters 32 high }
-    ensures { WritesUnitsOf 32 low high room.old room.new at 32 result }
+    ensures { WritesUnits 32 low high room.old room.new at 32 result }
 {
     if !are_short(high) {
         return write_long_units::<32, ThirtyTwo>(low, high, room, at);
@@ -59,7 +59,7 @@ pub fn write_characters(low: u8x32, high: u8x32, room: &mut [u8], at: usize) -> 
 #[inline(always)]
 pub fn write_thirty_two(low: u8x32, high: u8x32, room: &mut [u8], at: usize) -> (usize, usize)
     requires { at + 112 ≤ length room.old }
-    ensures { WritesUnitsOf 32 low high room.old room.new at result.0 result.1 }
+    ensures { WritesUnits 32 low high room.old room.new at result.0 result.1 }
 {
     if !are_characters(high) {
         return write_text::<32, ThirtyTwo>(low, high, room, at);
@@ -78,7 +78,7 @@ pub fn write_ascii_units<const N: usize>(
     requires most { N ≤ 32 }
     requires ascii { (k : ℕ) → k < N → lane_unit low high k < 0x80 }
     requires room { at + (3 * N + 16) ≤ length room.old }
-    ensures { WritesUnitsOf N low.entry high.entry room.old room.new at N result }
+    ensures { WritesUnits N low.entry high.entry room.old room.new at N result }
 {
     low.copy_to_slice(&mut room[at..]);
     at + N
@@ -94,7 +94,7 @@ fn write_short_units<const N: usize, W: SlotWriter<N>>(
 ) -> usize
     requires short { (k : ℕ) → k < N → slice_index high k < 8 }
     requires room { at + (3 * N + 16) ≤ length room.old }
-    ensures { WritesUnitsOf N low.entry high.entry room.old room.new at N result }
+    ensures { WritesUnits N low.entry high.entry room.old room.new at N result }
 {
     W::write_short(middle_bytes(low, high), last_bytes(low, high), room, at)
 }
@@ -109,7 +109,7 @@ fn write_long_units<const N: usize, W: SlotWriter<N>>(
 ) -> usize
     requires characters { AreCharacters N high }
     requires room { at + (3 * N + 16) ≤ length room.old }
-    ensures { WritesUnitsOf N low.entry high.entry room.old room.new at N result }
+    ensures { WritesUnits N low.entry high.entry room.old room.new at N result }
 {
     let middle = middle_bytes(low, high);
     let last = last_bytes(low, high);
@@ -127,7 +127,7 @@ fn write_text<const N: usize, W: SlotWriter<N>>(
     requires least { 2 ≤ N }
     requires most { N ≤ 32 }
     requires room { at + (3 * N + 16) ≤ length room.old }
-    ensures { WritesUnitsOf N low.entry high.entry room.old room.new at result.0 result.1 }
+    ensures { WritesUnits N low.entry high.entry room.old room.new at result.0 result.1 }
 {
     let count = paired_units(low, high);
     if count == 0 {

@@ -1,6 +1,6 @@
 //! Thirty-two units as two vectors.
 ghost use Rattle.std.specs.Prelude.{◌≡◌, ℕ, ◌+◌, ◌*◌, ◌<◌, ◌≤◌, length, slice_index};
-ghost use Rattle.utf_lanes.specs.Lanes.{AreLanesOf, crossed_lane};
+ghost use Rattle.utf_lanes.specs.Lanes.{AreLanes, crossed_lane};
 ghost use Rattle.utf_lanes.specs.UnitCodes.{lane_unit};
 ghost use Rattle.utf_lanes.specs.BytePairs.{unit_number};
 
@@ -28,8 +28,8 @@ pub fn thirty_two_halves<E: ByteOrder>(bytes: &[u8]) -> (u8x32, u8x32)
 #[inline(always)]
 fn even_and_odd(bytes: &[u8]) -> (u8x32, u8x32)
     requires { 64 ≤ length bytes.now }
-    ensures even { AreLanesOf 32 result.0 (λ k. slice_index bytes.now (2 * k)) }
-    ensures odd { AreLanesOf 32 result.1 (λ k. slice_index bytes.now (2 * k + 1)) }
+    ensures even { AreLanes 32 result.0 (λ k. slice_index bytes.now (2 * k)) }
+    ensures odd { AreLanes 32 result.1 (λ k. slice_index bytes.now (2 * k + 1)) }
 {
     let front = joined(u8x16::from_slice(bytes), u8x16::from_slice(&bytes[32..]));
     let back = joined(
@@ -42,7 +42,7 @@ fn even_and_odd(bytes: &[u8]) -> (u8x32, u8x32)
 // The even bytes of the first halves of both vectors, and then those of the last.
 #[inline(always)]
 fn even_bytes(front: u8x32, back: u8x32) -> u8x32
-    ensures { AreLanesOf 32 result (λ k. crossed_lane front back (2 * k)) }
+    ensures { AreLanes 32 result (λ k. crossed_lane front back (2 * k)) }
 {
     front.shuffle(
         back,
@@ -56,7 +56,7 @@ fn even_bytes(front: u8x32, back: u8x32) -> u8x32
 // The odd ones.
 #[inline(always)]
 fn odd_bytes(front: u8x32, back: u8x32) -> u8x32
-    ensures { AreLanesOf 32 result (λ k. crossed_lane front back (2 * k + 1)) }
+    ensures { AreLanes 32 result (λ k. crossed_lane front back (2 * k + 1)) }
 {
     front.shuffle(
         back,

@@ -24,6 +24,6 @@ pub(crate) use core::{array, ascii, borrow, char, cmp, convert, error, fmt, hash
 pub(crate) mod wide {
     pub(crate) use super::{alloc, cmp, fmt, io, marker, mem, ops};
     pub(crate) mod simd {
-        pub(crate) use crate::support::simd::wide as prelude;
+        pub(crate) use crate::support::simd::{wide as prelude, ToBytes};
     }
 }

@@ -364,7 +364,7 @@ impl<const N: usize, const BY_32: bool> Add for Simd<u8, N, BY_32> {
     }
 }
 
-// All lanes are shifted by the same number, which is below eight (or sixteen): no other shift occurs.
+// All lanes are shifted by the same number, which is below eight: no other shift occurs.
 impl<const N: usize, const BY_32: bool> Shr for Simd<u8, N, BY_32> {
     type Output = Self;
     #[inline(always)]
@@ -382,16 +382,6 @@ impl<const N: usize, const BY_32: bool> Shl for Simd<u8, N, BY_32> {
         is_one_shift(&by.0, 8);
         let n = by.0[0];
         each!(self, self, |a, _b| left(a, n))
-    }
-}
-
-impl<const N: usize, const BY_32: bool> Shr for Simd<u16, N, BY_32> {
-    type Output = Self;
-    #[inline(always)]
-    fn shr(self, by: Self) -> Self {
-        is_one_shift(&by.0, 16);
-        let n = by.0[0];
-        each!(self, self, |a, _b| right_16(a, n))
     }
 }
 
@@ -537,14 +527,24 @@ impl<const N: usize, const BY_32: bool> Simd<u8, N, BY_32> {
     }
 }
 
-impl<const N: usize, const BY_32: bool> Simd<u16, N, BY_32> {
+/// What lanes of more than a byte are in memory.
+pub(crate) trait ToBytes {
+    type Bytes;
+
+    fn to_le_bytes(self) -> Self::Bytes;
+}
+
+impl<const BY_32: bool> ToBytes for Simd<u16, 8, BY_32> {
+    type Bytes = Simd<u8, 16, BY_32>;
+
     #[inline(always)]
-    pub fn simd_eq(self, other: Self) -> Mask<u16, N, BY_32> {
-        Mask(each!(self, other, |a, b| eq_16(a, b)).0)
-    }
-    #[inline(always)]
-    pub fn simd_ne(self, other: Self) -> Mask<u16, N, BY_32> {
-        Mask(each!(self, other, |a, b| xor(eq_16(a, b), splat(255))).0)
+    fn to_le_bytes(self) -> Self::Bytes {
+        let mut bytes = self.0;
+        for lane in &mut bytes {
+            *lane = lane.to_le();
+        }
+        // SAFETY: eight lanes of two bytes are sixteen bytes, and a byte takes any bits.
+        Simd(unsafe { core::mem::transmute::<[u16; 8], [u8; 16]>(bytes) })
     }
 }
 
@@ -569,7 +569,7 @@ impl<T: Copy, const N: usize, const BY_32: bool> Mask<T, N, BY_32> {
         out
     }
 
-    /// A bit for each lane. Of lanes of two bytes there are two bits: such a mask is only compared with 0 here.
+    /// A bit for each lane.
     #[inline(always)]
     pub fn to_bitmask(self) -> u64 {
         let lanes = Simd::<T, N, BY_32>(self.0);

@@ -14,7 +14,6 @@ instructions! {
     sub_or_0 = _mm256_subs_epu8;
     max = _mm256_max_epu8;
     eq = _mm256_cmpeq_epi8;
-    eq_16 = _mm256_cmpeq_epi16;
     at = _mm256_shuffle_epi8;
 }
 

@@ -26,12 +26,6 @@ each! {
     eq = |a, b| if a == b { 255 } else { 0 };
 }
 
-/// The same of units of two bytes.
-#[inline(always)]
-pub(crate) fn eq_16(a: Block, b: Block) -> Block {
-    core::array::from_fn(|k| if a[k] == b[k] && a[k ^ 1] == b[k ^ 1] { 255 } else { 0 })
-}
-
 /// The first eight bytes of both, by turns.
 #[inline(always)]
 pub(crate) fn low_by_turns(a: Block, b: Block) -> Block {
@@ -76,12 +70,6 @@ pub(crate) fn right(a: Block, n: u8) -> Block {
 #[inline(always)]
 pub(crate) fn left(a: Block, n: u8) -> Block {
     a.map(|it| it << n)
-}
-
-/// Each unit of two bytes, in the processor's order, by so many bits, fewer than sixteen.
-#[inline(always)]
-pub(crate) fn right_16(a: Block, n: u16) -> Block {
-    core::array::from_fn(|k| (u16::from_ne_bytes([a[k & !1], a[k | 1]]) >> n).to_ne_bytes()[k % 2])
 }
 
 /// The bytes at even places, of the first and then of the second.

@@ -1,4 +1,4 @@
-//! Sixteen bytes at a time on ARM64, whose every processor has NEON. (Little-endian alone: a block is read as units of two bytes too.)
+//! Sixteen bytes at a time on ARM64, whose every processor has NEON. (Little-endian alone.)
 //!
 //! Each `unsafe` here calls an instruction that the processor has.
 use core::arch::aarch64::*;
@@ -18,12 +18,6 @@ instructions! {
     at = vqtbl1q_u8;
     evens = vuzp1q_u8;
     odds = vuzp2q_u8;
-}
-
-#[inline(always)]
-pub(crate) fn eq_16(a: Block, b: Block) -> Block {
-    // SAFETY: see the module.
-    unsafe { vreinterpretq_u8_u16(vceqq_u16(vreinterpretq_u16_u8(a), vreinterpretq_u16_u8(b))) }
 }
 
 #[inline(always)]
@@ -58,10 +52,4 @@ pub(crate) fn right(a: Block, n: u8) -> Block {
 pub(crate) fn left(a: Block, n: u8) -> Block {
     // SAFETY: see the module.
     unsafe { vshlq_u8(a, vdupq_n_s8(n as i8)) }
-}
-
-#[inline(always)]
-pub(crate) fn right_16(a: Block, n: u16) -> Block {
-    // SAFETY: see the module.
-    unsafe { vreinterpretq_u8_u16(vshlq_u16(vreinterpretq_u16_u8(a), vdupq_n_s16(-(n as i16)))) }
 }

@@ -20,7 +20,6 @@ each! {
     sub_or_0 = u8x16_sub_sat;
     max = u8x16_max;
     eq = u8x16_eq;
-    eq_16 = u16x8_eq;
     at = u8x16_swizzle;
 }
 
@@ -57,11 +56,6 @@ pub(crate) fn right(a: Block, n: u8) -> Block {
 #[inline(always)]
 pub(crate) fn left(a: Block, n: u8) -> Block {
     u8x16_shl(a, u32::from(n))
-}
-
-#[inline(always)]
-pub(crate) fn right_16(a: Block, n: u16) -> Block {
-    u16x8_shr(a, u32::from(n))
 }
 
 #[inline(always)]

@@ -14,7 +14,6 @@ instructions! {
     sub_or_0 = _mm_subs_epu8;
     max = _mm_max_epu8;
     eq = _mm_cmpeq_epi8;
-    eq_16 = _mm_cmpeq_epi16;
     low_by_turns = _mm_unpacklo_epi8;
     high_by_turns = _mm_unpackhi_epi8;
 }

@@ -1,5 +1,5 @@
 //! The blocks of this processor beside those lane by lane: each call, on all values of a byte, all places and all shifts.
-use super::{block_of, by, lane_by_lane, Simd};
+use super::{block_of, by, lane_by_lane, Simd, ToBytes};
 
 fn bytes_of(block: by::Block) -> [u8; 16] {
     let mut out: Simd<u8, 16> = Simd([0; 16]);
@@ -27,7 +27,7 @@ fn calls_on_all_pairs_of_bytes() {
                     assert_eq!(is, want, concat!(stringify!($name), " of {:x} and {:x}"), a, b);
                 )* };
             }
-            same!(and, or, xor, add, sub_or_0, max, eq, eq_16, low_by_turns, high_by_turns, evens, odds);
+            same!(and, or, xor, add, sub_or_0, max, eq, low_by_turns, high_by_turns, evens, odds);
             assert_eq!(bytes_of(by::splat(a)), lane_by_lane::splat(a));
         }
     }
@@ -45,13 +45,23 @@ fn calls_on_other_bytes() {
         }
         let mask = x.map(|it| if it % 2 == 0 { 255 } else { 0 });
         let (a, b) = (block_of(&x), block_of(&y));
-        assert_eq!(bytes_of(by::eq_16(a, b)), lane_by_lane::eq_16(x, y));
+        assert_eq!(bytes_of(by::eq(a, b)), lane_by_lane::eq(x, y));
         assert_eq!(bytes_of(by::low_by_turns(a, b)), lane_by_lane::low_by_turns(x, y));
         assert_eq!(bytes_of(by::high_by_turns(a, b)), lane_by_lane::high_by_turns(x, y));
         assert_eq!(bytes_of(by::evens(a, b)), lane_by_lane::evens(x, y));
         assert_eq!(bytes_of(by::odds(a, b)), lane_by_lane::odds(x, y));
         assert_eq!(bytes_of(by::select(block_of(&mask), a, b)), lane_by_lane::select(mask, x, y));
         assert_eq!(by::high_bits(a), lane_by_lane::high_bits(x));
+    }
+}
+
+#[test]
+fn bytes_of_units() {
+    let mut seed = 4;
+    for _ in 0..2_000 {
+        let x = some(&mut seed);
+        let units = core::array::from_fn(|k| u16::from_le_bytes([x[2 * k], x[2 * k + 1]]));
+        assert_eq!(Simd::<u16, 8>::from_array(units).to_le_bytes().to_array(), x);
     }
 }
 
@@ -76,9 +86,6 @@ fn all_shifts() {
         for n in 0..8 {
             assert_eq!(bytes_of(by::right(block_of(&x), n)), lane_by_lane::right(x, n));
             assert_eq!(bytes_of(by::left(block_of(&x), n)), lane_by_lane::left(x, n));
-        }
-        for n in 0..16 {
-            assert_eq!(bytes_of(by::right_16(block_of(&x), n)), lane_by_lane::right_16(x, n));
         }
     }
 }

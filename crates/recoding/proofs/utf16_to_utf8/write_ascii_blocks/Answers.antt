@@ -1,10 +1,8 @@
-use Rattle.std.proofs.Common.{drop, arith, length-drop}
+use Rattle.std.proofs.Common.{arith}
 use Rattle.std.proofs.lemmas.List.{take_rest}
-use Rattle.recoding.proofs.CopiedUnits.{rest_fits}
 use Rattle.recoding.proofs.Forms.{is_utf16}
-use Rattle.recoding.proofs.RoomRuns.{FillsPlace-more, FillsPlace-units}
-use Rattle.recoding.proofs.TextRuns.{PutsText-after, PutsText-start}
-use Rattle.recoding.proofs.Utf16ToUtf8.{PutsText-narrowed}
+use Rattle.recoding.proofs.TextRuns.{PutsText-start}
+use Rattle.recoding.proofs.Utf16ToUtf8.{FillsPlace-block}
 use Rattle.recoding.proofs.utf16_to_utf8.write_ascii_blocks.Goals as goal
 
 pub loop-place-init : goal.loop-place-init
@@ -12,13 +10,7 @@ loop-place-init g c = PutsText-start c.requires
 
 pub loop-place-preserved : goal.loop-place-preserved
 loop-place-preserved g c =
-    let before = c.loop-place.invariant in
-    let bytes = c.args.bytes.now in
-    let place = c.loop-place.place in
-    let halves = rw (take_rest bytes place) at c.thirty_two_halves.ensures.units in
+    let halves = rw (take_rest c.args.bytes.now c.loop-place.place) at c.thirty_two_halves.ensures.units in
     let put = c.write_ascii_units-end.ensures in
     let fits = put.fits in
-    let block =
-    PutsText-narrowed _ _ (drop place bytes) _ 32 (is_utf16 _) (rest_fits bytes place c.type_inv.bytes) (omega (arith, length-drop place bytes))
-    (λ k lt. halves k lt) put.text (FillsPlace-units put before.appended.fits (omega arith)) in
-    PutsText-after FillsPlace-more before block
+    FillsPlace-block _ (is_utf16 _) c.type_inv.bytes c.loop-place.invariant (omega arith) (λ k lt. halves k (omega arith)) put (omega arith)

@@ -1,5 +1,5 @@
 use Rattle.std.proofs.Common.{sym, ◌∙◌, arith}
-use Rattle.utf_lanes.proofs.AsciiUnits.{nuls_first, nuls_second}
+use Rattle.utf_lanes.proofs.AsciiTexts.{nuls_first, nuls_second}
 use Rattle.utf_lanes.proofs.ascii_texts.interleave_zeros.Goals as goal
 
 pub returns-then-HIGH_FIRST-clause-first : goal.returns-then-HIGH_FIRST-clause-first

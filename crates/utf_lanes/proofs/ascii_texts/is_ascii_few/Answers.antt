@@ -1,5 +1,5 @@
 use Rattle.std.proofs.Common.{◌<◌, get_or, arith}
-use Rattle.utf_lanes.proofs.EndLanes.{ascii_ends, below_16, ends_ascii}
+use Rattle.utf_lanes.proofs.FewBytes.{ascii_ends, below_16, ends_ascii}
 use Rattle.utf_lanes.proofs.ascii_texts.is_ascii_few.Goals as goal
 
 pub returns-then-bytes-lt8-clause-ascii : goal.returns-then-bytes-lt8-clause-ascii

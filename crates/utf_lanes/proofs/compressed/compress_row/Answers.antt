@@ -1,6 +1,5 @@
 use Rattle.std.proofs.Common.{arith, true, false}
-use Rattle.utf_lanes.proofs.CompressLanes.{row_len, slots_right, ends_right}
-use Rattle.utf_lanes.proofs.CompressRows.{is_row}
+use Rattle.utf_lanes.proofs.CompressRows.{row_len, slots_right, ends_right, is_row}
 use Rattle.utf_lanes.specs.UnitCodes.{row_places}
 use Rattle.utf_lanes.specs.declared.shuffles.TheConstants.{COMPRESS_ENDS, COMPRESS_LANES}
 use Rattle.utf_lanes.proofs.compressed.compress_row.Goals as goal

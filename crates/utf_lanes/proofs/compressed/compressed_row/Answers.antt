@@ -1,6 +1,5 @@
 use Rattle.std.proofs.Common.{rules}
-use Rattle.utf_lanes.proofs.CompressLanes.{kept_row}
-use Rattle.utf_lanes.proofs.CompressRows.{in_vector}
+use Rattle.utf_lanes.proofs.CompressRows.{kept_row, in_vector}
 use Rattle.utf_lanes.proofs.compressed.compressed_row.Goals as goal
 
 pub swizzle : goal.swizzle

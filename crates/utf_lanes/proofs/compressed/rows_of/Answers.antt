@@ -1,10 +1,11 @@
 use Rattle.std.proofs.Common.{◌++◌, ap₂, ◌∙◌, arith, ◌<◌}
 use Rattle.utf_lanes.proofs.BlockUnits.{first_pairs, last_pairs, first_pairs_at, last_pairs_at}
-use Rattle.utf_lanes.proofs.SlotLanes.{kept_mask, kept_most, narrow_rows}
+use Rattle.utf_lanes.proofs.LaneLemmas.{reach_mask, reach_most}
+use Rattle.utf_lanes.proofs.SlotLanes.{narrow_rows}
 use Rattle.utf_lanes.proofs.compressed.rows_of.Goals as goal
 
 pub compressed_row-requires-2 : goal.compressed_row-requires-2
-compressed_row-requires-2 c = let most : kept_mask 16 c.args.fronts < 65536 = kept_most (omega arith) c.args.fronts c.fits-fronts.0 in omega arith
+compressed_row-requires-2 c = let most : reach_mask 16 0x80 c.args.fronts < 65536 = reach_most 0x80 c.args.fronts (omega arith) c.fits-fronts.0 in omega arith
 
 pub returns-clause-bytes : goal.returns-clause-bytes
 returns-clause-bytes c =

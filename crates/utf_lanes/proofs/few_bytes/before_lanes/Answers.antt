@@ -1,5 +1,5 @@
 use Rattle.std.proofs.Common.{refl}
-use Rattle.utf_lanes.proofs.EndLanes.{below_16}
+use Rattle.utf_lanes.proofs.FewBytes.{below_16}
 use Rattle.utf_lanes.proofs.BlockUnits.{below_8}
 use Rattle.utf_lanes.proofs.few_bytes.before_lanes.Goals as goal
 

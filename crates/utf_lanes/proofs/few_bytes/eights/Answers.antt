@@ -1,7 +1,7 @@
 use Rattle.std.proofs.Common.{◌-◌, ◌++◌, length, take, arith, ap, ◌∙◌, length-take, length-append, get_or}
 use Rattle.std.proofs.lemmas.Simd.{pick_l_whole, length-chunk}
 use lib.Lanes.{chunk}
-use Rattle.utf_lanes.proofs.EndLanes.{ends_at}
+use Rattle.utf_lanes.proofs.FewBytes.{ends_at}
 use Rattle.utf_lanes.proofs.few_bytes.eights.Goals as goal
 
 pub returns-clause-lanes : goal.returns-clause-lanes

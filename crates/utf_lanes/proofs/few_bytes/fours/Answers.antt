@@ -1,6 +1,6 @@
 use Rattle.std.proofs.Common.{lit<, refl}
 use Rattle.utf_lanes.proofs.BlockUnits.{below_8}
-use Rattle.utf_lanes.proofs.EndLanes.{ends_at}
+use Rattle.utf_lanes.proofs.FewBytes.{ends_at}
 use Rattle.utf_lanes.proofs.few_bytes.fours.Goals as goal
 
 pub returns-clause-twice : goal.returns-clause-twice

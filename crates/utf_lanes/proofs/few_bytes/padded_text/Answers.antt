@@ -1,7 +1,7 @@
 use Rattle.std.proofs.Common.{◌≡◌, ◌-◌, length, arith, refl}
 use Rattle.std.proofs.lemmas.Bool.{lt-ltb, le-ltb}
 use Rattle.utf_lanes.specs.declared.shuffles.TheConstants.{PADDED_ROWS}
-use Rattle.utf_lanes.proofs.EndLanes.{padded_row}
+use Rattle.utf_lanes.proofs.FewBytes.{padded_row}
 use Rattle.utf_lanes.proofs.few_bytes.padded_text.Goals as goal
 
 pub returns-then-bytes-lt8 : goal.returns-then-bytes-lt8

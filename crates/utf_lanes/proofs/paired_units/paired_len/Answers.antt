@@ -1,7 +1,6 @@
 use Rattle.std.proofs.Common.{◌∙◌, arith, sym, eqb-true, length, true≢false, inl, inr}
 use Rattle.std.proofs.lemmas.Bool.{cases_lt}
-use Rattle.utf_lanes.proofs.CodedUnits.{front_codes, front_codes_less}
-use Rattle.utf_lanes.proofs.PairedCodes.{codes_first_paired}
+use Rattle.utf_lanes.proofs.CodedUnits.{front_codes, front_codes_less, codes_first_paired}
 use Rattle.utf_lanes.proofs.paired_units.paired_len.Goals.{then-is_empty-via-then-is_empty, then-is_empty-via-else-is_empty+then-is_trailing_surrogate}
 use Rattle.utf_lanes.proofs.paired_units.paired_len.Goals as goal
 

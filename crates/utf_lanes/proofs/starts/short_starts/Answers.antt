@@ -9,8 +9,8 @@ pub loop-place-preserved : goal.loop-place-preserved
 loop-place-preserved c =
     let xs = c.args.bytes.now in
     let place = c.loop-place.place in
-    let count : c.loop-place.starts + c.short_lane_starts-starts.result ≡ start_count (take (place + 16) xs)
-    = ap₂ (λ a b. a + b) c.loop-place.invariant.1 c.short_lane_starts-starts.ensures ∙ sym (starts_more xs place 16) in
+    let count : c.loop-place.starts + c.lane_starts-starts.result ≡ start_count (take (place + 16) xs)
+    = ap₂ (λ a b. a + b) c.loop-place.invariant.1 c.lane_starts-starts.ensures ∙ sym (starts_more xs place 16) in
     let few : start_count (take (place + 16) xs) ≤ length (take (place + 16) xs) = count_by-le-length is_start (take (place + 16) xs) in
     (omega arith, count, omega (arith, length-take (place + 16) xs))
 

@@ -1,5 +1,5 @@
 use Rattle.std.proofs.Common.{arith}
-use Rattle.utf_lanes.proofs.EndLanes.{past_follow}
+use Rattle.utf_lanes.proofs.FewBytes.{past_follow}
 use Rattle.utf_lanes.proofs.text_blocks.faults_at_front.Goals as goal
 
 pub returns-clause-lanes : goal.returns-clause-lanes

@@ -4,8 +4,7 @@ use Rattle.std.proofs.lemmas.Nat.{and_mask}
 use Rattle.utf_base.specs.Scalar.{IsScalar}
 use Rattle.utf_base.proofs.FrontLemmas.{asked-4, least_value-4}
 use Rattle.utf_base.proofs.KindCases.{begins_with}
-use Rattle.utf_lanes.proofs.ValueSums.{four_sum}
-use Rattle.utf_lanes.proofs.NoneBegins.{none_by_continuation_byte, none_by_front_of_four}
+use Rattle.utf_lanes.proofs.TextFronts.{four_sum, none_by_continuation_byte, none_by_front_of_four}
 use Rattle.utf_lanes.proofs.text_front.four.Goals.{then-front-via-then-front, then-front-via-else-front+then-front-2}
 use Rattle.utf_lanes.proofs.text_front.four.Goals.{then-not-is_continuation-via-then-not-is_continuation, then-not-is_continuation-via-else-not-is_continuation+then-not-is_continuation-2}
 use Rattle.utf_lanes.proofs.text_front.four.Goals as goal

@@ -1,7 +1,7 @@
 use Rattle.std.proofs.Common.{◌<◌, length, Ok, ap, arith, sym, ◌∙◌}
 use Rattle.utf_base.proofs.DecodedLemmas.{decoded_code}
 use Rattle.utf_base.proofs.KindCases.{begins_with-1}
-use Rattle.utf_lanes.proofs.NoneBegins.{none_by_second}
+use Rattle.utf_lanes.proofs.TextFronts.{none_by_second}
 use Rattle.utf_lanes.proofs.text_front.front_of_text.Goals as goal
 
 pub returns-then-src-lt128-clause-some : goal.returns-then-src-lt128-clause-some

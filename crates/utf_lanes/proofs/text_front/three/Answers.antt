@@ -2,8 +2,7 @@ use Rattle.std.proofs.Common.{◌≤◌, ◌∙◌, lit<, arith, sym}
 use Rattle.utf_base.specs.Scalar.{IsScalar}
 use Rattle.utf_base.proofs.FrontLemmas.{asked-3, least_value-3}
 use Rattle.utf_base.proofs.KindCases.{begins_with}
-use Rattle.utf_lanes.proofs.ValueSums.{three_sum}
-use Rattle.utf_lanes.proofs.NoneBegins.{none_by_continuation_byte, none_by_surrogate, none_by_value}
+use Rattle.utf_lanes.proofs.TextFronts.{three_sum, none_by_continuation_byte, none_by_surrogate, none_by_value}
 use Rattle.utf_lanes.proofs.text_front.three.Goals as goal
 
 pub returns-then-front-clause-none : goal.returns-then-front-clause-none

@@ -4,7 +4,7 @@ use Rattle.utf_base.specs.Kinds.{is_continuation}
 use Rattle.utf_base.specs.Scalar.{IsScalar}
 use Rattle.utf_base.proofs.FrontLemmas.{least_value-below_3}
 use Rattle.utf_base.proofs.KindCases.{Asks-2, Sums-2, begins_with}
-use Rattle.utf_lanes.proofs.NoneBegins.{none_by_first, none_by_second}
+use Rattle.utf_lanes.proofs.TextFronts.{none_by_first, none_by_second}
 use Rattle.utf_lanes.proofs.text_front.two.Goals as goal
 
 pub returns-then-second-ge64-clause-none : goal.returns-then-second-ge64-clause-none

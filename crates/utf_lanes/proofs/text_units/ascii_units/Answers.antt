@@ -1,5 +1,5 @@
 use Rattle.std.proofs.Common.{◌≡◌, ◌+◌, ◌∙◌, arith}
-use Rattle.utf_lanes.proofs.AsciiUnits.{ascii_given}
+use Rattle.utf_lanes.proofs.AsciiTexts.{ascii_given}
 use Rattle.utf_lanes.proofs.text_units.ascii_units.Goals as goal
 
 pub returns-clause-first : goal.returns-clause-first

@@ -1,5 +1,4 @@
-use Rattle.utf_lanes.proofs.CompressPairs.{pairs_len, pairs_right}
-use Rattle.utf_lanes.proofs.CompressRows.{is_row}
+use Rattle.utf_lanes.proofs.CompressRows.{pairs_len, pairs_right, is_row}
 use Rattle.utf_lanes.specs.Utf8ToUtf16.{places_at}
 use Rattle.utf_lanes.specs.declared.shuffles.TheConstants.{COMPRESS_PAIRS}
 use Rattle.utf_lanes.proofs.text_units.compress_places.Goals as goal

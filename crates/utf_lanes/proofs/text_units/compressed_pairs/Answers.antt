@@ -1,6 +1,5 @@
 use Rattle.std.proofs.Common.{arith}
-use Rattle.utf_lanes.proofs.CompressPairs.{kept_pairs}
-use Rattle.utf_lanes.proofs.CompressRows.{in_vector}
+use Rattle.utf_lanes.proofs.CompressRows.{kept_pairs, in_vector}
 use Rattle.utf_lanes.proofs.text_units.compressed_pairs.Goals as goal
 
 pub swizzle : goal.swizzle

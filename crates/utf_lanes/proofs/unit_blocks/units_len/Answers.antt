@@ -4,8 +4,7 @@ use Rattle.utf_base.specs.Units.{is_leading_surrogate}
 use Rattle.std.specs.Prelude.{slice_index}
 use Rattle.utf_lanes.specs.BytePairs.{units_of}
 use Rattle.utf_lanes.specs.UnitBlocks.{AreCodes}
-use Rattle.utf_lanes.proofs.CodedUnits.{before_end, units_codes, units_codes_less, units_front, units_length}
-use Rattle.utf_lanes.proofs.PairedCodes.{codes_first_paired, codes_last}
+use Rattle.utf_lanes.proofs.CodedUnits.{before_end, units_codes, units_codes_less, units_front, units_length, codes_first_paired, codes_last}
 use Rattle.utf_lanes.proofs.unit_blocks.units_len.Goals as goal
 
 pub returns-then-is_utf16_leading_surrogate-clause-codes : goal.returns-then-is_utf16_leading_surrogate-clause-codes

@@ -1,17 +1,11 @@
-use Rattle.std.proofs.Common.{bit_xor}
-use Rattle.utf_lanes.proofs.LaneLemmas.{wide}
-use Rattle.utf_lanes.proofs.UnitPairs.{lanes_pair, low_lanes}
+use Rattle.std.proofs.Common.{◌-◌, arith, refl}
+use Rattle.utf_lanes.specs.BytePairs.{units_of}
+use Rattle.utf_lanes.proofs.UnitPairs.{bytes_loaded, judged_from}
 use Rattle.utf_lanes.proofs.unit_blocks.unpaired.Goals as goal
 
-pub returns-clause-len : goal.returns-clause-len
-returns-clause-len g c = wide bit_xor _ _ c.where_equal.ensures.wide c.where_equal-2.ensures.wide
-
-pub returns-clause-lanes : goal.returns-clause-lanes
-returns-clause-lanes g c =
-    lanes_pair g.E.ByteOrder.HIGH_FIRST c.args.bytes.now c.type_inv.bytes c.args.place c.requires.start c.requires.within c.upper_bits-bits.result c.upper_bits-bits.ensures.len c.upper_bits-bits.ensures.lanes
-    c.where_equal.ensures c.where_equal-2.ensures
-
-pub returns-clause-others : goal.returns-clause-others
-returns-clause-others g c =
-    low_lanes g.E.ByteOrder.HIGH_FIRST c.args.bytes.now c.type_inv.bytes c.args.place c.requires.start c.requires.within c.upper_bits-bits.result c.upper_bits-bits.ensures.len c.upper_bits-bits.ensures.lanes
-    c.where_equal.ensures c.where_equal-2.ensures c.upper_bits-bits.ensures.others
+pub returns : goal.returns
+returns g c =
+    let high = g.E.ByteOrder.HIGH_FIRST in
+    let bytes = c.args.bytes.now in
+    let place = c.args.place in
+    judged_from (units_of high bytes) place c.requires.start c.unpaired_lanes.ensures (bytes_loaded high bytes _ (place - 1) (omega arith) (omega arith)) (bytes_loaded high bytes _ place refl (omega arith))

@@ -1,9 +1,12 @@
-use Rattle.std.proofs.Common.{w8}
-use Rattle.utf_lanes.proofs.SameLanes.{where_same_len, where_same_at}
+use Rattle.std.proofs.Common.{eqb, cond, get_or, replicate, ap₂, refl, ◌∙◌}
+use Rattle.std.proofs.lemmas.Simd.{get_or-replicate}
+use Rattle.utf_lanes.proofs.PassedLanes.{where_passed_len, where_passed_at}
 use Rattle.utf_lanes.proofs.unit_blocks.where_equal.Goals as goal
 
 pub returns : goal.returns
 returns c = record {
-  wide = where_same_len w8 16 255 c.args.lanes c.args.byte c.fits-lanes.0;
-  each = where_same_at w8 16 255 c.args.lanes c.args.byte c.fits-lanes.0;
+  wide = where_passed_len 16 eqb c.args.lanes c.args.byte (replicate 16 255) (replicate 16 0) c.fits-lanes.0 refl refl;
+  each = λ k lt.
+      where_passed_at 16 eqb c.args.lanes c.args.byte (replicate 16 255) (replicate 16 0) c.fits-lanes.0 refl refl k lt
+      ∙ ap₂ (cond (eqb (get_or c.args.lanes k 0) c.args.byte)) (get_or-replicate 16 k 255 0 lt) (get_or-replicate 16 k 0 0 lt);
 }

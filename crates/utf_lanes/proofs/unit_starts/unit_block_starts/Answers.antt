@@ -1,4 +1,4 @@
-use Rattle.std.proofs.Common.{◌≡◌, ◌+◌, arith, ap, sym, ◌∙◌}
+use Rattle.std.proofs.Common.{◌≡◌, ◌+◌, arith, ap, ◌∙◌}
 use mir.Val.{bool_byte}
 use Rattle.utf_lanes.specs.UnitStarts.{is_unit_start, unit_start_count}
 use Rattle.utf_lanes.proofs.UnitStartLemmas.{places_told, told_few}

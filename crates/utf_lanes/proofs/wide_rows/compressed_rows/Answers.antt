@@ -1,5 +1,5 @@
 use Rattle.std.proofs.Common.{take, ap, ◌∙◌, rules}
-use Rattle.utf_lanes.proofs.CompressLanes.{front_row, back_row}
+use Rattle.utf_lanes.proofs.CompressRows.{front_row, back_row}
 use Rattle.utf_lanes.proofs.WideShuffles.{in_halves}
 use Rattle.utf_lanes.proofs.wide_rows.compressed_rows.Goals as goal
 

@@ -1,6 +1,6 @@
 use Rattle.std.proofs.Common.{◌++◌, arith, refl, sym, subst, length-append, w8}
 use Rattle.std.proofs.lemmas.Simd.{pick_l_whole, swz_l}
-use Rattle.utf_lanes.specs.LookUps.{AreLookedUp}
+use Rattle.utf_lanes.specs.Lanes.{AreLookedUp}
 use Rattle.utf_lanes.proofs.LookUps.{places_ok, looked_up_twice}
 use Rattle.utf_lanes.proofs.look_ups.U8x32LookUp32.look_up.Goals as goal
 
