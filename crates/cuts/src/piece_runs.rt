@@ -10,6 +10,7 @@ use crate::first_pieces::{Front, front_of};
 use crate::located::{FromPiece, Spot};
 use recoding::form::Form;
 use utf_lanes::ascii_texts::is_ascii;
+use utf_lanes::byte_order::{BigEndian, LittleEndian};
 use utf_lanes::text_blocks::text_len;
 use utf_lanes::text_front::front_of_text;
 use utf_lanes::unit_blocks::units_len;
@@ -106,8 +107,8 @@ fn front_text_len(form: Form, bytes: &[u8]) -> usize
 {
     match form {
         Form::Utf8 => text_len(bytes),
-        Form::Utf16Le => 2 * units_len(false, bytes),
-        Form::Utf16Be => 2 * units_len(true, bytes),
+        Form::Utf16Le => 2 * units_len::<LittleEndian>(bytes),
+        Form::Utf16Be => 2 * units_len::<BigEndian>(bytes),
     }
 }
 
