@@ -8,7 +8,7 @@ use Rattle.utf_base.specs.Scalar.{IsScalar}
 use Rattle.utf_base.proofs.Utf8Code.{utf8-1, ascii_is_scalar}
 use Rattle.utf_base.proofs.Utf16Code.{utf16-1}
 use Rattle.recoding.specs.declared.form.Form.{Form}
-use Rattle.recoding.specs.declared.form.Form.TheVariants.{Utf8, Utf16Le, Utf16Be}
+use Rattle.recoding.specs.declared.form.Form.TheVariants.{Utf8}
 use Rattle.recoding.specs.Recoded.{written}
 use Rattle.recoding.specs.NextScalars.{HasByteOrder}
 use Rattle.utf_lanes.specs.Utf8ToUtf16.{concat_range, halves}
@@ -16,6 +16,8 @@ use Rattle.recoding.specs.Strict.{PutsText}
 use Rattle.utf_lanes.specs.AsciiTexts.{AreAscii}
 use Rattle.recoding.specs.UnitRuns.{widened}
 use Rattle.utf_lanes.proofs.Joined.{joined_add}
+use Rattle.utf_lanes.specs.BytePairs.{bytes_of}
+use Rattle.recoding.proofs.CopiedUnits.{as_written}
 
 -- What was written.
 
@@ -66,16 +68,12 @@ block_widened high v first second n long e f =
 
 -- Its codes.
 
+unit_bytes : (high : Bool) (b : ℕ) → b < 0x80 → flat_map (bytes_of high) (b ∷ []) ≡ halves high b 0
+unit_bytes true b lt = let high_byte : b / 256 ≡ 0 = omega arith in let low_byte : b % 256 ≡ b = omega arith in rw (high_byte, low_byte) refl
+unit_bytes false b lt = let high_byte : b / 256 ≡ 0 = omega arith in let low_byte : b % 256 ≡ b = omega arith in rw (high_byte, low_byte) refl
+
 unit_written : (high : Bool) (to : Form) (b : ℕ) → HasByteOrder high to → b < 0x80 → written to b ≡ halves high b 0
-unit_written high Utf8 b form lt = absurd form
-unit_written high Utf16Le b form lt =
-    let high_byte : b / 256 ≡ 0 = omega arith in
-    let low_byte : b % 256 ≡ b = omega arith in
-    rw (form, utf16-1 b (omega arith), high_byte, low_byte) refl
-unit_written high Utf16Be b form lt =
-    let high_byte : b / 256 ≡ 0 = omega arith in
-    let low_byte : b % 256 ≡ b = omega arith in
-    rw (form, utf16-1 b (omega arith), high_byte, low_byte) refl
+unit_written high to b form lt = as_written high to b form ∙ rw (utf16-1 b (omega arith)) (unit_bytes high b lt)
 
 units_written : (high : Bool) (to : Form) (xs : List ℕ) → HasByteOrder high to → AreAscii xs 0 (length xs) → flat_map (written to) xs ≡ widened high xs
 units_written high to [] form low = refl

@@ -1,12 +1,8 @@
 -- Blocks of eight units of ASCII, and what bytes of units show.
 use Rattle.std.proofs.Common.{◌≡◌, ℕ, zero, suc, ◌-◌, ◌*◌, ◌%◌, ◌<◌, Bool, List, [], ◌∷◌, ◌++◌, map, length, get_or, arith, refl, ap, ap₂, ◌∙◌}
-use Rattle.recoding.specs.declared.form.Form.{Form}
-use Rattle.recoding.specs.declared.form.Form.TheVariants.{Utf8, Utf16Le, Utf16Be}
 use Rattle.utf_lanes.specs.AsciiTexts.{AreAscii}
-use Rattle.recoding.specs.NextScalars.{HasByteOrder}
-use Rattle.recoding.specs.Recoded.{Reads, ShowsUnits, odd_end}
+use Rattle.recoding.specs.Recoded.{odd_end}
 use Rattle.utf_lanes.specs.BytePairs.{unit_of, units_of}
-use Rattle.recoding.specs.NextScalars.{ShowsEach}
 use Rattle.recoding.proofs.Listed.{listed}
 
 -- What bytes of units show.
@@ -20,11 +16,6 @@ pub odd_append : (v later : List ℕ) (k : ℕ) → length v ≡ 2 * k → odd_e
 odd_append [] later k h = refl
 odd_append (a ∷ []) later k h = absurd (omega arith)
 odd_append (a ∷ b ∷ v) later k h = odd_append v later (k - 1) (omega arith)
-
-pub as_read : (high : Bool) (from : Form) (v ts : List ℕ) → HasByteOrder high from → ShowsEach (ShowsUnits high) v ts → ShowsEach (Reads from) v ts
-as_read high Utf8 v ts form h = absurd form
-as_read high Utf16Le v ts form h = rw form at h
-as_read high Utf16Be v ts form h = rw form at h
 
 -- Eight units of ASCII.
 

@@ -1,7 +1,7 @@
 -- How many bytes come of some bytes at most.
-use Rattle.std.proofs.Common.{◌≡◌, ℕ, zero, suc, ◌+◌, ◌*◌, ◌/◌, ◌<◌, ◌≤◌, ⊎_elim, Bool, true, false, List, [], ◌∷◌, ◌++◌, length, drop, flat_map, Option, Some, None, IfSome, arith, sym, subst, length-append, length-drop}
+use Rattle.std.proofs.Common.{◌≡◌, ℕ, zero, suc, ◌+◌, ◌*◌, ◌/◌, ◌<◌, ◌≤◌, ⊎_elim, Bool, List, [], ◌∷◌, ◌++◌, length, drop, flat_map, Option, Some, None, IfSome, arith, sym, subst, length-append, length-drop}
 use Rattle.std.proofs.lemmas.Grind.{common_steps}
-use Rattle.std.proofs.lemmas.Bool.{cases_lt}
+use Rattle.std.proofs.Math.Nat.{mul-le-mul_left}
 use Rattle.std.proofs.lemmas.List.{append-nil}
 use Rattle.std.proofs.lemmas.List.Concat.{flat_map-append}
 use Rattle.utf_base.specs.Code.{utf8, utf16, IsCode}
@@ -12,26 +12,21 @@ use Rattle.utf_base.proofs.FrontLemmas.{utf8_finds}
 use Rattle.utf_base.proofs.UnitLemmas.{utf16_finds}
 use Rattle.utf_base.proofs.Rests.{shows_none, shows_one, shows_some, code_shows_first, fault_shows_first}
 use Rattle.utf_base.proofs.Utf8Code.{utf8_is_code}
-use Rattle.utf_base.proofs.Utf16Code.{utf16_is_code, utf16-1, utf16-2}
+use Rattle.utf_base.proofs.Utf16Code.{utf16_is_code}
 use Rattle.recoding.specs.declared.form.Form.{Form}
-use Rattle.recoding.specs.declared.form.Form.TheVariants.{Utf8, Utf16Le, Utf16Be}
-use Rattle.utf_lanes.specs.BytePairs.{units_of, bytes_of}
-use Rattle.recoding.specs.Recoded.{odd_end, written, IsRecoded}
+use Rattle.recoding.specs.declared.form.Form.TheVariants.{Utf8}
+use Rattle.recoding.proofs.Forms.{by_form, form_words, is_units}
+use Rattle.utf_lanes.specs.BytePairs.{units_of}
+use Rattle.recoding.specs.Recoded.{Reads, odd_end, written, IsRecoded}
 use Rattle.recoding.specs.Rooms.{widest, parts_of, most_bytes, IsRoomFor}
-use Rattle.recoding.proofs.Growing.{length_written}
+use Rattle.recoding.proofs.Growing.{length_units, length_written, two_bytes, two_units}
 
 -- How long one code is.
 
-bytes_of_units : (high : Bool) (s n : ℕ) → 0 < n → (0x1_0000 ≤ s → 2 ≤ n) → length (flat_map (bytes_of high) (utf16 s)) ≤ 2 * n
-bytes_of_units true s n some wide =
-    ⊎_elim (λ (low : s < 0x1_0000). rw (utf16-1 s low) (omega arith)) (λ (high : 0x1_0000 ≤ s). let two = wide high in rw (utf16-2 s high) (omega arith)) (cases_lt s 0x1_0000)
-bytes_of_units false s n some wide =
-    ⊎_elim (λ (low : s < 0x1_0000). rw (utf16-1 s low) (omega arith)) (λ (high : 0x1_0000 ≤ s). let two = wide high in rw (utf16-2 s high) (omega arith)) (cases_lt s 0x1_0000)
-
 within_widest : (to : Form) (s n : ℕ) → 0 < n → (0x1_0000 ≤ s → 2 ≤ n) → length (written to s) ≤ widest to * n
-within_widest Utf8 s n some wide = length_written Utf8 s n some wide
-within_widest Utf16Le s n some wide = bytes_of_units false s n some wide
-within_widest Utf16Be s n some wide = bytes_of_units true s n some wide
+within_widest =
+    by_form _ (length_written Utf8)
+    (λ high. rw (is_units high, form_words) (λ s n some wide. omega (arith, two_bytes high (utf16 s), length_units s n some wide)))
 
 -- a scalar above 0xFFFF has two elements or more
 abbrev IsWide : (ℕ → List ℕ) → Type 0
@@ -42,15 +37,17 @@ unfolding utf8
 wide_utf8 s h = grind (arith, common_steps)
 
 wide_utf16 : IsWide utf16
-wide_utf16 s h = rw (utf16-2 s h) (omega arith)
+wide_utf16 s h = omega (arith, two_units s h)
 
 -- What a list shows, by its first piece and the rest.
 
+scaled : (w a b x y n : ℕ) → a ≤ w * x → b ≤ w * y → x + y ≤ n → a + b ≤ w * n
+scaled w a b x y n h i le = omega (arith, mul-le-mul_left w le)
+
 more : (to : Form) (s n rest whole : ℕ) (ss : List ℕ) → length (written to s) ≤ widest to * n → length (flat_map (written to) ss) ≤ widest to * rest → n + rest ≤ whole
     → length (written to s ++ flat_map (written to) ss) ≤ widest to * whole
-more Utf8 s n rest whole ss a b le = omega (arith, length-append (written Utf8 s) (flat_map (written Utf8) ss))
-more Utf16Le s n rest whole ss a b le = omega (arith, length-append (written Utf16Le s) (flat_map (written Utf16Le) ss))
-more Utf16Be s n rest whole ss a b le = omega (arith, length-append (written Utf16Be s) (flat_map (written Utf16Be) ss))
+more to s n rest whole ss a b le =
+    rw (length-append (written to s) (flat_map (written to) ss)) (scaled (widest to) (length (written to s)) (length (flat_map (written to) ss)) n rest whole a b le)
 
 module _ (code : ℕ → List ℕ) (c : IsCode code) (find : Finds code) (wide : IsWide code) (to : Form) where
   abbrev Bounded : List ℕ → List ℕ → Type 0
@@ -95,38 +92,29 @@ odd_bound to [] = omega arith
 odd_bound to (a ∷ []) = more to 0xFFFD 1 0 1 [] (within_widest to 0xFFFD 1 (omega arith) (λ h. omega arith)) (omega arith) (omega arith)
 odd_bound to (a ∷ b ∷ bytes) = odd_bound to bytes
 
-scaled : (to : Form) (a b x y n : ℕ) → a ≤ widest to * x → b ≤ widest to * y → x + y ≤ n → a + b ≤ widest to * n
-scaled Utf8 a b x y n h i le = omega arith
-scaled Utf16Le a b x y n h i le = omega arith
-scaled Utf16Be a b x y n h i le = omega arith
-
 units_bound : (high : Bool) (to : Form) (bytes ts : List ℕ) → Shows utf16 (units_of high bytes) ts
     → length (flat_map (written to) (ts ++ odd_end bytes)) ≤ widest to * ((length bytes + 1) / 2)
 units_bound high to bytes ts h =
     let units = shown_bound utf16 utf16_is_code utf16_finds wide_utf16 to (length (units_of high bytes)) (units_of high bytes) ts (omega arith) h in
-    let all = scaled to (length (flat_map (written to) ts)) (length (flat_map (written to) (odd_end bytes))) (length (units_of high bytes)) (length (odd_end bytes)) ((length bytes + 1) / 2)
+    let all = scaled (widest to) (length (flat_map (written to) ts)) (length (flat_map (written to) (odd_end bytes))) (length (units_of high bytes)) (length (odd_end bytes)) ((length bytes + 1) / 2)
     units (odd_bound to bytes) (units_count high bytes) in
     rw (flat_map-append (written to) ts (odd_end bytes), length-append (flat_map (written to) ts) (flat_map (written to) (odd_end bytes))) all
 
 pub recoded_bound : (from to : Form) (bytes out : List ℕ) → IsRecoded from to bytes out → length out ≤ most_bytes from to (length bytes)
-recoded_bound Utf8 to bytes out (ss, r, e) = rw e (shown_bound utf8 utf8_is_code utf8_finds wide_utf8 to (length bytes) bytes ss (omega arith) r)
-recoded_bound Utf16Le to bytes out (ss, (ts, r, f), e) = rw (e, f) (units_bound false to bytes ts r)
-recoded_bound Utf16Be to bytes out (ss, (ts, r, f), e) = rw (e, f) (units_bound true to bytes ts r)
+recoded_bound from to bytes out (ss, r, e) = rw e (shown_bytes from to bytes ss r)
+  where
+    shown_bytes : (from to : Form) (bytes ss : List ℕ) → Reads from bytes ss → length (flat_map (written to) ss) ≤ most_bytes from to (length bytes)
+    shown_bytes =
+        by_form _ (λ to bytes ss r. shown_bound utf8 utf8_is_code utf8_finds wide_utf8 to (length bytes) bytes ss (omega arith) r)
+        (λ high. rw (is_units high, Reads, parts_of) (λ to bytes ss (ts, r, f). rw f (units_bound high to bytes ts r)))
 
 -- more bytes take no less room
-wider : (to : Form) (a x y : ℕ) → a ≤ widest to * x → x ≤ y → a ≤ widest to * y
-wider Utf8 a x y h le = omega arith
-wider Utf16Le a x y h le = omega arith
-wider Utf16Be a x y h le = omega arith
-
 parts_grow : (from : Form) (m n : ℕ) → m ≤ n → parts_of from m ≤ parts_of from n
-parts_grow Utf8 m n le = le
-parts_grow Utf16Le m n le = omega arith
-parts_grow Utf16Be m n le = omega arith
+parts_grow = by_form _ (λ m n le. le) (λ high. rw (is_units high, parts_of) (λ m n le. omega arith))
 
 pub room_for_all : (from to : Form) (len n : ℕ) → n ≡ most_bytes from to len → IsRoomFor from to len n
 room_for_all from to len n e bytes out le r =
-    rw e (wider to (length out) (parts_of from (length bytes)) (parts_of from len) (recoded_bound from to bytes out r) (parts_grow from (length bytes) len le))
+    rw e (omega (arith, recoded_bound from to bytes out r, mul-le-mul_left (widest to) (parts_grow from (length bytes) len le)))
 
 pub room_for_some : (from to : Form) (len : ℕ) (room : Option ℕ) → IfSome room (λ n. n ≡ most_bytes from to len) → IfSome room (λ n. IsRoomFor from to len n)
 room_for_some from to len (Some n) e = room_for_all from to len n e

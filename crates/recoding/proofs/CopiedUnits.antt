@@ -9,7 +9,7 @@ use Rattle.utf_base.specs.Shown.{Shows}
 use Rattle.utf_base.proofs.Rests.{whole_code_shows_first}
 use Rattle.utf_base.proofs.Utf16Code.{utf16_is_code}
 use Rattle.recoding.specs.declared.form.Form.{Form}
-use Rattle.recoding.specs.declared.form.Form.TheVariants.{Utf8, Utf16Le, Utf16Be}
+use Rattle.recoding.proofs.Forms.{is_units}
 use Rattle.recoding.specs.Recodes.{differ}
 use Rattle.recoding.specs.Recoded.{written}
 use Rattle.utf_lanes.specs.BytePairs.{unit_of, units_of, bytes_of, swapped, turned}
@@ -27,13 +27,14 @@ codes_show (s ∷ cs) later ss all r =
 -- The codes of scalars as bytes are the bytes of their units.
 
 pub as_written : (high : Bool) (to : Form) (s : ℕ) → HasByteOrder high to → written to s ≡ flat_map (bytes_of high) (utf16 s)
-as_written high Utf8 s form = absurd form
-as_written high Utf16Le s form = rw form refl
-as_written high Utf16Be s form = rw form refl
+as_written high to s form = rw (form, is_units high, written) refl
+
+pub joined_bytes : (high : Bool) (cs : List ℕ) → flat_map (λ s. flat_map (bytes_of high) (utf16 s)) cs ≡ flat_map (bytes_of high) (flat_map utf16 cs)
+joined_bytes high [] = refl
+joined_bytes high (s ∷ cs) = ap (λ ys. flat_map (bytes_of high) (utf16 s) ++ ys) (joined_bytes high cs) ∙ sym (flat_map-append (bytes_of high) (utf16 s) (flat_map utf16 cs))
 
 pub all_written : (high : Bool) (to : Form) (cs : List ℕ) → HasByteOrder high to → flat_map (written to) cs ≡ flat_map (bytes_of high) (flat_map utf16 cs)
-all_written high to [] form = refl
-all_written high to (s ∷ cs) form = ap₂ (λ xs ys. xs ++ ys) (as_written high to s form) (all_written high to cs form) ∙ sym (flat_map-append (bytes_of high) (utf16 s) (flat_map utf16 cs))
+all_written high to cs form = rw (form, is_units high, written) (joined_bytes high cs)
 
 -- The bytes of a unit, as they stand or swapped.
 

@@ -10,48 +10,21 @@ use Rattle.utf_base.specs.Code.{utf8, utf16}
 use Rattle.utf_base.specs.Piece.{Piece, IsPiece, IsPieceAt}
 use Rattle.utf_base.specs.Shown.{Shows, shown}
 use Rattle.utf_base.proofs.Utf8Code.{utf8_is_code}
-use Rattle.utf_base.proofs.Utf16Code.{utf16-1, utf16-2}
+use Rattle.utf_base.proofs.Utf16Code.{utf16-1, utf16-2, utf16_is_code}
 use Rattle.utf_lanes.specs.BytePairs.{bytes_of, units_of}
 use Rattle.recoding.specs.declared.form.Form.{Form}
-use Rattle.recoding.specs.declared.form.Form.TheVariants.{Utf8, Utf16Le, Utf16Be}
+use Rattle.recoding.proofs.Forms.{by_form, is_units}
 use Rattle.recoding.specs.Recoded.{Continues, IsProperFront, IsRecoded, Reads, ShowsUnits, odd_end, written}
 use Rattle.recoding.specs.Undecided.{NothingComesEarlier}
 use Rattle.recoding.proofs.FrontBytes.{replacement}
-use Rattle.recoding.proofs.Growing.{recoded_nothing, recoded_once}
+use Rattle.recoding.proofs.Growing.{one_unit, recoded_nothing, recoded_once, two_bytes, two_units}
 use Rattle.recoding.proofs.HeldFronts.{fronts_are_undecided}
 
--- What is shown first is a scalar.
+-- All that is shown is scalars.
 
 scalar_of_piece : (code : ℕ → List ℕ) (xs : List ℕ) (p n : ℕ) (a : Option ℕ) → IsPieceAt code xs p n a → IsScalar (unwrap_or a 0xFFFD)
 scalar_of_piece code xs p n (Some s) h = h.0.scalar
 scalar_of_piece code xs p n None h = replacement
-
-first_of_pieces : (code : ℕ → List ℕ) (xs : List ℕ) (t : ℕ) (ts : List ℕ) (ps : List Piece) → All (λ x. IsPiece code xs x) ps → t ∷ ts ≡ map shown ps → IsScalar t
-first_of_pieces code xs t ts [] h e = absurd cc
-first_of_pieces code xs t ts (x ∷ ps) h e =
-    let head : t ≡ unwrap_or x.char 0xFFFD = ap (λ ys. get_or ys 0 0) e in
-    rw head (scalar_of_piece code xs x.start x.len x.char (h 0 x (omega arith)))
-
-first_shown : (code : ℕ → List ℕ) (xs : List ℕ) (t : ℕ) (ts : List ℕ) → Shows code xs (t ∷ ts) → IsScalar t
-first_shown code xs t ts (ps, cut, e) = first_of_pieces code xs t ts ps (λ k d lt. (cut.pieces k d lt).0) e
-
-odd_scalar : (bytes : List ℕ) (t : ℕ) (ts : List ℕ) → t ∷ ts ≡ odd_end bytes → IsScalar t
-odd_scalar [] t ts e = absurd cc
-odd_scalar (a ∷ []) t ts e = let head : t ≡ 0xFFFD = ap (λ ys. get_or ys 0 0) e in rw head replacement
-odd_scalar (a ∷ b ∷ bytes) t ts e = odd_scalar bytes t ts e
-
-first_of_units : (high : Bool) (bytes : List ℕ) (t : ℕ) (ts : List ℕ) → ShowsUnits high bytes (t ∷ ts) → IsScalar t
-first_of_units high bytes t ts ([], h, e) = odd_scalar bytes t ts e
-first_of_units high bytes t ts (u ∷ us, h, e) =
-    let head : t ≡ u = ap (λ ys. get_or ys 0 0) e in
-    rw head (first_shown utf16 (units_of high bytes) u us h)
-
-first_read : (from : Form) (bytes : List ℕ) (t : ℕ) (ts : List ℕ) → Reads from bytes (t ∷ ts) → IsScalar t
-first_read Utf8 bytes t ts h = first_shown utf8 bytes t ts h
-first_read Utf16Le bytes t ts h = first_of_units false bytes t ts h
-first_read Utf16Be bytes t ts h = first_of_units true bytes t ts h
-
--- and so is all that is shown
 
 pieces_are_scalars : (code : ℕ → List ℕ) (xs : List ℕ) (ps : List Piece) → All (λ x. IsPiece code xs x) ps → All IsScalar (map shown ps)
 pieces_are_scalars code xs [] h = All-nil IsScalar
@@ -70,9 +43,7 @@ units_are_scalars : (high : Bool) (bytes ss : List ℕ) → ShowsUnits high byte
 units_are_scalars high bytes ss (ts, h, e) = rw e (All-append IsScalar ts (odd_end bytes) (shown_are_scalars utf16 (units_of high bytes) ts h) (odd_is_scalar bytes))
 
 pub read_are_scalars : (from : Form) (bytes ss : List ℕ) → Reads from bytes ss → All IsScalar ss
-read_are_scalars Utf8 bytes ss h = shown_are_scalars utf8 bytes ss h
-read_are_scalars Utf16Le bytes ss h = units_are_scalars false bytes ss h
-read_are_scalars Utf16Be bytes ss h = units_are_scalars true bytes ss h
+read_are_scalars = by_form _ (shown_are_scalars utf8) (λ high. rw (is_units high, Reads) (units_are_scalars high))
 
 -- No code begins inside another.
 
@@ -105,12 +76,10 @@ record HasPairs (xs : List ℕ) : Type 0 where
   pub even : length xs ≡ 2 * count
 
 one_pair : (high : Bool) (s : ℕ) → s < 0x1_0000 → length (flat_map (bytes_of high) (utf16 s)) ≡ 2
-one_pair true s low = rw (utf16-1 s low) refl
-one_pair false s low = rw (utf16-1 s low) refl
+one_pair high s low = omega (arith, two_bytes high (utf16 s), one_unit s low)
 
 two_pairs : (high : Bool) (s : ℕ) → 0x1_0000 ≤ s → length (flat_map (bytes_of high) (utf16 s)) ≡ 4
-two_pairs true s wide = rw (utf16-2 s wide) refl
-two_pairs false s wide = rw (utf16-2 s wide) refl
+two_pairs high s wide = omega (arith, two_bytes high (utf16 s), two_units s wide)
 
 have_pairs : (high : Bool) (ts : List ℕ) → HasPairs (flat_map (λ s. flat_map (bytes_of high) (utf16 s)) ts)
 have_pairs high [] = record { count = 0; even = refl }
@@ -175,9 +144,7 @@ units_inside high s t front ts hs ht e =
     (cases_lt s 0x1_0000)
 
 code_inside : (to : Form) (s t : ℕ) (front ts : List ℕ) → IsScalar s → IsScalar t → front ++ (written to t ++ flat_map (written to) ts) ≡ written to s → front ≡ []
-code_inside Utf8 s t front ts hs ht e = utf8_inside s t front (flat_map utf8 ts) hs ht e
-code_inside Utf16Le s t front ts hs ht e = units_inside false s t front ts hs ht e
-code_inside Utf16Be s t front ts hs ht e = units_inside true s t front ts hs ht e
+code_inside = by_form _ (λ s t front ts hs ht e. utf8_inside s t front (flat_map utf8 ts) hs ht e) (λ high. rw (is_units high, written) (units_inside high))
 
 -- Two lists that begin with codes are the same only where the codes are.
 
@@ -219,20 +186,16 @@ units_of_replacement false s hs a b =
 at_front : (code other x y : List ℕ) (k : ℕ) → code ++ x ≡ other ++ y → k < length code → k < length other → get_or code k 0 ≡ get_or other k 0
 at_front code other x y k e lt less = sym (get_or_append_left code x 0 k lt) ∙ ap (λ ys. get_or ys k 0) e ∙ get_or_append_left other y 0 k less
 
-two_bytes : (high : Bool) (s : ℕ) → 2 ≤ length (flat_map (bytes_of high) (utf16 s))
-two_bytes high s =
-    ⊎_elim (λ (low : s < 0x1_0000). let e = one_pair high s low in omega arith) (λ (wide : 0x1_0000 ≤ s). let e = two_pairs high s wide in omega arith) (cases_lt s 0x1_0000)
-
 units_alike : (high : Bool) (s : ℕ) (x y : List ℕ) → IsScalar s → flat_map (bytes_of high) (utf16 s) ++ x ≡ flat_map (bytes_of high) (utf16 0xFFFD) ++ y → s ≡ 0xFFFD
 units_alike high s x y hs e =
-    let two = two_bytes high s in
-    let other = two_bytes high 0xFFFD in
+    let two = two_bytes high (utf16 s) in
+    let some = utf16_is_code.some s hs in
+    let other = two_bytes high (utf16 0xFFFD) in
+    let one = utf16_is_code.some 0xFFFD replacement in
     units_of_replacement high s hs (at_front _ _ x y 0 e (omega arith) (omega arith)) (at_front _ _ x y 1 e (omega arith) (omega arith))
 
 replacement_alike : (to : Form) (s : ℕ) (x y : List ℕ) → IsScalar s → written to s ++ x ≡ written to 0xFFFD ++ y → s ≡ 0xFFFD
-replacement_alike Utf8 s x y hs e = utf8_alike s 0xFFFD x y hs replacement e
-replacement_alike Utf16Le s x y hs e = units_alike false s x y hs e
-replacement_alike Utf16Be s x y hs e = units_alike true s x y hs e
+replacement_alike = by_form _ (λ s x y hs e. utf8_alike s 0xFFFD x y hs replacement e) (λ high. rw (is_units high, written) (units_alike high))
 
 -- Nothing of the front of a code can be put out.
 
@@ -246,7 +209,7 @@ front_of_none (x ∷ xs) ys e = absurd cc
 -- what was put out, before what is shown of the rest, is one code: so it is nothing, or that code
 before_one_code : (from to : Form) (bytes out later : List ℕ) (s : ℕ) → IsScalar s → IsRecoded from to bytes later → out ++ later ≡ written to s → (out ≡ written to s → ⊥) → out ≡ []
 before_one_code from to bytes out later s hs ([], h, f) e not_all = absurd (not_all (sym (append-nil out) ∙ ap (λ ys. out ++ ys) (sym f) ∙ e))
-before_one_code from to bytes out later s hs (t ∷ ts, h, f) e not_all = code_inside to s t out ts hs (first_read from bytes t ts h) (ap (λ ys. out ++ ys) (sym f) ∙ e)
+before_one_code from to bytes out later s hs (t ∷ ts, h, f) e not_all = code_inside to s t out ts hs (read_are_scalars from bytes (t ∷ ts) h 0 0 (omega arith)) (ap (λ ys. out ++ ys) (sym f) ∙ e)
 
 nothing_of_front : (from to : Form) (w out left : List ℕ) → IsProperFront (written from) w → Continues from to w out left → out ≡ []
 nothing_of_front from to w out left f c =

@@ -1,10 +1,12 @@
 -- Where all that comes of some bytes fits into the room, no call ends full.
 use Rattle.std.proofs.Common.{◌≡◌, ℕ, ◌-◌, ◌*◌, ◌<◌, ◌≤◌, List, [], ◌∷◌, ◌++◌, length, take, drop, flat_map, refl, sym, subst, append_assoc, arith, length-append, length-take, take-append-drop}
 use Rattle.std.proofs.lemmas.List.{append-nil}
+use Rattle.std.proofs.lemmas.Nat.{mul-le}
 use Rattle.recoding.specs.declared.form.Form.{Form}
-use Rattle.recoding.specs.declared.form.Form.TheVariants.{Utf8, Utf16Le, Utf16Be}
+use Rattle.recoding.specs.declared.form.Form.TheVariants.{Utf8}
+use Rattle.recoding.proofs.Forms.{by_form, is_units}
 use Rattle.recoding.specs.Recoded.{Recoding, Reads, written, IsRecoded}
-use Rattle.recoding.specs.Rooms.{FeedsInto, LastIsTooLong, NextIsTooLong, most_bytes}
+use Rattle.recoding.specs.Rooms.{FeedsInto, LastIsTooLong, NextIsTooLong, most_bytes, parts_of, widest}
 use Rattle.recoding.specs.Bounds.{LossyIsBounded, RecodedIsShort, FeedsInRoom, RoomIsLeft, FinishesInRoom}
 use Rattle.recoding.proofs.BoundLemmas.{recoded_bound}
 use Rattle.recoding.proofs.Growing.{recoded_once}
@@ -78,16 +80,14 @@ finishes_in_room r s old new wrote f same room full =
     omega arith
 
 -- three bytes for each byte are enough, whatever the forms
-three_each : (from to : Form) (n : ℕ) → most_bytes from to n ≤ 3 * n
-three_each Utf8 Utf8 n = omega arith
-three_each Utf8 Utf16Le n = omega arith
-three_each Utf8 Utf16Be n = omega arith
-three_each Utf16Le Utf8 n = omega arith
-three_each Utf16Le Utf16Le n = omega arith
-three_each Utf16Le Utf16Be n = omega arith
-three_each Utf16Be Utf8 n = omega arith
-three_each Utf16Be Utf16Le n = omega arith
-three_each Utf16Be Utf16Be n = omega arith
+pub three_each : (from to : Form) (n : ℕ) → most_bytes from to n ≤ 3 * n
+three_each from to n = mul-le (widest to) (parts_of from n) 3 n (at_most_three to) (no_more_parts from n)
+  where
+    at_most_three : (to : Form) → widest to ≤ 3
+    at_most_three = by_form _ (omega arith) (λ high. rw (is_units high, widest) (omega arith))
+
+    no_more_parts : (from : Form) (n : ℕ) → parts_of from n ≤ n
+    no_more_parts = by_form _ (λ n. omega arith) (λ high. rw (is_units high, parts_of) (λ n. omega arith))
 
 pub recoded_is_short : RecodedIsShort
 recoded_is_short from to bytes = omega (arith, recoded_bound from to bytes (recoded from to bytes) (recoded_is from to bytes), three_each from to (length bytes))

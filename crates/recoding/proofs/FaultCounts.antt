@@ -1,22 +1,22 @@
 -- How many faults bytes have, piece by piece.
-use Rattle.std.proofs.Common.{◌≡◌, ℕ, suc, ◌+◌, ◌<◌, Bool, true, false, cond, List, [], ◌∷◌, ◌++◌, length, drop, map, flat_map, arith, refl, ap, sym, ◌∙◌, subst, append_assoc, Some, None, Option}
+use Rattle.std.proofs.Common.{◌≡◌, ℕ, suc, ◌+◌, ◌<◌, Bool, cond, List, [], ◌∷◌, ◌++◌, length, drop, map, flat_map, arith, refl, ap, sym, ◌∙◌, subst, append_assoc, Some, None, Option}
 use Rattle.std.proofs.lemmas.List.{append-nil, drop_all, drop-append-le}
 use Rattle.std.proofs.lemmas.List.Sums.{sum_by-cons}
 use Rattle.std.specs.Prelude.{All, is_none}
 use Rattle.utf_base.specs.Code.{utf8, utf16, IsCode}
 use Rattle.utf_base.specs.Piece.{Piece, Stands}
 use Rattle.utf_base.specs.Scalar.{IsScalar}
-use Rattle.utf_base.proofs.Cuts.{cut_exists, cut_is_unique, cut_none}
+use Rattle.utf_base.proofs.Cuts.{cut_is_unique, cut_none}
 use Rattle.utf_base.proofs.CutChanges.{moved}
-use Rattle.utf_base.proofs.FrontLemmas.{utf8_finds}
-use Rattle.utf_base.proofs.UnitLemmas.{utf16_finds}
 use Rattle.utf_base.proofs.Rests.{BeginsCut, code_begins, cut_first, fault_begins}
 use Rattle.utf_base.proofs.Standing.{stands_first}
 use Rattle.utf_base.proofs.Utf8Code.{utf8_is_code}
 use Rattle.utf_base.proofs.Utf16Code.{utf16_is_code}
 use Rattle.utf_lanes.specs.BytePairs.{units_of}
 use Rattle.recoding.specs.declared.form.Form.{Form}
-use Rattle.recoding.specs.declared.form.Form.TheVariants.{Utf8, Utf16Le, Utf16Be}
+use Rattle.recoding.specs.declared.form.Form.TheVariants.{Utf8}
+use Rattle.recoding.specs.TextForms.{text_form}
+use Rattle.recoding.proofs.Forms.{by_form, is_units}
 use Rattle.recoding.specs.Recoded.{odd_end}
 use Rattle.recoding.specs.NextScalars.{HasByteOrder}
 use Rattle.recoding.specs.Faults.{Faults, FaultCountIsOne, HasFaults, HasUnitFaults, fault_count, faults_in}
@@ -30,15 +30,11 @@ units_have_one : (high : Bool) (bytes : List ℕ) (m n : ℕ) → HasUnitFaults 
 units_have_one high bytes m n (i, a, e) (j, b, f) = e ∙ ap (λ k. k + length (odd_end bytes)) (has_one utf16 utf16_is_code (units_of high bytes) i j a b) ∙ sym f
 
 one : (from : Form) (bytes : List ℕ) (m n : ℕ) → Faults from bytes m → Faults from bytes n → m ≡ n
-one Utf8 bytes m n a b = has_one utf8 utf8_is_code bytes m n a b
-one Utf16Le bytes m n a b = units_have_one false bytes m n a b
-one Utf16Be bytes m n a b = units_have_one true bytes m n a b
+one = by_form _ (has_one utf8 utf8_is_code) (λ high. rw (is_units high, Faults) (units_have_one high))
 
 counted : (from : Form) (bytes : List ℕ) → Faults from bytes (fault_count from bytes)
 unfolding fault_count
-counted Utf8 bytes = let w = cut_exists utf8 utf8_is_code utf8_finds bytes in (w.0, w.1, refl)
-counted Utf16Le bytes = let w = cut_exists utf16 utf16_is_code utf16_finds (units_of false bytes) in (faults_in w.0, (w.0, w.1, refl), refl)
-counted Utf16Be bytes = let w = cut_exists utf16 utf16_is_code utf16_finds (units_of true bytes) in (faults_in w.0, (w.0, w.1, refl), refl)
+counted from bytes = ((text_form from).faults_some bytes).1
 
 same_count : (from : Form) (bytes : List ℕ) (n : ℕ) → Faults from bytes n → n ≡ fault_count from bytes
 same_count from bytes n h = one from bytes n (fault_count from bytes) h (counted from bytes)
@@ -91,14 +87,10 @@ pub counts_more : (bytes rest : List ℕ) (k : ℕ) → ((m : ℕ) → HasFaults
 counts_more bytes rest k more = sym (same_count Utf8 bytes (k + fault_count Utf8 rest) (more (fault_count Utf8 rest) (counted Utf8 rest)))
 
 as_units : (high : Bool) (from : Form) (bytes : List ℕ) (n : ℕ) → HasByteOrder high from → Faults from bytes n → HasUnitFaults high bytes n
-as_units high Utf8 bytes n form h = absurd form
-as_units high Utf16Le bytes n form h = rw form h
-as_units high Utf16Be bytes n form h = rw form h
+as_units high from bytes n form h = rw (form, is_units high, Faults) at h
 
 of_units : (high : Bool) (from : Form) (bytes : List ℕ) (n : ℕ) → HasByteOrder high from → HasUnitFaults high bytes n → Faults from bytes n
-of_units high Utf8 bytes n form h = absurd form
-of_units high Utf16Le bytes n form h = rw form at h
-of_units high Utf16Be bytes n form h = rw form at h
+of_units high from bytes n form h = rw (form, is_units high, Faults) h
 
 pub units_count_more : (high : Bool) (from : Form) (bytes rest : List ℕ) (i j : ℕ) → HasByteOrder high from → ((m : ℕ) → HasFaults utf16 (units_of high rest) m → HasFaults utf16 (units_of high bytes) (i + m))
     → length (odd_end bytes) ≡ j + length (odd_end rest) → fault_count from bytes ≡ i + j + fault_count from rest
@@ -111,6 +103,7 @@ nothing_has_none : (code : ℕ → List ℕ) → HasFaults code [] 0
 nothing_has_none code = ([], cut_none code [] 0, refl)
 
 pub none_in_nothing : (from : Form) → fault_count from [] ≡ 0
-none_in_nothing Utf8 = sym (same_count Utf8 [] 0 (nothing_has_none utf8))
-none_in_nothing Utf16Le = sym (same_count Utf16Le [] 0 (0, nothing_has_none utf16, refl))
-none_in_nothing Utf16Be = sym (same_count Utf16Be [] 0 (0, nothing_has_none utf16, refl))
+none_in_nothing from = sym (same_count from [] 0 (nothing_at_all from))
+  where
+    nothing_at_all : (from : Form) → Faults from [] 0
+    nothing_at_all = by_form _ (nothing_has_none utf8) (λ high. rw (is_units high, Faults) (0, nothing_has_none utf16, refl))

@@ -21,7 +21,8 @@ use Rattle.recoding.specs.Strict.{kind_of, lacking, BeginsChar, BeginsFault, End
 use Rattle.recoding.specs.declared.faults.FaultKind.{FaultKind}
 use Rattle.recoding.specs.declared.faults.FaultKind.TheVariants as kind
 use Rattle.recoding.specs.declared.form.Form.{Form}
-use Rattle.recoding.specs.declared.form.Form.TheVariants.{Utf8, Utf16Le, Utf16Be}
+use Rattle.recoding.specs.declared.form.Form.TheVariants.{Utf8}
+use Rattle.recoding.proofs.Forms.{is_units}
 use Rattle.recoding.proofs.CopiedUnits.{as_written, same_pair}
 use Rattle.recoding.proofs.FrontBytes.{fault_is_some, not_empty, first_unit, second_unit, units_two, units_next, lacks_byte, lacks_second}
 
@@ -50,19 +51,13 @@ AwaitsKind-utf8 w e = record { kind = ap (option_map kind.Utf8) e; few = few_whe
 -- UTF-16: bytes, two by two.
 
 pub kind_of_units : (high : Bool) (from : Form) (w : List ℕ) → HasByteOrder high from → kind_of from w ≡ option_map kind.Utf16 (unit_fault_kind (units_of high w))
-kind_of_units high Utf8 w form = absurd form
-kind_of_units high Utf16Le w form = rw form refl
-kind_of_units high Utf16Be w form = rw form refl
+kind_of_units high from w form = rw (form, is_units high, kind_of) refl
 
 lacking_units : (high : Bool) (from : Form) → HasByteOrder high from → lacking from ≡ kind.Utf16 Incomplete
-lacking_units high Utf8 form = absurd form
-lacking_units high Utf16Le form = refl
-lacking_units high Utf16Be form = refl
+lacking_units high from form = rw (form, is_units high, lacking) refl
 
 fault_of_unit : (high : Bool) (from : Form) → HasByteOrder high from → 2 ≡ fault_len from
-fault_of_unit high Utf8 form = absurd form
-fault_of_unit high Utf16Le form = refl
-fault_of_unit high Utf16Be form = refl
+fault_of_unit high from form = rw (form, is_units high, fault_len) refl
 
 trailing_units : (us : List ℕ) → 0 < length us → is_trailing_surrogate (get_or us 0 0) ≡ true → unit_fault_kind us ≡ Some UnexpectedTrailingSurrogate
 unfolding unit_fault_kind

@@ -1,25 +1,35 @@
--- The form of UTF-16 in an order of bytes, as a type has it.
-use Rattle.std.proofs.Common.{◌≡◌, ℕ, Bool, true, false, flat_map, refl}
+-- What is so of each form, and the form of UTF-16 in an order of bytes, as a type has it.
+use Rattle.std.proofs.Common.{◌≡◌, ℕ, Bool, true, false, flat_map, refl, ap}
 use Rattle.utf_base.specs.Code.{utf16}
 use Rattle.utf_base.specs.declared.errors.units.Utf16PairError.TheVariants.{Incomplete}
 use Rattle.utf_lanes.specs.BytePairs.{bytes_of}
-use Rattle.recoding.specs.Recoded.{written}
-use Rattle.recoding.specs.NextScalars.{HasByteOrder, fault_len, utf16_form}
-use Rattle.recoding.specs.Strict.{lacking}
+use Rattle.recoding.specs.Faults.{Faults}
+use Rattle.recoding.specs.Lossy.{ReadsParts}
+use Rattle.recoding.specs.NextScalars.{HasByteOrder, fault_len}
+use Rattle.recoding.specs.Recoded.{Lacks, Reads, written}
+use Rattle.recoding.specs.Rooms.{parts_of, widest}
+use Rattle.recoding.specs.Shards.{IsShardEnd}
+use Rattle.recoding.specs.Strict.{kind_of, lacking}
+pub use Rattle.recoding.specs.TextForms.{by_form}
+use Rattle.recoding.specs.TextForms.{text_form, units_form, utf16_form}
 use Rattle.recoding.specs.declared.faults.FaultKind.TheVariants as kind
 
+-- What is proved of UTF-8, and of units in any order of bytes, is so of each form: `by_form` of `specs/TextForms`. After `rw (is_units high, form_words)` a
+-- goal about the form that has units is one about units; the second list opens the words of a form.
+pub is_units : (high : Bool) → text_form (utf16_form high) ≡ units_form high
+is_units true = refl
+is_units false = refl
+
+pub ruleset form_words = (Faults, IsShardEnd, Lacks, Reads, ReadsParts, fault_len, kind_of, lacking, parts_of, widest, written)
+
 pub is_utf16 : (big : Bool) → HasByteOrder big (utf16_form big)
-is_utf16 true = refl
-is_utf16 false = refl
+is_utf16 big = refl
 
 pub written_utf16 : (big : Bool) (s : ℕ) → written (utf16_form big) s ≡ flat_map (bytes_of big) (utf16 s)
-written_utf16 true s = refl
-written_utf16 false s = refl
+written_utf16 big s = ap (λ f. f.written s) (is_units big)
 
 pub fault_of_utf16 : (big : Bool) → fault_len (utf16_form big) ≡ 2
-fault_of_utf16 true = refl
-fault_of_utf16 false = refl
+fault_of_utf16 big = ap (λ f. f.fault_len) (is_units big)
 
 pub lacking_utf16 : (big : Bool) → lacking (utf16_form big) ≡ kind.Utf16 Incomplete
-lacking_utf16 true = refl
-lacking_utf16 false = refl
+lacking_utf16 big = ap (λ f. f.lacking) (is_units big)

@@ -16,7 +16,8 @@ use Rattle.utf_base.specs.declared.errors.units.Utf16TupleError.{Utf16TupleError
 use Rattle.utf_base.specs.declared.errors.units.Utf16TupleError.TheVariants.{FirstIsTrailingSurrogate, SuperfluousSecond, MissingSecond, SecondIsNotTrailingSurrogate}
 use Rattle.utf_base.specs.declared.errors.units.Utf16PairError.TheVariants.{Incomplete}
 use Rattle.recoding.specs.declared.form.Form.{Form}
-use Rattle.recoding.specs.declared.form.Form.TheVariants.{Utf8, Utf16Le, Utf16Be}
+use Rattle.recoding.specs.declared.form.Form.TheVariants.{Utf8}
+use Rattle.recoding.proofs.Forms.{by_form, is_units}
 use Rattle.utf_base.specs.Units.{is_leading_surrogate, is_trailing_surrogate, tuple_fault, unit_fault_kind}
 use Rattle.utf_base.proofs.FrontLemmas.{no_code_where_fault}
 use Rattle.utf_base.proofs.KindCases.{begins_with-1, kind-empty}
@@ -37,9 +38,7 @@ pub replacement : IsScalar 0xFFFD
 replacement = record { below = lit< tt; no_surrogate = λ h. omega arith }
 
 pub fault_is_some : (from : Form) → 0 < fault_len from
-fault_is_some Utf8 = omega arith
-fault_is_some Utf16Le = omega arith
-fault_is_some Utf16Be = omega arith
+fault_is_some = by_form _ (omega arith) (λ high. rw (is_units high, fault_len) (omega arith))
 
 -- what the bytes show whatever follows, they show where nothing does
 pub Ends-from_decides : {reads : List ℕ → List ℕ → Type 0} {w : List ℕ} {s n : ℕ} → Decides reads w s n → Ends reads w s n
@@ -189,9 +188,7 @@ fault_shows_units high w two none = record {
 }
 
 as_form : (high : Bool) (from : Form) (w : List ℕ) (s n : ℕ) → HasByteOrder high from → Decides (ShowsUnits high) w s n → Decides (Reads from) w s n
-as_form high Utf8 w s n form d = absurd form
-as_form high Utf16Le w s n form d = rw form at d
-as_form high Utf16Be w s n form d = rw form at d
+as_form high from w s n form d = rw (form, is_units high, Reads) d
 
 fault_of_unit : (high : Bool) (from : Form) (w : List ℕ) → HasByteOrder high from → 2 ≤ length w
     → ((later : List ℕ) (s : ℕ) → Stands utf16 (first_unit high w ∷ units_of high (drop 2 w ++ later)) 0 s → ⊥) → Settles from w 0xFFFD 2 1
@@ -268,9 +265,9 @@ leading_counts high from w form two few l =
 
 waits_of : (high : Bool) (from : Form) (w : List ℕ) → HasByteOrder high from → length w ≤ 3 → (0 < length w → (ss : List ℕ) → ShowsUnits high (drop 2 w) ss → ShowsUnits high w (0xFFFD ∷ ss))
     → (0 < length w → fault_count from w ≡ 1 + fault_count from (drop 2 w)) → Waits from w
-waits_of high Utf8 w form few shows counts = absurd form
-waits_of high Utf16Le w form few shows counts = record { few = few; last = rw form at shows; counts = counts }
-waits_of high Utf16Be w form few shows counts = record { few = few; last = rw form at shows; counts = counts }
+waits_of high from w form few shows counts =
+    let two : fault_len from ≡ 2 = rw (form, is_units high, fault_len) refl in
+    record { few = few; last = rw two (rw (form, is_units high, Reads) shows); counts = rw two counts }
 
 pub Waits-byte : (high : Bool) (from : Form) (w : List ℕ) → HasByteOrder high from → length w < 2 → Waits from w
 Waits-byte high from w form h = waits_of high from w form (omega arith) (byte_shows high w h) (byte_counts high from w form h)
@@ -300,9 +297,7 @@ lacks_second high w two few l =
     rw (units, rest) (alone (first_unit high w) l)
 
 lacks_of : (high : Bool) (from : Form) (w : List ℕ) → HasByteOrder high from → unit_fault_kind (units_of high w) ≡ Some Incomplete → Lacks from w
-lacks_of high Utf8 w form h = absurd form
-lacks_of high Utf16Le w form h = rw form at h
-lacks_of high Utf16Be w form h = rw form at h
+lacks_of high from w form h = rw (form, is_units high, Lacks) h
 
 pub Lacks-byte : (high : Bool) (from : Form) (w : List ℕ) → HasByteOrder high from → length w < 2 → Lacks from w
 Lacks-byte high from w form few = lacks_of high from w form (lacks_byte high w few)
@@ -312,9 +307,7 @@ Lacks-second high from w form two few l = lacks_of high from w form (lacks_secon
 
 -- and so does nothing at all
 pub lacks_all : (from : Form) → Lacks from []
-lacks_all Utf8 = front_of_nothing
-lacks_all Utf16Le = lacks_byte false [] (lit< tt)
-lacks_all Utf16Be = lacks_byte true [] (lit< tt)
+lacks_all = by_form _ front_of_nothing (λ high. rw (is_units high, Lacks) (lacks_byte high [] (lit< tt)))
 
 -- what a run leaves that stopped before the end, or at it
 pub lacks_left : (from : Form) (rest : List ℕ) (q : ℕ) → (q < length rest → Lacks from (drop q rest)) → Lacks from (drop q rest)

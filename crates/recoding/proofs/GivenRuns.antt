@@ -1,15 +1,14 @@
 -- Text recoded: as itself, or as what its places give, the codes in UTF-16 of what it shows.
-use Rattle.std.proofs.Common.{◌≡◌, ℕ, suc, Bool, List, [], ◌∷◌, ◌++◌, length, flat_map, arith, refl, sym, ap, ap₂, ◌∙◌, append_assoc}
+use Rattle.std.proofs.Common.{◌≡◌, ℕ, suc, Bool, List, [], ◌∷◌, ◌++◌, length, flat_map, arith, refl, sym, ap, ◌∙◌, append_assoc}
 use Rattle.std.specs.Prelude.{All}
-use Rattle.utf_base.specs.Code.{utf8, utf16}
+use Rattle.utf_base.specs.Code.{utf8}
 use Rattle.utf_base.specs.Scalar.{IsScalar}
 use Rattle.utf_base.specs.Shown.{Shows}
 use Rattle.utf_base.proofs.Rests.{whole_code_shows_first}
 use Rattle.utf_base.proofs.Utf8Code.{utf8_is_code}
 use Rattle.recoding.specs.declared.form.Form.{Form}
-use Rattle.recoding.specs.declared.form.Form.TheVariants.{Utf8, Utf16Le, Utf16Be}
+use Rattle.recoding.proofs.Forms.{is_units}
 use Rattle.recoding.specs.Recoded.{written}
-use Rattle.utf_lanes.specs.BytePairs.{bytes_of}
 use Rattle.recoding.specs.NextScalars.{ShowsEach, HasByteOrder}
 use Rattle.utf_lanes.specs.Utf8ToUtf16.{utf16_bytes}
 use Rattle.utf_lanes.proofs.TextUnits.{text_given}
@@ -21,16 +20,7 @@ shows_each (s ∷ cs) all later ss h =
     rw (append_assoc (utf8 s) (flat_map utf8 cs) later)
     (whole_code_shows_first utf8 utf8_is_code (utf8 s) (flat_map utf8 cs ++ later) s (cs ++ ss) (all 0 s (omega arith)) refl (shows_each cs (λ j d lt. all (suc j) d (omega arith)) later ss h))
 
-as_units : (high : Bool) (to : Form) (s : ℕ) → HasByteOrder high to → written to s ≡ flat_map (bytes_of high) (utf16 s)
-as_units high Utf8 s form = absurd form
-as_units high Utf16Le s form = rw form refl
-as_units high Utf16Be s form = rw form refl
-
-same_codes : (high : Bool) (to : Form) (cs : List ℕ) → HasByteOrder high to → flat_map (written to) cs ≡ flat_map (λ s. flat_map (bytes_of high) (utf16 s)) cs
-same_codes high to [] form = refl
-same_codes high to (s ∷ cs) form = ap₂ (λ ys zs. ys ++ zs) (as_units high to s form) (same_codes high to cs form)
-
 -- What the places of a text give are the codes of its characters.
 pub given_codes : (high : Bool) (to : Form) → HasByteOrder high to → (text cs : List ℕ) → All IsScalar cs → text ≡ flat_map utf8 cs → flat_map (written to) cs ≡ utf16_bytes high text 0 (length text)
 given_codes high to form text cs all e =
-    same_codes high to cs form ∙ sym (text_given high cs all) ∙ ap (λ ys. utf16_bytes high ys 0 (length ys)) (sym e)
+    rw (form, is_units high, written) (sym (text_given high cs all) ∙ ap (λ ys. utf16_bytes high ys 0 (length ys)) (sym e))

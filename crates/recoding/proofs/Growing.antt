@@ -1,43 +1,31 @@
 -- An output that grows by what bytes are recoded as, step by step.
-use Rattle.std.proofs.Common.{◌≡◌, ℕ, ◌*◌, ◌<◌, ◌≤◌, ⊎_elim, Bool, true, false, List, [], ◌++◌, length, flat_map, arith, refl, ap, sym, ◌∙◌, append_assoc}
+use Rattle.std.proofs.Common.{◌≡◌, ℕ, ◌*◌, ◌<◌, ◌≤◌, ⊎_elim, Bool, true, false, List, [], ◌∷◌, ◌++◌, length, flat_map, arith, refl, ap, sym, ◌∙◌, append_assoc}
 use Rattle.std.proofs.lemmas.Grind.{common_steps}
 use Rattle.std.proofs.lemmas.Bool.{cases_lt}
 use Rattle.utf_base.specs.Code.{utf8, utf16}
-use Rattle.utf_base.proofs.FrontLemmas.{utf8_finds}
-use Rattle.utf_base.proofs.UnitLemmas.{utf16_finds}
-use Rattle.utf_base.proofs.Rests.{shows_none, shows_one, shows_some}
+use Rattle.utf_base.proofs.Rests.{shows_none, shows_one}
 use Rattle.utf_base.proofs.Utf8Code.{utf8_is_code, length_utf8}
 use Rattle.utf_base.proofs.Utf16Code.{utf16_is_code, utf16-1, utf16-2}
 use Rattle.recoding.specs.declared.form.Form.{Form}
-use Rattle.recoding.specs.declared.form.Form.TheVariants.{Utf8, Utf16Le, Utf16Be}
+use Rattle.recoding.specs.TextForms.{text_form}
+use Rattle.recoding.proofs.Forms.{by_form, is_units}
 use Rattle.recoding.specs.Recoded.{Reads, ShowsUnits, odd_end, written, IsRecoded, Continues, RecodedOnce, Grows}
 use Rattle.utf_lanes.specs.BytePairs.{units_of, bytes_of}
 
 -- Bytes show one list.
-
-pub units_some : (high : Bool) (bytes : List ℕ) → (ss : List ℕ) × ShowsUnits high bytes ss
-units_some high bytes =
-    let r = shows_some utf16 utf16_is_code utf16_finds (units_of high bytes) in
-    (r.0 ++ odd_end bytes, (r.0, r.1, refl))
 
 units_one : (high : Bool) (bytes ss ts : List ℕ) → ShowsUnits high bytes ss → ShowsUnits high bytes ts → ss ≡ ts
 units_one high bytes ss ts (xs, a, e) (ys, b, f) =
     e ∙ ap (λ zs. zs ++ odd_end bytes) (shows_one utf16 utf16_is_code (units_of high bytes) xs ys a b) ∙ sym f
 
 pub reads_some : (from : Form) (bytes : List ℕ) → (ss : List ℕ) × Reads from bytes ss
-reads_some Utf8 bytes = shows_some utf8 utf8_is_code utf8_finds bytes
-reads_some Utf16Le bytes = units_some false bytes
-reads_some Utf16Be bytes = units_some true bytes
+reads_some from = (text_form from).reads_some
 
 reads_one : (from : Form) (bytes ss ts : List ℕ) → Reads from bytes ss → Reads from bytes ts → ss ≡ ts
-reads_one Utf8 bytes ss ts a b = shows_one utf8 utf8_is_code bytes ss ts a b
-reads_one Utf16Le bytes ss ts a b = units_one false bytes ss ts a b
-reads_one Utf16Be bytes ss ts a b = units_one true bytes ss ts a b
+reads_one = by_form _ (shows_one utf8 utf8_is_code) (λ high. rw (is_units high, Reads) (units_one high))
 
-reads_none : (from : Form) → Reads from [] []
-reads_none Utf8 = shows_none utf8
-reads_none Utf16Le = ([], shows_none utf16, refl)
-reads_none Utf16Be = ([], shows_none utf16, refl)
+pub reads_none : (from : Form) → Reads from [] []
+reads_none = by_form _ (shows_none utf8) (λ high. rw (is_units high, Reads) ([], shows_none utf16, refl))
 
 pub recoded_once : RecodedOnce
 recoded_once from to bytes =
@@ -78,18 +66,28 @@ short_utf8 : (s : ℕ) → s < 0x1_0000 → length (utf8 s) ≤ 3
 unfolding utf8
 short_utf8 s h = grind (arith, common_steps)
 
-length_units : (high : Bool) (s n : ℕ) → 0 < n → (0x1_0000 ≤ s → 2 ≤ n) → length (flat_map (bytes_of high) (utf16 s)) ≤ 3 * n
-length_units true s n some wide =
-    ⊎_elim (λ (low : s < 0x1_0000). rw (utf16-1 s low) (omega arith)) (λ (high : 0x1_0000 ≤ s). let two = wide high in rw (utf16-2 s high) (omega arith)) (cases_lt s 0x1_0000)
-length_units false s n some wide =
-    ⊎_elim (λ (low : s < 0x1_0000). rw (utf16-1 s low) (omega arith)) (λ (high : 0x1_0000 ≤ s). let two = wide high in rw (utf16-2 s high) (omega arith)) (cases_lt s 0x1_0000)
+pub two_bytes : (high : Bool) (us : List ℕ) → length (flat_map (bytes_of high) us) ≡ 2 * length us
+two_bytes high [] = refl
+two_bytes true (u ∷ us) = let rest = two_bytes true us in omega arith
+two_bytes false (u ∷ us) = let rest = two_bytes false us in omega arith
+
+pub one_unit : (s : ℕ) → s < 0x1_0000 → length (utf16 s) ≡ 1
+one_unit s low = ap length (utf16-1 s low)
+
+pub two_units : (s : ℕ) → 0x1_0000 ≤ s → length (utf16 s) ≡ 2
+two_units s wide = ap length (utf16-2 s wide)
+
+pub length_units : (s n : ℕ) → 0 < n → (0x1_0000 ≤ s → 2 ≤ n) → length (utf16 s) ≤ n
+length_units s n some wide =
+    ⊎_elim (λ (low : s < 0x1_0000). let one = one_unit s low in omega arith) (λ (high : 0x1_0000 ≤ s). let two = wide high in let len = two_units s high in omega arith) (cases_lt s 0x1_0000)
 
 -- no more than three bytes come of one
 pub length_written : (to : Form) (s n : ℕ) → 0 < n → (0x1_0000 ≤ s → 2 ≤ n) → length (written to s) ≤ 3 * n
-length_written Utf8 s n some wide =
+length_written =
+    by_form _
+    (λ s n some wide.
     ⊎_elim
     (λ (low : s < 0x1_0000). let le = short_utf8 s low in omega arith)
     (λ (high : 0x1_0000 ≤ s). let two = wide high in let le = length_utf8 s in omega arith)
-    (cases_lt s 0x1_0000)
-length_written Utf16Le s n some wide = length_units false s n some wide
-length_written Utf16Be s n some wide = length_units true s n some wide
+    (cases_lt s 0x1_0000))
+    (λ high. rw (is_units high, written) (λ s n some wide. omega (arith, two_bytes high (utf16 s), length_units s n some wide)))

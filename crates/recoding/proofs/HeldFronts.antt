@@ -8,49 +8,27 @@ use Rattle.utf_base.specs.Scalar.{IsScalar}
 use Rattle.utf_base.specs.Code.{utf8, utf16, IsCode}
 use Rattle.utf_base.specs.Piece.{Stands}
 use Rattle.utf_base.specs.Units.{is_leading_surrogate, is_trailing_surrogate, unit_fault_kind}
-use Rattle.utf_base.proofs.Rests.{fault_shows_first, shows_none, whole_code_shows_first}
+use Rattle.utf_base.proofs.Rests.{fault_shows_first}
 use Rattle.utf_base.proofs.Standing.{Stands-at}
 use Rattle.utf_base.proofs.Utf8Code.{utf8_is_code}
-use Rattle.utf_base.proofs.Utf16Code.{utf16_is_code, utf16-1, utf16-2}
-use Rattle.utf_lanes.specs.BytePairs.{bytes_of, unit_of, units_of}
+use Rattle.utf_base.proofs.Utf16Code.{utf16-1, utf16-2}
+use Rattle.utf_lanes.specs.BytePairs.{bytes_of}
 use Rattle.recoding.specs.declared.form.Form.{Form}
-use Rattle.recoding.specs.declared.form.Form.TheVariants.{Utf8, Utf16Le, Utf16Be}
-use Rattle.recoding.specs.Recoded.{IsProperFront, Lacks, Reads, ShowsUnits, odd_end, written}
+use Rattle.recoding.specs.declared.form.Form.TheVariants.{Utf8}
+use Rattle.recoding.specs.TextForms.{units_form, utf16_form}
+use Rattle.recoding.proofs.Forms.{by_form, is_units}
+use Rattle.recoding.specs.Recoded.{IsProperFront, Lacks, Reads, ShowsUnits, written}
 use Rattle.recoding.specs.Undecided.{AreBytes, FrontsAreUndecided, LackingTextIsUndecided, LackingUnitsAreUndecided, LackingUnitIsUndecided}
 use Rattle.recoding.proofs.FrontBytes.{byte_shows, leading_shows, first_unit}
-use Rattle.recoding.proofs.Growing.{reads_some, units_some}
+use Rattle.recoding.proofs.Growing.{reads_none, reads_some}
+use Rattle.recoding.proofs.TextLaws.{text_shows}
+use Rattle.std.proofs.lemmas.List.Elements.{All-cons, All-nil}
 
 -- A whole code shows its scalar.
 
-units_back : (high : Bool) (s : ℕ) → units_of high (flat_map (bytes_of high) (utf16 s)) ≡ utf16 s
-units_back true s =
-    let joined : (u : ℕ) → unit_of true (u / 256) (u % 256) ≡ u = λ u. omega arith in
-    ⊎_elim
-    (λ (low : s < 0x1_0000). rw (utf16-1 s low) (ap (λ u. u ∷ []) (joined s)))
-    (λ (high : 0x1_0000 ≤ s). rw (utf16-2 s high) (ap₂ (λ u v. u ∷ v ∷ []) (joined _) (joined _)))
-    (cases_lt s 0x1_0000)
-units_back false s =
-    let joined : (u : ℕ) → unit_of false (u % 256) (u / 256) ≡ u = λ u. omega arith in
-    ⊎_elim
-    (λ (low : s < 0x1_0000). rw (utf16-1 s low) (ap (λ u. u ∷ []) (joined s)))
-    (λ (high : 0x1_0000 ≤ s). rw (utf16-2 s high) (ap₂ (λ u v. u ∷ v ∷ []) (joined _) (joined _)))
-    (cases_lt s 0x1_0000)
-
-no_odd_end : (high : Bool) (s : ℕ) → odd_end (flat_map (bytes_of high) (utf16 s)) ≡ []
-no_odd_end true s = ⊎_elim (λ (low : s < 0x1_0000). rw (utf16-1 s low) refl) (λ (high : 0x1_0000 ≤ s). rw (utf16-2 s high) refl) (cases_lt s 0x1_0000)
-no_odd_end false s = ⊎_elim (λ (low : s < 0x1_0000). rw (utf16-1 s low) refl) (λ (high : 0x1_0000 ≤ s). rw (utf16-2 s high) refl) (cases_lt s 0x1_0000)
-
-units_of_code : (high : Bool) (s : ℕ) → IsScalar s → ShowsUnits high (flat_map (bytes_of high) (utf16 s)) (s ∷ [])
-units_of_code high s h = (
-  s ∷ [],
-  rw (units_back high s) (rw (append-nil (utf16 s)) at (whole_code_shows_first utf16 utf16_is_code (utf16 s) [] s [] h refl (shows_none utf16))),
-  ap (λ xs. s ∷ xs) (sym (no_odd_end high s)),
-)
-
 reads_code : (from : Form) (s : ℕ) → IsScalar s → Reads from (written from s) (s ∷ [])
-reads_code Utf8 s h = rw (append-nil (utf8 s)) at (whole_code_shows_first utf8 utf8_is_code (utf8 s) [] s [] h refl (shows_none utf8))
-reads_code Utf16Le s h = units_of_code false s h
-reads_code Utf16Be s h = units_of_code true s h
+reads_code from s h =
+    rw (append-nil (written from s), append-nil (written from s)) at (text_shows from (s ∷ []) (All-cons IsScalar s [] h (All-nil IsScalar)) [] [] (reads_none from))
 
 -- A front of a code shows U+FFFD first.
 
@@ -104,20 +82,21 @@ leads false w t scalar two longer front =
 units_alone : (high : Bool) (w : List ℕ) → 0 < length w → (t : ℕ) → IsScalar t → length w < length (flat_map (bytes_of high) (utf16 t))
     → take (length w) (flat_map (bytes_of high) (utf16 t)) ≡ w → (ss : List ℕ) × ShowsUnits high w (0xFFFD ∷ ss)
 units_alone high w some t scalar longer front =
-    let rest = units_some high (drop 2 w) in
+    let rest = (units_form high).reads_some (drop 2 w) in
     ⊎_elim
     (λ (one : length w < 2). (rest.0, byte_shows high w one some rest.0 rest.1))
     (λ (two : 2 ≤ length w). let h = leads high w t scalar two longer front in (rest.0, leading_shows high w two h.few h.leading rest.0 rest.1))
     (cases_lt (length w) 2)
 
 front_alone : (from : Form) (w : List ℕ) → 0 < length w → IsProperFront (written from) w → (ss : List ℕ) × Reads from w (0xFFFD ∷ ss)
-front_alone Utf8 w some f =
+front_alone =
+    by_form _
+    (λ w some f.
     let rest = reads_some Utf8 (drop 1 w) in
     let none : (s : ℕ) → Stands utf8 (w ++ []) 0 s → ⊥
     = λ s h. no_code_in_front utf8 utf8_is_code w f.char s f.scalar f.longer f.front (rw (append-nil w) at h) in
-    (rest.0, rw (append-nil w) at (fault_shows_first utf8 utf8_is_code w [] rest.0 some none (rw (append-nil (drop 1 w)) rest.1)))
-front_alone Utf16Le w some f = units_alone false w some f.char f.scalar f.longer f.front
-front_alone Utf16Be w some f = units_alone true w some f.char f.scalar f.longer f.front
+    (rest.0, rw (append-nil w) at (fault_shows_first utf8 utf8_is_code w [] rest.0 some none (rw (append-nil (drop 1 w)) rest.1))))
+    (λ high. rw (is_units high, Reads, written) (λ w some f. units_alone high w some f.char f.scalar f.longer f.front))
 
 -- It is also the front of a code that is not that of U+FFFD.
 
@@ -134,13 +113,13 @@ utf8_replaced (suc zero) h = refl
 utf8_replaced (suc (suc zero)) h = refl
 utf8_replaced (suc (suc (suc n))) h = absurd (omega arith)
 
-low_first_replaced : (n : ℕ) → n < length (written Utf16Le 0xFFFD) → take n (written Utf16Le 0xFD) ≡ take n (written Utf16Le 0xFFFD)
+low_first_replaced : (n : ℕ) → n < length (flat_map (bytes_of false) (utf16 0xFFFD)) → take n (flat_map (bytes_of false) (utf16 0xFD)) ≡ take n (flat_map (bytes_of false) (utf16 0xFFFD))
 unfolding utf16
 low_first_replaced zero h = refl
 low_first_replaced (suc zero) h = refl
 low_first_replaced (suc (suc n)) h = absurd (omega arith)
 
-high_first_replaced : (n : ℕ) → n < length (written Utf16Be 0xFFFD) → take n (written Utf16Be 0xFFFE) ≡ take n (written Utf16Be 0xFFFD)
+high_first_replaced : (n : ℕ) → n < length (flat_map (bytes_of true) (utf16 0xFFFD)) → take n (flat_map (bytes_of true) (utf16 0xFFFE)) ≡ take n (flat_map (bytes_of true) (utf16 0xFFFD))
 unfolding utf16
 high_first_replaced zero h = refl
 high_first_replaced (suc zero) h = refl
@@ -149,10 +128,16 @@ high_first_replaced (suc (suc n)) h = absurd (omega arith)
 below_pairs : (s : ℕ) → s < 0x1_0000 → (0xD800 ≤ s → 0xE000 ≤ s) → IsScalar s
 below_pairs s h gap = record { below = omega arith; no_surrogate = gap }
 
+units_replaced : (high : Bool) (w : List ℕ) → length w < length (flat_map (bytes_of high) (utf16 0xFFFD)) → take (length w) (flat_map (bytes_of high) (utf16 0xFFFD)) ≡ w
+    → IsOtherFront (λ s. flat_map (bytes_of high) (utf16 s)) w
+units_replaced false w longer front = record { char = 0xFD; scalar = below_pairs 0xFD (lit< tt) (λ h. absurd (omega arith)); other = λ e. absurd (omega arith); front = low_first_replaced (length w) longer ∙ front }
+units_replaced true w longer front = record { char = 0xFFFE; scalar = below_pairs 0xFFFE (lit< tt) (λ h. lit< tt); other = λ e. absurd (omega arith); front = high_first_replaced (length w) longer ∙ front }
+
 replaced : (from : Form) (w : List ℕ) → length w < length (written from 0xFFFD) → take (length w) (written from 0xFFFD) ≡ w → IsOtherFront (written from) w
-replaced Utf8 w longer front = record { char = 0xFFFE; scalar = below_pairs 0xFFFE (lit< tt) (λ h. lit< tt); other = λ e. absurd (omega arith); front = utf8_replaced (length w) longer ∙ front }
-replaced Utf16Le w longer front = record { char = 0xFD; scalar = below_pairs 0xFD (lit< tt) (λ h. absurd (omega arith)); other = λ e. absurd (omega arith); front = low_first_replaced (length w) longer ∙ front }
-replaced Utf16Be w longer front = record { char = 0xFFFE; scalar = below_pairs 0xFFFE (lit< tt) (λ h. lit< tt); other = λ e. absurd (omega arith); front = high_first_replaced (length w) longer ∙ front }
+replaced =
+    by_form _
+    (λ w longer front. record { char = 0xFFFE; scalar = below_pairs 0xFFFE (lit< tt) (λ h. lit< tt); other = λ e. absurd (omega arith); front = utf8_replaced (length w) longer ∙ front })
+    (λ high. rw (is_units high, written) (units_replaced high))
 
 other_front : (from : Form) (w : List ℕ) → IsProperFront (written from) w → IsOtherFront (written from) w
 other_front from w f =
@@ -214,7 +199,7 @@ pair u c leading few =
       code = utf16-2 t (omega arith) ∙ ap₂ (λ x y. x ∷ y ∷ []) first second;
     }
 
-low_first_front : (w : List ℕ) → AreBytes w → 0 < length w → Lacks Utf16Le w → IsProperFront (written Utf16Le) w
+low_first_front : (w : List ℕ) → AreBytes w → 0 < length w → Lacks (utf16_form false) w → IsProperFront (written (utf16_form false)) w
 low_first_front [] bytes some h = absurd (omega arith)
 low_first_front (a ∷ []) bytes some h =
     let low : a < 0x100 = bytes 0 0 (lit< tt) in
@@ -242,7 +227,7 @@ low_first_front (a ∷ b ∷ c ∷ []) bytes some h =
     }
 low_first_front (a ∷ b ∷ c ∷ d ∷ w) bytes some h = absurd (two_do_not_lack _ _ _ h)
 
-high_first_front : (a b : ℕ) → b < 0x100 → Lacks Utf16Be (a ∷ b ∷ []) → IsProperFront (written Utf16Be) (a ∷ b ∷ [])
+high_first_front : (a b : ℕ) → b < 0x100 → Lacks (utf16_form true) (a ∷ b ∷ []) → IsProperFront (written (utf16_form true)) (a ∷ b ∷ [])
 high_first_front a b low h =
     let p = pair (a * 256 + b) 0 (leading_by_itself (a * 256 + b) h) (lit< tt) in
     let first : (a * 256 + b) / 256 ≡ a = omega arith in
@@ -253,10 +238,10 @@ pub lacking_text : LackingTextIsUndecided
 lacking_text w some h = fronts_are_undecided Utf8 w some h
 
 pub lacking_units : LackingUnitsAreUndecided
-lacking_units w bytes some h = fronts_are_undecided Utf16Le w some (low_first_front w bytes some h)
+lacking_units w bytes some h = fronts_are_undecided (utf16_form false) w some (low_first_front w bytes some h)
 
 pub lacking_unit : LackingUnitIsUndecided
 lacking_unit [] bytes two h = absurd (omega arith)
 lacking_unit (a ∷ []) bytes two h = absurd (omega arith)
-lacking_unit (a ∷ b ∷ []) bytes two h = fronts_are_undecided Utf16Be (a ∷ b ∷ []) (lit< tt) (high_first_front a b (bytes 1 0 (lit< tt)) h)
+lacking_unit (a ∷ b ∷ []) bytes two h = fronts_are_undecided (utf16_form true) (a ∷ b ∷ []) (lit< tt) (high_first_front a b (bytes 1 0 (lit< tt)) h)
 lacking_unit (a ∷ b ∷ c ∷ w) bytes two h = absurd (omega arith)

@@ -1,5 +1,5 @@
 -- Shards that are recoded by themselves, and joined.
-use Rattle.std.proofs.Common.{◌≡◌, ℕ, zero, suc, ◌+◌, ◌-◌, ◌*◌, ◌/◌, ◌<◌, ◌≤◌, ⊎_elim, Bool, true, false, List, [], ◌∷◌, ◌++◌, length, take, drop, arith, refl, ap, sym, ◌∙◌, append_assoc, take-append-drop, length-append, length-drop}
+use Rattle.std.proofs.Common.{◌≡◌, ℕ, zero, suc, ◌+◌, ◌-◌, ◌*◌, ◌/◌, ◌<◌, ◌≤◌, ⊎_elim, Bool, List, [], ◌∷◌, ◌++◌, length, take, drop, arith, refl, ap, sym, ◌∙◌, append_assoc, take-append-drop, length-append, length-drop}
 use Rattle.std.proofs.lemmas.Bool.{cases_lt}
 use Rattle.std.proofs.lemmas.Grind.{common_steps}
 use Rattle.std.proofs.lemmas.List.{append-nil, drop-drop, drop-append-le, take_rest, take_all, drop_all, length-take-le}
@@ -17,7 +17,7 @@ use Rattle.utf_base.proofs.Standing.{outside_front, stands_in_part, stands_in_wh
 use Rattle.utf_base.proofs.Utf8Code.{utf8_is_code}
 use Rattle.utf_base.proofs.Utf16Code.{utf16_is_code}
 use Rattle.recoding.specs.declared.form.Form.{Form}
-use Rattle.recoding.specs.declared.form.Form.TheVariants.{Utf8, Utf16Le, Utf16Be}
+use Rattle.recoding.proofs.Forms.{by_form, is_units}
 use Rattle.recoding.specs.Recoded.{Reads, ShowsUnits, odd_end, written, IsRecoded}
 use Rattle.utf_lanes.specs.BytePairs.{units_of}
 use Rattle.recoding.specs.Shards.{IsUnitsEnd, IsShardEnd, shards, AreShardEnds, AreRecoded, ShardsJoin}
@@ -142,9 +142,9 @@ units_show high bytes n ss ts lt ends (us, a, e) (vs, b, f) =
 
 reads_parts : (from : Form) (bytes : List ℕ) (n : ℕ) (ss ts : List ℕ) → n < length bytes → IsShardEnd from bytes n
     → Reads from (take n bytes) ss → Reads from (drop n bytes) ts → Reads from bytes (ss ++ ts)
-reads_parts Utf8 bytes n ss ts lt out a b = parts_show utf8 utf8_is_code utf8_finds bytes n ss ts (omega arith) out a b
-reads_parts Utf16Le bytes n ss ts lt out a b = units_show false bytes n ss ts lt out a b
-reads_parts Utf16Be bytes n ss ts lt out a b = units_show true bytes n ss ts lt out a b
+reads_parts =
+    by_form _ (λ bytes n ss ts lt out a b. parts_show utf8 utf8_is_code utf8_finds bytes n ss ts (omega arith) out a b)
+    (λ high. rw (is_units high, IsShardEnd, Reads) (units_show high))
 
 recoded_parts : (from to : Form) (bytes front rest : List ℕ) (n : ℕ) → n < length bytes → IsShardEnd from bytes n
     → IsRecoded from to (take n bytes) front → IsRecoded from to (drop n bytes) rest → IsRecoded from to bytes (front ++ rest)
@@ -180,14 +180,12 @@ units_end_of_rest high bytes i n lt lo le first end =
 
 end_of_rest : (from : Form) (bytes : List ℕ) (i n : ℕ) → i < length bytes → i ≤ n → n ≤ length bytes → IsShardEnd from bytes i → IsShardEnd from bytes n
     → IsShardEnd from (drop i bytes) (n - i)
-end_of_rest Utf8 bytes i n lt lo le first end = outside_rest utf8 bytes i n (omega arith) lo end
-end_of_rest Utf16Le bytes i n lt lo le first end = units_end_of_rest false bytes i n lt lo le first end
-end_of_rest Utf16Be bytes i n lt lo le first end = units_end_of_rest true bytes i n lt lo le first end
+end_of_rest =
+    by_form _ (λ bytes i n lt lo le first end. outside_rest utf8 bytes i n (omega arith) lo end)
+    (λ high. rw (is_units high, IsShardEnd) (units_end_of_rest high))
 
 end_at_front : (from : Form) (bytes : List ℕ) → IsShardEnd from bytes 0
-end_at_front Utf8 bytes = outside_front utf8 bytes
-end_at_front Utf16Le bytes = record { even = λ lt. refl; outside = outside_front utf16 (units_of false bytes) }
-end_at_front Utf16Be bytes = record { even = λ lt. refl; outside = outside_front utf16 (units_of true bytes) }
+end_at_front = by_form _ (outside_front utf8) (λ high. rw (is_units high, IsShardEnd) (λ bytes. record { even = λ lt. refl; outside = outside_front utf16 (units_of high bytes) }))
 
 ends_within : (from : Form) (bytes : List ℕ) (i : ℕ) (places : List ℕ) → AreShardEnds from bytes i places → i ≤ length bytes
 ends_within from bytes i [] h = h

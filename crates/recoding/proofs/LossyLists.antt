@@ -10,7 +10,6 @@ use Rattle.utf_base.specs.Piece.{Piece, Stands}
 use Rattle.utf_base.specs.Scalar.{IsScalar}
 use Rattle.utf_base.specs.Shown.{Shows, shown}
 use Rattle.utf_base.specs.Subparts.{IsMaximalSubpart, IsPart, ShowsParts, pieces_of}
-use Rattle.utf_base.proofs.FrontLemmas.{utf8_finds}
 use Rattle.utf_base.proofs.Rests.{shows_one}
 use Rattle.utf_base.proofs.Standing.{stands_first}
 use Rattle.utf_base.proofs.SubpartLemmas.{parts_become_the_cut}
@@ -19,16 +18,18 @@ use Rattle.utf_base.proofs.Utf8Code.{utf8_is_code}
 use Rattle.utf_base.proofs.Utf16Code.{length_utf16, utf16_is_code}
 use Rattle.utf_lanes.specs.BytePairs.{bytes_of, units_of}
 use Rattle.recoding.specs.declared.form.Form.{Form}
-use Rattle.recoding.specs.declared.form.Form.TheVariants.{Utf8, Utf16Le, Utf16Be}
+use Rattle.recoding.specs.declared.form.Form.TheVariants.{Utf8}
+use Rattle.recoding.specs.TextForms.{text_form, utf16_form}
+use Rattle.recoding.proofs.Forms.{by_form, is_units}
 use Rattle.recoding.specs.Lossy.{BeginsSubpart, IsLossy, ReadsParts, ShowsUnitParts, odd_part}
-use Rattle.recoding.specs.LossyBytes.{AddsEach, LossyIsOne, LossyJoinsFaults, LossyPartsAreOne, LossyUnitsAreRecoded, TextIsLossy, lossy, lossy_outcome, shown_by_parts}
-use Rattle.recoding.specs.Recoded.{fresh, IsProperFront, Recoding, ShowsUnits, odd_end, written}
+use Rattle.recoding.specs.LossyBytes.{AddsEach, LossyIsOne, LossyIsRecoded, LossyJoinsFaults, LossyPartsAreOne, LossyUnitsAreRecoded, TextIsLossy, lossy, lossy_outcome, shown_by_parts}
+use Rattle.recoding.specs.Recoded.{fresh, IsProperFront, Reads, Recoding, ShowsUnits, odd_end, written}
 use Rattle.recoding.specs.NextScalars.{Decides, Ends, ShowsEach}
 use Rattle.recoding.proofs.FrontBytes.{replacement}
 use Rattle.recoding.proofs.HeldFronts.{no_code_in_front}
 use Rattle.utf_base.proofs.PartLists.{part_shows_first, parts_show_none, parts_show_one, parts_show_some}
 use Rattle.recoding.proofs.RecodedLists.{same_list}
-use Rattle.recoding.proofs.CopiedUnits.{all_written, codes_show}
+use Rattle.recoding.proofs.CopiedUnits.{codes_show, joined_bytes}
 use Rattle.recoding.proofs.OddParts.{odd_part_of_text}
 use Rattle.recoding.proofs.TextLaws.{units_of_bytes}
 
@@ -73,15 +74,11 @@ unit_parts_one : (high : Bool) (bytes ss ts : List ℕ) → ShowsUnitParts high 
 unit_parts_one high bytes ss ts (xs, a, e) (ys, b, f) = e ∙ ap (λ zs. zs ++ odd_part high bytes) (parts_show_one utf16 utf16_is_code (units_of high bytes) xs ys a b) ∙ sym f
 
 parts_one : (from : Form) (bytes ss ts : List ℕ) → ReadsParts from bytes ss → ReadsParts from bytes ts → ss ≡ ts
-parts_one Utf8 bytes ss ts a b = parts_show_one utf8 utf8_is_code bytes ss ts a b
-parts_one Utf16Le bytes ss ts a b = unit_parts_one false bytes ss ts a b
-parts_one Utf16Be bytes ss ts a b = unit_parts_one true bytes ss ts a b
+parts_one = by_form _ (parts_show_one utf8 utf8_is_code) (λ high. rw (is_units high, ReadsParts) (unit_parts_one high))
 
 parts_are_read : (from : Form) (bytes : List ℕ) → ReadsParts from bytes (shown_by_parts from bytes)
 unfolding shown_by_parts
-parts_are_read Utf8 bytes = (parts_show_some utf8 utf8_is_code utf8_finds bytes).1
-parts_are_read Utf16Le bytes = let r = parts_show_some utf16 utf16_is_code utf16_finds (units_of false bytes) in (r.0, r.1, refl)
-parts_are_read Utf16Be bytes = let r = parts_show_some utf16 utf16_is_code utf16_finds (units_of true bytes) in (r.0, r.1, refl)
+parts_are_read from bytes = ((text_form from).parts_some bytes).1
 
 pub lossy_is : (from to : Form) (bytes : List ℕ) → IsLossy from to bytes (lossy from to bytes)
 unfolding lossy
@@ -96,9 +93,10 @@ pub lossy_is_one : LossyIsOne
 lossy_is_one from to bytes out = (same_lossy from to bytes out, λ e. subst (λ xs. IsLossy from to bytes xs) (sym e) (lossy_is from to bytes))
 
 pub nothing_is_lossy : (from to : Form) → lossy from to [] ≡ []
-nothing_is_lossy Utf8 to = sym (same_lossy Utf8 to [] [] ([], parts_show_none utf8, refl))
-nothing_is_lossy Utf16Le to = sym (same_lossy Utf16Le to [] [] ([], ([], parts_show_none utf16, refl), refl))
-nothing_is_lossy Utf16Be to = sym (same_lossy Utf16Be to [] [] ([], ([], parts_show_none utf16, refl), refl))
+nothing_is_lossy from to = sym (same_lossy from to [] [] ([], parts_none from, refl))
+  where
+    parts_none : (from : Form) → ReadsParts from [] []
+    parts_none = by_form _ (parts_show_none utf8) (λ high. rw (is_units high, ReadsParts) ([], parts_show_none utf16, refl))
 
 -- A part at the front.
 
@@ -168,9 +166,7 @@ units_in_text high cs all later ss (ts, r, f) = (
 )
 
 pub text_shows_parts : (from : Form) (cs : List ℕ) → All IsScalar cs → ShowsEach (ReadsParts from) (flat_map (written from) cs) cs
-text_shows_parts Utf8 cs all = text_in_parts cs all
-text_shows_parts Utf16Le cs all = rw (all_written false Utf16Le cs refl) (units_in_text false cs all)
-text_shows_parts Utf16Be cs all = rw (all_written true Utf16Be cs refl) (units_in_text true cs all)
+text_shows_parts = by_form _ text_in_parts (λ high. rw (is_units high, ReadsParts, written) (λ cs all. rw (joined_bytes high cs) (units_in_text high cs all)))
 
 pub text_is_lossy : TextIsLossy
 text_is_lossy from to text out later t =
@@ -185,12 +181,13 @@ units_alike : (high : Bool) (bytes ss : List ℕ) → odd_part high bytes ≡ od
 units_alike high bytes ss same (ts, r, e) = (ts, units_show (units_of high bytes) ts r, e ∙ ap (λ o. ts ++ o) same)
 
 pub lossy_units_are_recoded : LossyUnitsAreRecoded
-lossy_units_are_recoded to bytes =
-    let le = lossy_is Utf16Le to bytes in
-    let be = lossy_is Utf16Be to bytes in (
-      λ same. same_list Utf16Le to bytes (lossy Utf16Le to bytes) (le.0, units_alike false bytes le.0 same le.1, le.2),
-      λ same. same_list Utf16Be to bytes (lossy Utf16Be to bytes) (be.0, units_alike true bytes be.0 same be.1, be.2),
-    )
+lossy_units_are_recoded to bytes = (alike false, alike true)
+  where
+    alike : (high : Bool) → LossyIsRecoded high to bytes
+    alike high same =
+        let r = lossy_is (utf16_form high) to bytes in
+        let parts : ShowsUnitParts high bytes r.0 = rw (is_units high, ReadsParts) at r.1 in
+        same_list (utf16_form high) to bytes (lossy (utf16_form high) to bytes) (r.0, rw (is_units high, Reads) (units_alike high bytes r.0 same parts), r.2)
 
 pub lossy_joins_faults : LossyJoinsFaults
 lossy_joins_faults to bytes =

@@ -1,5 +1,5 @@
 -- The part that begins some bytes, from the piece that does.
-use Rattle.std.proofs.Common.{◌≡◌, ℕ, ◌<◌, ◌≤◌, ⊎_elim, inl, inr, Bool, true, false, Some, None, Option, List, [], ◌∷◌, ◌++◌, length, take, drop, arith, refl, ap, sym, ◌∙◌, subst, append_assoc, take-append-drop, length-take, lit<}
+use Rattle.std.proofs.Common.{◌≡◌, ℕ, ◌<◌, ◌≤◌, ⊎_elim, inl, inr, Bool, true, Some, None, Option, List, [], ◌∷◌, ◌++◌, length, take, drop, arith, refl, ap, sym, ◌∙◌, subst, append_assoc, take-append-drop, length-take, lit<}
 use Rattle.std.specs.Option.{option_map}
 use Rattle.std.proofs.lemmas.Bool.{cases_lt}
 use Rattle.std.proofs.lemmas.List.{append-nil, drop_all}
@@ -20,13 +20,14 @@ use Rattle.utf_lanes.specs.BytePairs.{unit_of, units_of}
 use Rattle.recoding.specs.declared.faults.FaultKind.{FaultKind}
 use Rattle.recoding.specs.declared.faults.FaultKind.TheVariants as kind
 use Rattle.recoding.specs.declared.form.Form.{Form}
-use Rattle.recoding.specs.declared.form.Form.TheVariants.{Utf8, Utf16Le, Utf16Be}
+use Rattle.recoding.specs.declared.form.Form.TheVariants.{Utf8}
+use Rattle.recoding.proofs.Forms.{by_form, is_units}
 use Rattle.recoding.specs.Lossy.{BeginsNoCode, BeginsSubpart, ReadsParts, ShowsUnitParts}
 use Rattle.recoding.specs.Recoded.{Lacks, written}
-use Rattle.recoding.specs.NextScalars.{Decides, Ends}
+use Rattle.recoding.specs.NextScalars.{Decides, Ends, fault_len}
 use Rattle.recoding.specs.Replacing.{BeginsBy, BeginsLast}
 use Rattle.recoding.specs.declared.way.Way.TheVariants.{Subparts}
-use Rattle.recoding.specs.Strict.{AwaitsKind, BeginsChar, BeginsFault}
+use Rattle.recoding.specs.Strict.{AwaitsKind, BeginsChar, BeginsFault, kind_of}
 use Rattle.recoding.proofs.FrontBytes.{first_unit, lacks_second, replacement, units_two}
 use Rattle.utf_base.proofs.LaterLemmas.{no_code_at_last}
 use Rattle.recoding.proofs.HeldFronts.{leading_by_itself, two_do_not_lack}
@@ -122,15 +123,12 @@ unit_fault high w k two kinds = record {
 }
 
 pub Decides-units : (from : Form) (w : List ℕ) (k : FaultKind) (n : ℕ) → (from ≡ Utf8 → ⊥) → BeginsFault from w k n → Decides (ReadsParts from) w 0xFFFD n
-Decides-units Utf8 w k n other f = absurd (other refl)
-Decides-units Utf16Le w k n other f =
-    let two : n ≡ 2 = f.len in
+Decides-units =
+    by_form _ (λ w k n other f. absurd (other refl))
+    (λ high w k n other f.
+    let two : n ≡ 2 = rw (is_units high, fault_len) at f.len in
     let within = f.within in
-    rw two (unit_fault false w k (omega arith) f.kind)
-Decides-units Utf16Be w k n other f =
-    let two : n ≡ 2 = f.len in
-    let within = f.within in
-    rw two (unit_fault true w k (omega arith) f.kind)
+    rw (two, is_units high, ReadsParts) (unit_fault high w k (omega arith) (rw (is_units high, kind_of) at f.kind)))
 
 -- And so are too few bytes of it at the end, all of them.
 
@@ -162,9 +160,7 @@ all_at_end high w some h = record {
     nothing_shown high ss (ts, r, f) = f ∙ ap (λ xs. xs ++ []) (parts_show_one utf16 utf16_is_code [] ts [] r (parts_show_none utf16))
 
 pub Ends-few : (from : Form) (w : List ℕ) → 0 < length w → Lacks from w → Ends (ReadsParts from) w 0xFFFD (length w)
-Ends-few Utf8 w some h = Ends-front w some h
-Ends-few Utf16Le w some h = all_at_end false w some h
-Ends-few Utf16Be w some h = all_at_end true w some h
+Ends-few = by_form _ Ends-front (λ high. rw (is_units high, Lacks, ReadsParts) (all_at_end high))
 
 -- So the code answers, which counts nothing here.
 

@@ -1,16 +1,9 @@
 -- What bytes are recoded as, as one list: parts that are fed, the end, and shards.
-use Rattle.std.proofs.Common.{◌≡◌, ℕ, ◌-◌, ◌≤◌, List, [], ◌∷◌, ◌++◌, length, take, drop, true, false, arith, refl, ap, sym, subst, ◌∙◌, append_assoc}
+use Rattle.std.proofs.Common.{◌≡◌, ℕ, ◌-◌, ◌≤◌, List, [], ◌∷◌, ◌++◌, length, take, drop, arith, refl, ap, sym, subst, ◌∙◌, append_assoc}
 use Rattle.std.proofs.lemmas.List.{append-nil, drop_all}
 use Rattle.std.specs.Prelude.{slice_range}
-use Rattle.utf_base.proofs.FrontLemmas.{utf8_finds}
-use Rattle.utf_base.proofs.UnitLemmas.{utf16_finds}
-use Rattle.utf_base.proofs.Rests.{shows_some}
-use Rattle.utf_base.proofs.Utf8Code.{utf8_is_code}
-use Rattle.utf_base.proofs.Utf16Code.{utf16_is_code}
-use Rattle.utf_base.specs.Code.{utf8, utf16}
-use Rattle.utf_lanes.specs.BytePairs.{units_of}
 use Rattle.recoding.specs.declared.form.Form.{Form}
-use Rattle.recoding.specs.declared.form.Form.TheVariants.{Utf8, Utf16Le, Utf16Be}
+use Rattle.recoding.specs.TextForms.{text_form}
 use Rattle.recoding.specs.Recoded.{IsRecoded, Reads, Recoding, Feeds, Finishes}
 use Rattle.recoding.specs.RecodedBytes.{AddsLast, AddsOutcome, KeepsOutcome, IsRecodedApart, RecodedIsOne, outcome, recoded, shown_by}
 use Rattle.recoding.specs.Rooms.{FeedsInto, FinishesInto}
@@ -20,9 +13,7 @@ use Rattle.recoding.proofs.JoinedShards.{shards_join}
 
 shown_is_read : (from : Form) (bytes : List ℕ) → Reads from bytes (shown_by from bytes)
 unfolding shown_by
-shown_is_read Utf8 bytes = (shows_some utf8 utf8_is_code utf8_finds bytes).1
-shown_is_read Utf16Le bytes = let r = shows_some utf16 utf16_is_code utf16_finds (units_of false bytes) in (r.0, r.1, refl)
-shown_is_read Utf16Be bytes = let r = shows_some utf16 utf16_is_code utf16_finds (units_of true bytes) in (r.0, r.1, refl)
+shown_is_read from bytes = ((text_form from).reads_some bytes).1
 
 pub recoded_is : (from to : Form) (bytes : List ℕ) → IsRecoded from to bytes (recoded from to bytes)
 unfolding recoded

@@ -1,37 +1,24 @@
 -- How long codes are, and bytes written after others.
-use Rattle.std.proofs.Common.{ℕ, Bool, true, false, ◌<◌, ◌≤◌, List, [], ◌++◌, length, take, flat_map, arith, refl, sym, ap, ⊎_elim, ◌∙◌, append_assoc, append-nil, length-append, length-take}
-use Rattle.std.proofs.lemmas.Bool.{cases_lt}
+use Rattle.std.proofs.Common.{ℕ, ◌<◌, ◌≤◌, List, [], ◌++◌, length, take, arith, refl, sym, ap, ◌∙◌, append_assoc, append-nil, length-append, length-take}
 use Rattle.utf_base.specs.Code.{utf16}
 use Rattle.utf_base.specs.Scalar.{IsScalar}
 use Rattle.utf_base.proofs.Utf8Code.{length_utf8, utf8_is_code}
-use Rattle.utf_base.proofs.Utf16Code.{utf16-1, utf16-2}
+use Rattle.utf_base.proofs.Utf16Code.{length_utf16, utf16_is_code}
 use Rattle.recoding.specs.declared.form.Form.{Form}
-use Rattle.recoding.specs.declared.form.Form.TheVariants.{Utf8, Utf16Le, Utf16Be}
+use Rattle.recoding.proofs.Forms.{by_form, is_units}
 use Rattle.recoding.specs.Recoded.{written}
 use Rattle.recoding.specs.Replacing.{FillsPlace, at_place}
-use Rattle.utf_lanes.specs.BytePairs.{bytes_of}
+use Rattle.recoding.proofs.Growing.{two_bytes}
 use Rattle.utf_lanes.specs.UnitCodes.{code_at, lane_unit, WritesUnits}
 use Rattle.utf_lanes.specs.Utf8ToUtf16.{concat_range}
 
-few_units : (high : Bool) (s : ℕ) → length (flat_map (bytes_of high) (utf16 s)) ≤ 4
-few_units true s = ⊎_elim (λ (low : s < 0x1_0000). rw (utf16-1 s low) (omega arith)) (λ (high : 0x1_0000 ≤ s). rw (utf16-2 s high) (omega arith)) (cases_lt s 0x1_0000)
-few_units false s = ⊎_elim (λ (low : s < 0x1_0000). rw (utf16-1 s low) (omega arith)) (λ (high : 0x1_0000 ≤ s). rw (utf16-2 s high) (omega arith)) (cases_lt s 0x1_0000)
-
 -- a code has no more than four bytes
 pub few_written : (to : Form) (s : ℕ) → length (written to s) ≤ 4
-few_written Utf8 s = length_utf8 s
-few_written Utf16Le s = few_units false s
-few_written Utf16Be s = few_units true s
-
-some_units : (high : Bool) (s : ℕ) → 0 < length (flat_map (bytes_of high) (utf16 s))
-some_units true s = ⊎_elim (λ (low : s < 0x1_0000). rw (utf16-1 s low) (omega arith)) (λ (high : 0x1_0000 ≤ s). rw (utf16-2 s high) (omega arith)) (cases_lt s 0x1_0000)
-some_units false s = ⊎_elim (λ (low : s < 0x1_0000). rw (utf16-1 s low) (omega arith)) (λ (high : 0x1_0000 ≤ s). rw (utf16-2 s high) (omega arith)) (cases_lt s 0x1_0000)
+few_written = by_form _ length_utf8 (λ high. rw (is_units high, written) (λ s. omega (arith, two_bytes high (utf16 s), length_utf16 s)))
 
 -- and some
 pub some_written : (to : Form) (s : ℕ) → IsScalar s → 0 < length (written to s)
-some_written Utf8 s scalar = utf8_is_code.some s scalar
-some_written Utf16Le s scalar = some_units false s
-some_written Utf16Be s scalar = some_units true s
+some_written = by_form _ utf8_is_code.some (λ high. rw (is_units high, written) (λ s scalar. omega (arith, two_bytes high (utf16 s), utf16_is_code.some s scalar)))
 
 -- Bytes written after others.
 

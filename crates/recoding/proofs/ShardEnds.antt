@@ -1,5 +1,5 @@
 -- The last place before another over which no code lies.
-use Rattle.std.proofs.Common.{◌≡◌, ℕ, ◌+◌, ◌-◌, ◌*◌, ◌/◌, ◌%◌, ◌<◌, ◌≤◌, ⊎_elim, Bool, true, false, List, [], ◌∷◌, ◌++◌, length, get_or, drop, arith, refl}
+use Rattle.std.proofs.Common.{◌≡◌, ℕ, ◌+◌, ◌-◌, ◌*◌, ◌/◌, ◌%◌, ◌<◌, ◌≤◌, ⊎_elim, Bool, List, [], ◌∷◌, ◌++◌, length, get_or, drop, arith, refl}
 use Rattle.std.proofs.lemmas.Bool.{cases_lt}
 use Rattle.std.proofs.lemmas.List.{take_rest}
 use Rattle.std.specs.Prelude.{Some}
@@ -13,7 +13,7 @@ use Rattle.utf_base.proofs.Standing.{not_inside, outside_end, same_char, stands_
 use Rattle.utf_base.proofs.Utf8Code.{utf8_is_code, length_utf8}
 use Rattle.utf_base.proofs.Utf16Code.{utf16_is_code, length_utf16}
 use Rattle.recoding.specs.declared.form.Form.{Form}
-use Rattle.recoding.specs.declared.form.Form.TheVariants.{Utf8, Utf16Le, Utf16Be}
+use Rattle.recoding.proofs.Forms.{by_form, is_units}
 use Rattle.utf_lanes.specs.BytePairs.{units_of, unit_of}
 use Rattle.recoding.specs.Shards.{IsShardEnd, IsLastShardEnd, IsLastOutside, IsLastUnitsEnd, IsUnitsEnd, LiesOver}
 use Rattle.recoding.proofs.JoinedShards.{even_units, units_within}
@@ -150,9 +150,7 @@ units_end_at_end high bytes = record {
 }
 
 end_at_end : (from : Form) (bytes : List ℕ) → IsShardEnd from bytes (length bytes)
-end_at_end Utf8 bytes = outside_end utf8 bytes
-end_at_end Utf16Le bytes = units_end_at_end false bytes
-end_at_end Utf16Be bytes = units_end_at_end true bytes
+end_at_end = by_form _ (outside_end utf8) (λ high. rw (is_units high, IsShardEnd) (units_end_at_end high))
 
 pub last_is_end : (from : Form) (bytes : List ℕ) (at : ℕ) → length bytes ≤ at → IsLastShardEnd from bytes at (length bytes)
 last_is_end from bytes at le = record { within = omega arith; before = le; outside = end_at_end from bytes; last = λ m within before end. within }

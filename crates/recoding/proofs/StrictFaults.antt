@@ -1,5 +1,5 @@
 -- A strict call stops at the first fault of what was fed.
-use Rattle.std.proofs.Common.{◌≡◌, ℕ, ◌-◌, ◌*◌, ◌/◌, ◌<◌, ◌≤◌, ⊎_elim, Bool, true, false, List, [], ◌∷◌, ◌++◌, length, take, drop, flat_map, Option, Some, None, arith, refl, ap, sym, subst, ◌∙◌, append-nil, append_assoc, length-append, length-drop}
+use Rattle.std.proofs.Common.{◌≡◌, ℕ, ◌-◌, ◌/◌, ◌<◌, ◌≤◌, ⊎_elim, Bool, List, [], ◌++◌, length, take, drop, flat_map, Option, Some, None, arith, refl, ap, sym, subst, ◌∙◌, append-nil, append_assoc, length-append, length-drop}
 use Rattle.std.proofs.Math.Seq.{take-append_seam, drop-append_seam}
 use Rattle.std.proofs.lemmas.Bool.{cases_lt}
 use Rattle.std.proofs.lemmas.List.Concat.{flat_map-append}
@@ -19,11 +19,14 @@ use Rattle.recoding.specs.declared.faults.FaultKind.{FaultKind}
 use Rattle.recoding.specs.declared.faults.FaultKind.TheVariants as kind
 use Rattle.recoding.specs.declared.faults.StrictProgress.{StrictProgress}
 use Rattle.recoding.specs.declared.form.Form.{Form}
-use Rattle.recoding.specs.declared.form.Form.TheVariants.{Utf8, Utf16Le, Utf16Be}
-use Rattle.recoding.proofs.CopiedUnits.{all_written}
+use Rattle.recoding.specs.declared.form.Form.TheVariants.{Utf8}
+use Rattle.recoding.specs.TextForms.{text_form}
+use Rattle.recoding.proofs.Forms.{by_form, is_units}
+use Rattle.recoding.proofs.CopiedUnits.{joined_bytes}
 use Rattle.recoding.proofs.FirstFaults.{IsGoodTo, first_fault, first_pair_fault, good_all}
 use Rattle.recoding.proofs.FrontBytes.{fault_is_some}
 use Rattle.recoding.proofs.GoodCodes.{good_codes_front}
+use Rattle.recoding.proofs.Growing.{two_bytes}
 use Rattle.recoding.proofs.TextLaws.{units_of_bytes}
 
 -- a kind that was wrapped
@@ -52,11 +55,6 @@ fault_after_text cs rest k all some e =
     first_fault (flat_map utf8 cs ++ rest) (length (flat_map utf8 cs)) known.0 (good_after_text cs rest all) (omega (arith, length-append (flat_map utf8 cs) rest))
     (rw (drop-append_seam (flat_map utf8 cs) rest) known.1)
 
-two_bytes : (high : Bool) (us : List ℕ) → length (flat_map (bytes_of high) us) ≡ 2 * length us
-two_bytes high [] = refl
-two_bytes true (u ∷ us) = let rest = two_bytes true us in omega arith
-two_bytes false (u ∷ us) = let rest = two_bytes false us in omega arith
-
 fault_after_units : (high : Bool) (cs rest : List ℕ) → All IsScalar cs → (0 < length (units_of high rest) → (k : _) × (unit_fault_kind (units_of high rest) ≡ Some k))
     → IsFirstUnitFault high (flat_map (bytes_of high) (flat_map utf16 cs) ++ rest) (length (flat_map (bytes_of high) (flat_map utf16 cs)))
 fault_after_units high cs rest all known =
@@ -79,19 +77,16 @@ fault_after_units high cs rest all known =
     }
 
 -- The same in any form: where bytes are text and then a fault, that is the first.
+
+told : (from : Form) (bytes : List ℕ) (n : ℕ) → (text_form from).first_fault bytes n → IsFirstFaultOf from bytes n
+told from bytes n h = (λ narrow. rw narrow at h, λ high form. rw (form, is_units high) at h)
+
 first_after : (from : Form) (bytes rest : List ℕ) (k : FaultKind) (cs : List ℕ) → All IsScalar cs → bytes ≡ flat_map (written from) cs ++ rest → 0 < length rest → kind_of from rest ≡ Some k
-    → (n : ℕ) → n ≡ length (flat_map (written from) cs) → IsFirstFaultOf from bytes n
-first_after Utf8 bytes rest k cs all parts some e n at = (λ _. rw (parts, at) (fault_after_text cs rest k all some e), λ other. absurd (let no : Utf8 ≡ Utf16Le = other in cc), λ other. absurd (let no : Utf8 ≡ Utf16Be = other in cc))
-first_after Utf16Le bytes rest k cs all parts some e n at = (
-  λ other. absurd (let no : Utf16Le ≡ Utf8 = other in cc),
-  λ _. rw (parts, at, all_written false Utf16Le cs refl) (fault_after_units false cs rest all (λ _. kind_within kind.Utf16 (unit_fault_kind (units_of false rest)) k e)),
-  λ other. absurd (let no : Utf16Le ≡ Utf16Be = other in cc),
-)
-first_after Utf16Be bytes rest k cs all parts some e n at = (
-  λ other. absurd (let no : Utf16Be ≡ Utf8 = other in cc),
-  λ other. absurd (let no : Utf16Be ≡ Utf16Le = other in cc),
-  λ _. rw (parts, at, all_written true Utf16Be cs refl) (fault_after_units true cs rest all (λ _. kind_within kind.Utf16 (unit_fault_kind (units_of true rest)) k e)),
-)
+    → (n : ℕ) → n ≡ length (flat_map (written from) cs) → (text_form from).first_fault bytes n
+first_after =
+    by_form _ (λ bytes rest k cs all parts some e n at. rw (parts, at) (fault_after_text cs rest k all some e))
+    (λ high. rw (is_units high, kind_of, written) (λ bytes rest k cs all parts some e n at.
+    rw (parts, at, joined_bytes high cs) (fault_after_units high cs rest all (λ _. kind_within kind.Utf16 (unit_fault_kind (units_of high rest)) k e))))
 
 -- What a call says of a recoder that held nothing.
 pub tells_first : (r : Recoding) (part old new : List ℕ) (p : StrictProgress) (s : Recoding) → FeedsStrictly r part old new p s → TellsFirst r part p s
@@ -113,7 +108,7 @@ tells_first r part old new p s f = record {
       let len = ends.0.len in
       let known : kind_of r.from left ≡ Some fault.kind = rw (append-nil left) at (ends.0.kind []) in
       let place : p.read - fault.back ≡ length (flat_map (written r.from) text.scalars) = omega (arith, ap length text.codes) in
-      (omega arith, first_after r.from part left fault.kind text.scalars text.all codes (omega arith) known (p.read - fault.back) place);
+      (omega arith, told r.from part (p.read - fault.back) (first_after r.from part left fault.kind text.scalars text.all codes (omega arith) known (p.read - fault.back) place));
   text = λ none e.
       let ends = subst (λ o. EndsFeed r.from r.to o f.fault s.held (drop p.read part) (length old - p.written)) e f.ends in
       let text = f.transcodes in
@@ -126,14 +121,11 @@ tells_first r part old new p s f = record {
 none_in_units : (high : Bool) (cs : List ℕ) → All IsScalar cs → IsFirstUnitFault high (flat_map (bytes_of high) (flat_map utf16 cs)) (length (flat_map (bytes_of high) (flat_map utf16 cs)))
 none_in_units high cs all = rw (append-nil (flat_map (bytes_of high) (flat_map utf16 cs))) at (fault_after_units high cs [] all (λ some. absurd (omega arith)))
 
-none_in_text : (from : Form) (bytes : List ℕ) (cs : List ℕ) → All IsScalar cs → bytes ≡ flat_map (written from) cs → IsFirstFaultOf from bytes (length bytes)
-none_in_text Utf8 bytes cs all is = (
-  λ _. rw is (good_all utf8 (flat_map utf8 cs) (length (flat_map utf8 cs)) (rw (append-nil (flat_map utf8 cs)) at (good_after_text cs [] all)) (omega arith)),
-  λ other. absurd (let no : Utf8 ≡ Utf16Le = other in cc),
-  λ other. absurd (let no : Utf8 ≡ Utf16Be = other in cc),
-)
-none_in_text Utf16Le bytes cs all is = (λ other. absurd (let no : Utf16Le ≡ Utf8 = other in cc), λ _. rw (is, all_written false Utf16Le cs refl) (none_in_units false cs all), λ other. absurd (let no : Utf16Le ≡ Utf16Be = other in cc))
-none_in_text Utf16Be bytes cs all is = (λ other. absurd (let no : Utf16Be ≡ Utf8 = other in cc), λ other. absurd (let no : Utf16Be ≡ Utf16Le = other in cc), λ _. rw (is, all_written true Utf16Be cs refl) (none_in_units true cs all))
+none_in_text : (from : Form) (bytes : List ℕ) (cs : List ℕ) → All IsScalar cs → bytes ≡ flat_map (written from) cs → (text_form from).first_fault bytes (length bytes)
+none_in_text =
+    by_form _
+    (λ bytes cs all is. rw is (good_all utf8 (flat_map utf8 cs) (length (flat_map utf8 cs)) (rw (append-nil (flat_map utf8 cs)) at (good_after_text cs [] all)) (omega arith)))
+    (λ high. rw (is_units high, written) (λ bytes cs all is. rw (is, joined_bytes high cs) (none_in_units high cs all)))
 
 -- What the end says.
 module _ (r : Recoding) (old new : List ℕ) (p : StrictProgress) (s : Recoding) (f : FinishesStrictly r old new p s) where
@@ -159,10 +151,10 @@ module _ (r : Recoding) (old new : List ℕ) (p : StrictProgress) (s : Recoding)
         let both = length-append (flat_map (written r.from) t.scalars) (f.fault ++ s.held) in
         let faulty = length-append f.fault s.held in
         let back = ends.1.back in
-        (omega arith, first_after r.from bytes (f.fault ++ s.held) fault.kind t.scalars t.all t.parts ends.0.some ends.0.kind (length bytes - fault.back) (omega arith));
+        (omega arith, told r.from bytes (length bytes - fault.back) (first_after r.from bytes (f.fault ++ s.held) fault.kind t.scalars t.all t.parts ends.0.some ends.0.kind (length bytes - fault.back) (omega arith)));
     none = λ bytes h e.
         let ends = subst (λ o. EndsFinish r.from r.to o f.fault s.held (length old - p.written)) e f.ends in
         let t = text_and_left bytes h in
         let whole = flat_map (written r.from) t.scalars in
-        none_in_text r.from bytes t.scalars t.all (t.parts ∙ ap (λ xs. whole ++ xs) (rw (ends.0, ends.1) refl) ∙ append-nil whole);
+        told r.from bytes (length bytes) (none_in_text r.from bytes t.scalars t.all (t.parts ∙ ap (λ xs. whole ++ xs) (rw (ends.0, ends.1) refl) ∙ append-nil whole));
   }

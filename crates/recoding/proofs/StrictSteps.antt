@@ -15,7 +15,7 @@ use Rattle.recoding.specs.declared.faults.StrictProgress.{StrictProgress}
 use Rattle.recoding.specs.declared.first_pieces.FirstPiece.{FirstPiece}
 use Rattle.recoding.specs.declared.first_pieces.FirstPiece.TheVariants as piece
 use Rattle.recoding.specs.declared.form.Form.{Form}
-use Rattle.recoding.specs.declared.form.Form.TheVariants.{Utf8, Utf16Le, Utf16Be}
+use Rattle.recoding.proofs.Forms.{by_form, is_units}
 use Rattle.recoding.specs.declared.recoder_runs.StrictRun.{StrictRun}
 use Rattle.recoding.proofs.FrontBytes.{fault_is_some}
 use Rattle.recoding.proofs.RoomRuns.{few_written}
@@ -55,9 +55,7 @@ BeginsFault-more from w x k n f =
 
 -- a fault has two bytes at most
 pub fault_few : (from : Form) → fault_len from ≤ 2
-fault_few Utf8 = omega arith
-fault_few Utf16Le = omega arith
-fault_few Utf16Be = omega arith
+fault_few = by_form _ (omega arith) (λ high. rw (is_units high, fault_len) (omega arith))
 
 front_len : (n : ℕ) (w : List ℕ) → n ≤ length w → length (take n w) ≡ n
 front_len n w le = omega (arith, length-take n w)

@@ -1,7 +1,6 @@
 -- Text recoded, and no fault: step by step.
-use Rattle.std.proofs.Common.{◌≡◌, ℕ, suc, lit<, ◌∷◌, length-append, ◌+◌, ◌-◌, ◌*◌, ◌/◌, ◌<◌, ◌≤◌, ⊎_elim, Bool, List, [], ◌++◌, length, get_or, take, drop, flat_map, arith, refl, ap, ap₂, sym, ◌∙◌, length-drop, length-take, take-append-drop, Fits, w8, IsUtf8}
+use Rattle.std.proofs.Common.{◌≡◌, ℕ, suc, ◌∷◌, length-append, ◌+◌, ◌-◌, ◌*◌, ◌/◌, ◌≤◌, Bool, List, [], ◌++◌, length, get_or, take, drop, flat_map, arith, refl, ap, ap₂, sym, ◌∙◌, length-drop, length-take, take-append-drop, Fits, w8, IsUtf8}
 use Rattle.std.specs.Prelude.{All}
-use Rattle.std.proofs.lemmas.Bool.{cases_lt}
 use Rattle.std.proofs.lemmas.List.{append-nil, take_all, take_rest, take-append-le, take-take}
 use Rattle.std.proofs.lemmas.List.Concat.{flat_map-append}
 use Rattle.std.proofs.lemmas.List.Elements.{All-append, All-nil, All-cons}
@@ -16,14 +15,16 @@ use Rattle.recoding.specs.Replacing.{FillsPlace, at_place}
 use Rattle.recoding.specs.NextScalars.{HasByteOrder}
 use Rattle.recoding.specs.Strict.{Transcodes, BeginsChar, PutsText}
 use Rattle.recoding.specs.declared.form.Form.{Form}
-use Rattle.recoding.specs.declared.form.Form.TheVariants.{Utf8, Utf16Le, Utf16Be}
+use Rattle.recoding.specs.declared.form.Form.TheVariants.{Utf8}
+use Rattle.recoding.proofs.Forms.{by_form, is_units}
 use Rattle.recoding.proofs.CopiedUnits.{all_written, coded_bytes, front_fits, in_order}
 use Rattle.recoding.proofs.GivenRuns.{given_codes}
 use Rattle.recoding.proofs.RoomLemmas.{take_more}
-use Rattle.recoding.proofs.Growing.{length_written}
+use Rattle.recoding.proofs.Growing.{length_units, length_written, two_bytes, two_units}
 use Rattle.recoding.proofs.RoomRuns.{FillsPlace-none, few_written, some_written}
 use Rattle.utf_base.proofs.Utf8Code.{utf8-4}
-use Rattle.utf_base.proofs.Utf16Code.{utf16-1, utf16-2}
+use Rattle.utf_base.specs.Code.{utf8, utf16}
+use Rattle.utf_base.proofs.Utf16Code.{utf16_is_code}
 
 -- The same text in two forms.
 
@@ -49,9 +50,9 @@ Transcodes-then {from} {to} f g = record {
 -- How much room a text takes.
 
 pub wide_written : (from : Form) (s : ℕ) → 0x1_0000 ≤ s → 2 ≤ length (written from s)
-wide_written Utf8 s high = let len : length (written Utf8 s) ≡ 4 = ap length (utf8-4 s high) in omega arith
-wide_written Utf16Le s high = rw (utf16-2 s high) (lit< tt)
-wide_written Utf16Be s high = rw (utf16-2 s high) (lit< tt)
+wide_written =
+    by_form _ (λ s wide. let len : length (written Utf8 s) ≡ 4 = ap length (utf8-4 s wide) in omega arith)
+    (λ high. rw (is_units high, written) (λ s wide. omega (arith, two_bytes high (utf16 s), two_units s wide)))
 
 pub code_room : (from to : Form) (s : ℕ) → IsScalar s → length (written to s) ≤ 3 * length (written from s)
 code_room from to s scalar = length_written to s (length (written from s)) (some_written from s scalar) (wide_written from s)
@@ -72,24 +73,15 @@ text_room {from} {to} t = omega (arith, codes_room from to t.scalars t.all, ap l
 
 -- Text at most doubles.
 
-two_written : (from : Form) (s : ℕ) → (from ≡ Utf8 → ⊥) → 2 ≤ length (written from s)
-two_written Utf8 s other = absurd (other refl)
-two_written Utf16Le s other = ⊎_elim (λ (low : s < 0x1_0000). rw (utf16-1 s low) (lit< tt)) (λ (high : 0x1_0000 ≤ s). wide_written Utf16Le s high) (cases_lt s 0x1_0000)
-two_written Utf16Be s other = ⊎_elim (λ (low : s < 0x1_0000). rw (utf16-1 s low) (lit< tt)) (λ (high : 0x1_0000 ≤ s). wide_written Utf16Be s high) (cases_lt s 0x1_0000)
-
-units_double : (to : Form) (s : ℕ) → IsScalar s → (s < 0x1_0000 → length (written to s) ≡ 2) → length (written to s) ≤ 2 * length (written Utf8 s)
-units_double to s scalar one =
-    ⊎_elim
-    (λ (low : s < 0x1_0000). omega (arith, one low, some_written Utf8 s scalar))
-    (λ (high : 0x1_0000 ≤ s). omega (arith, few_written to s, wide_written Utf8 s high))
-    (cases_lt s 0x1_0000)
+bytes_double : (to : Form) (s : ℕ) → IsScalar s → length (written to s) ≤ 2 * length (written Utf8 s)
+bytes_double =
+    by_form _ (λ s scalar. omega arith)
+    (λ high. rw (is_units high, written) (λ s scalar. omega (arith, two_bytes high (utf16 s), length_units s (length (utf8 s)) (some_written Utf8 s scalar) (wide_written Utf8 s))))
 
 pub code_doubles : (from to : Form) (s : ℕ) → IsScalar s → length (written to s) ≤ 2 * length (written from s)
-code_doubles Utf8 Utf8 s scalar = omega arith
-code_doubles Utf8 Utf16Le s scalar = units_double Utf16Le s scalar (λ low. rw (utf16-1 s low) refl)
-code_doubles Utf8 Utf16Be s scalar = units_double Utf16Be s scalar (λ low. rw (utf16-1 s low) refl)
-code_doubles Utf16Le to s scalar = omega (arith, few_written to s, two_written Utf16Le s (λ same. cc))
-code_doubles Utf16Be to s scalar = omega (arith, few_written to s, two_written Utf16Be s (λ same. cc))
+code_doubles =
+    by_form _ bytes_double
+    (λ high. rw (is_units high, written) (λ to s scalar. omega (arith, few_written to s, two_bytes high (utf16 s), utf16_is_code.some s scalar)))
 
 codes_double : (from to : Form) (ss : List ℕ) → All IsScalar ss → length (flat_map (written to) ss) ≤ 2 * length (flat_map (written from) ss)
 codes_double from to [] all = omega arith

@@ -1,40 +1,17 @@
 -- How many faults some bytes have, and how many of them a recoder has replaced by U+FFFD.
-use Rattle.std.specs.Prelude.{◌≡◌, ◌↔◌, ℕ, ◌+◌, ◌-◌, ◌^◌, Bool, List, ◌++◌, length, min, is_none, count_by, true, false}
-use Rattle.utf_base.specs.Code.{utf8, utf16}
-use Rattle.utf_base.specs.Piece.{Piece, IsCut}
-use Rattle.utf_base.proofs.Cuts.{cut_exists}
-use Rattle.utf_base.proofs.FrontLemmas.{utf8_finds}
-use Rattle.utf_base.proofs.UnitLemmas.{utf16_finds}
-use Rattle.utf_base.proofs.Utf8Code.{utf8_is_code}
-use Rattle.utf_base.proofs.Utf16Code.{utf16_is_code}
-use Rattle.utf_lanes.specs.BytePairs.{units_of}
+use Rattle.std.specs.Prelude.{◌≡◌, ◌↔◌, ℕ, ◌+◌, ◌-◌, ◌^◌, List, ◌++◌, min}
 use Rattle.recoding.specs.declared.form.Form.{Form}
-use Rattle.recoding.specs.declared.form.Form.TheVariants.{Utf8, Utf16Le, Utf16Be}
-use Rattle.recoding.specs.Recoded.{Recoding, odd_end}
-
--- how many of these pieces are faults
-abbrev pub faults_in : List Piece → ℕ
-faults_in ps = count_by (λ x. is_none x.char) ps
-
--- so many pieces of the one cut are
-abbrev pub HasFaults : (ℕ → List ℕ) → List ℕ → ℕ → Type 0
-HasFaults code xs n = (ps : List Piece) × IsCut code xs ps × (n ≡ faults_in ps)
-
--- so many are faults of the units that the bytes make, and an odd last byte is one more
-abbrev pub HasUnitFaults : Bool → List ℕ → ℕ → Type 0
-HasUnitFaults high_first bytes n = (m : ℕ) × HasFaults utf16 (units_of high_first bytes) m × (n ≡ m + length (odd_end bytes))
+pub use Rattle.recoding.specs.TextForms.{HasFaults, HasUnitFaults, faults_in}
+use Rattle.recoding.specs.TextForms.{text_form}
+use Rattle.recoding.specs.Recoded.{Recoding}
 
 -- so many faults have the bytes as text of that form
 abbrev pub Faults : Form → List ℕ → ℕ → Type 0
-Faults Utf8 = HasFaults utf8
-Faults Utf16Le = HasUnitFaults false
-Faults Utf16Be = HasUnitFaults true
+Faults from = (text_form from).faults
 
--- that number: `cut_exists` says that there is a cut
+-- that number
 unfoldable pub fault_count : Form → List ℕ → ℕ
-fault_count Utf8 bytes = faults_in (cut_exists utf8 utf8_is_code utf8_finds bytes).0
-fault_count Utf16Le bytes = faults_in (cut_exists utf16 utf16_is_code utf16_finds (units_of false bytes)).0 + length (odd_end bytes)
-fault_count Utf16Be bytes = faults_in (cut_exists utf16 utf16_is_code utf16_finds (units_of true bytes)).0 + length (odd_end bytes)
+fault_count from bytes = ((text_form from).faults_some bytes).0
 
 -- bytes have that many faults, and no other number of them
 abbrev pub FaultCountIsOne : Type 0

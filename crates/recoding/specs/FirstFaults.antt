@@ -1,32 +1,19 @@
 -- Where the first fault of a list is.
-use Rattle.std.specs.Prelude.{◌≡◌, ℕ, ◌-◌, ◌*◌, ◌/◌, ◌<◌, ◌≤◌, Bool, true, false, List, [], ◌++◌, length, flat_map, All, None}
-use Rattle.utf_base.specs.Code.{utf8, utf16}
-use Rattle.utf_base.specs.Piece.{Piece, IsPiece}
+use Rattle.std.specs.Prelude.{◌≡◌, ℕ, ◌-◌, ◌≤◌, Bool, List, [], ◌++◌, length, flat_map, All}
+use Rattle.utf_base.specs.Code.{utf8}
 use Rattle.utf_base.specs.Scalar.{IsScalar}
-use Rattle.utf_lanes.specs.BytePairs.{units_of}
 use Rattle.recoding.specs.Recoded.{Recoding, written}
 use Rattle.recoding.specs.declared.faults.Fault.{Fault}
 use Rattle.recoding.specs.declared.faults.Outcome.TheVariants.{AllRead, Faulty}
 use Rattle.recoding.specs.declared.faults.StrictProgress.{StrictProgress}
 use Rattle.recoding.specs.declared.form.Form.{Form}
-use Rattle.recoding.specs.declared.form.Form.TheVariants.{Utf8, Utf16Le, Utf16Be}
+use Rattle.recoding.specs.declared.form.Form.TheVariants.{Utf8}
+use Rattle.recoding.specs.TextForms.{utf16_form}
+pub use Rattle.recoding.specs.TextForms.{IsFirstFault, IsFirstUnitFault}
 
--- the first fault of the list begins at the place n, or there is none, and n is the length of the list
-pub record IsFirstFault (code : ℕ → List ℕ) (xs : List ℕ) (n : ℕ) : Type 0 where
-  pub within : n ≤ length xs
-  pub none : (x : Piece) → IsPiece code xs x → x.char ≡ None → n ≤ x.start
-  pub fault : n < length xs → IsPiece code xs (record { start = n; len = 1; char = None })
-
--- the first fault of bytes that are UTF-16 begins at the place n, which is that of a unit, or there is none, and n is their length.
--- A single byte at the end is a fault.
-pub record IsFirstUnitFault (high_first : Bool) (bytes : List ℕ) (n : ℕ) : Type 0 where
-  pub within : n ≤ length bytes
-  pub even : n ≡ 2 * (n / 2)
-  pub first : IsFirstFault utf16 (units_of high_first bytes) (n / 2)
-
--- The same of bytes in that form. Each form is a case that a caller can tell.
+-- The same of bytes in that form. UTF-8 is a case that a caller can tell, and so is UTF-16.
 abbrev pub IsFirstFaultOf : Form → List ℕ → ℕ → Type 0
-IsFirstFaultOf from bytes n = (from ≡ Utf8 → IsFirstFault utf8 bytes n) × (from ≡ Utf16Le → IsFirstUnitFault false bytes n) × (from ≡ Utf16Be → IsFirstUnitFault true bytes n)
+IsFirstFaultOf from bytes n = (from ≡ Utf8 → IsFirstFault utf8 bytes n) × ((high_first : Bool) → from ≡ utf16_form high_first → IsFirstUnitFault high_first bytes n)
 
 -- The bytes are text, the codes of some scalars, and then those that are held.
 pub record IsTextAndHeld (from : Form) (bytes held : List ℕ) : Type 0 where

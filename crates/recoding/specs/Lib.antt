@@ -1,3 +1,4 @@
+pub mod TextForms
 pub mod Recoded
 pub mod RecodedBytes
 pub mod Rooms

@@ -1,30 +1,23 @@
 -- What bytes of one form are recoded as in another with one U+FFFD for each maximal subpart, as one list, and what calls make of it.
-use Rattle.std.specs.Prelude.{◌≡◌, ◌↔◌, ℕ, ◌≤◌, false, true, List, [], ◌∷◌, ◌++◌, length, take, drop, flat_map, map}
+use Rattle.std.specs.Prelude.{◌≡◌, ◌↔◌, ℕ, ◌≤◌, Bool, false, true, List, [], ◌∷◌, ◌++◌, length, take, drop, flat_map, map}
 use Rattle.std.specs.List.{concat}
-use Rattle.utf_base.specs.Code.{utf8, utf16}
+use Rattle.utf_base.specs.Code.{utf8}
 use Rattle.utf_base.specs.Piece.{Piece}
 use Rattle.utf_base.specs.Shown.{shown}
 use Rattle.utf_base.specs.Subparts.{IsInParts, pieces_of}
-use Rattle.utf_base.proofs.FrontLemmas.{utf8_finds}
-use Rattle.utf_base.proofs.UnitLemmas.{utf16_finds}
-use Rattle.utf_base.proofs.Utf8Code.{utf8_is_code}
-use Rattle.utf_base.proofs.Utf16Code.{utf16_is_code}
-use Rattle.utf_lanes.specs.BytePairs.{units_of}
 use Rattle.recoding.specs.declared.form.Form.{Form}
-use Rattle.recoding.specs.declared.form.Form.TheVariants.{Utf8, Utf16Le, Utf16Be}
+use Rattle.recoding.specs.declared.form.Form.TheVariants.{Utf8}
+use Rattle.recoding.specs.TextForms.{text_form, utf16_form}
 use Rattle.recoding.specs.Lossy.{IsLossy, ReadsParts, odd_part}
 use Rattle.recoding.specs.Recoded.{Recoding, fresh, most_held, odd_end, written}
 use Rattle.recoding.specs.RecodedBytes.{recoded}
 use Rattle.recoding.specs.Rooms.{BeginsLonger}
 use Rattle.recoding.specs.NextScalars.{Decides, Ends}
 use Rattle.recoding.specs.Strict.{Transcodes}
-use Rattle.utf_base.proofs.PartLists.{parts_show_some}
 
--- the list that the parts of bytes show as text of that form: `parts_show_some` says that there is one
+-- the list that the parts of bytes show as text of that form
 unfoldable pub shown_by_parts : Form → List ℕ → List ℕ
-shown_by_parts Utf8 bytes = (parts_show_some utf8 utf8_is_code utf8_finds bytes).0
-shown_by_parts Utf16Le bytes = (parts_show_some utf16 utf16_is_code utf16_finds (units_of false bytes)).0 ++ odd_part false bytes
-shown_by_parts Utf16Be bytes = (parts_show_some utf16 utf16_is_code utf16_finds (units_of true bytes)).0 ++ odd_part true bytes
+shown_by_parts from bytes = ((text_form from).parts_some bytes).0
 
 -- the codes of these scalars: what the bytes become, with one U+FFFD for each maximal subpart
 unfoldable pub lossy : Form → Form → List ℕ → List ℕ
@@ -103,11 +96,12 @@ LossyPartsAreOne =
 
 -- Of UTF-16 each maximal subpart is one unit, or an odd byte, but for a leading surrogate and an odd byte at the end. So where the bytes
 -- do not end so, it is the same as where each fault is replaced.
+abbrev pub LossyIsRecoded : Bool → Form → List ℕ → Type 0
+LossyIsRecoded high_first to bytes = odd_part high_first bytes ≡ odd_end bytes → lossy (utf16_form high_first) to bytes ≡ recoded (utf16_form high_first) to bytes
+
+-- in both orders of bytes
 abbrev pub LossyUnitsAreRecoded : Type 0
-LossyUnitsAreRecoded =
-    (to : Form) (bytes : List ℕ)
-    → (odd_part false bytes ≡ odd_end bytes → lossy Utf16Le to bytes ≡ recoded Utf16Le to bytes)
-    × (odd_part true bytes ≡ odd_end bytes → lossy Utf16Be to bytes ≡ recoded Utf16Be to bytes)
+LossyUnitsAreRecoded = (to : Form) (bytes : List ℕ) → LossyIsRecoded false to bytes × LossyIsRecoded true to bytes
 
 -- and so is that of text, which has none, whatever follows it
 abbrev pub TextIsLossy : Type 0

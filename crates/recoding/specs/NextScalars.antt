@@ -1,10 +1,11 @@
 -- What the front of some bytes shows.
-use Rattle.std.specs.Prelude.{◌≡◌, ℕ, ◌+◌, ◌<◌, ◌≤◌, ◌++◌, ◌∷◌, List, length, drop, Bool, true, false, if◌then◌else◌}
+use Rattle.std.specs.Prelude.{◌≡◌, ℕ, ◌+◌, ◌<◌, ◌≤◌, ◌++◌, ◌∷◌, List, length, drop, Bool}
 use Rattle.utf_base.specs.Scalar.{IsScalar}
 use Rattle.recoding.specs.Recoded.{Reads}
 use Rattle.recoding.specs.Faults.{CountsTo, fault_count}
 use Rattle.recoding.specs.declared.form.Form.{Form}
-use Rattle.recoding.specs.declared.form.Form.TheVariants.{Utf8, Utf16Le, Utf16Be}
+use Rattle.recoding.specs.TextForms.{text_form}
+pub use Rattle.recoding.specs.TextForms.{utf16_form}
 use Rattle.recoding.specs.declared.next_scalar.NextScalar.{NextScalar}
 use Rattle.recoding.specs.declared.next_scalar.ShownPiece.{ShownPiece}
 use Rattle.recoding.specs.declared.next_scalar.ShownPiece.TheVariants as piece
@@ -43,9 +44,7 @@ BeginsPiece from w (piece.Fault n) = Settles from w 0xFFFD n 1
 
 -- how many bytes a fault has, where there are so many
 abbrev pub fault_len : Form → ℕ
-fault_len Utf8 = 1
-fault_len Utf16Le = 2
-fault_len Utf16Be = 2
+fault_len from = (text_form from).fault_len
 
 -- There are few bytes, and what follows decides; where nothing does, a fault begins them.
 pub record Waits (from : Form) (w : List ℕ) : Type 0 where
@@ -68,10 +67,4 @@ ShowsEach reads w ts = (later ss : List ℕ) → reads later ss → reads (w ++ 
 
 -- The form has units, of which the high byte is the first or the second.
 abbrev pub HasByteOrder : Bool → Form → Type 0
-HasByteOrder high_first Utf8 = ⊥
-HasByteOrder high_first Utf16Le = high_first ≡ false
-HasByteOrder high_first Utf16Be = high_first ≡ true
-
--- the form that has units in that order
-abbrev pub utf16_form : Bool → Form
-utf16_form big_endian = if big_endian then Utf16Be else Utf16Le
+HasByteOrder high_first from = from ≡ utf16_form high_first

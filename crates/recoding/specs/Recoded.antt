@@ -1,50 +1,23 @@
 -- Bytes of one form of text recoded as bytes of another: the codes of what they show.
-use Rattle.std.specs.Prelude.{◌≡◌, ℕ, ◌<◌, ◌≤◌, Bool, true, false, List, [], ◌∷◌, ◌++◌, length, take, flat_map, Some}
+use Rattle.std.specs.Prelude.{◌≡◌, ℕ, ◌≤◌, List, [], ◌∷◌, ◌++◌, length, flat_map}
 use Rattle.std.specs.List.{concat}
-use Rattle.utf_base.specs.Code.{utf8, utf16}
-use Rattle.utf_base.specs.Scalar.{IsScalar}
-use Rattle.utf_base.specs.Units.{unit_fault_kind}
-use Rattle.utf_base.specs.Shown.{Shows}
-use Rattle.utf_base.specs.declared.errors.units.Utf16PairError.TheVariants.{Incomplete}
 pub use Rattle.utf_lanes.specs.BytePairs.{unit_of, bytes_of, units_of}
 use Rattle.recoding.specs.declared.form.Form.{Form}
-use Rattle.recoding.specs.declared.form.Form.TheVariants.{Utf8, Utf16Le, Utf16Be}
-
--- an odd last byte is a fault
-abbrev pub odd_end : List ℕ → List ℕ
-odd_end [] = []
-odd_end (a ∷ []) = 0xFFFD ∷ []
-odd_end (a ∷ b ∷ bytes) = odd_end bytes
-
--- ss is what the units that the bytes make show, and U+FFFD for an odd last byte
-abbrev pub ShowsUnits : Bool → List ℕ → List ℕ → Type 0
-ShowsUnits high_first bytes ss = (ts : List ℕ) × Shows utf16 (units_of high_first bytes) ts × (ss ≡ ts ++ odd_end bytes)
+pub use Rattle.recoding.specs.TextForms.{IsProperFront, ShowsUnits, odd_end}
+use Rattle.recoding.specs.TextForms.{text_form}
 
 -- ss is what the bytes show as text of that form
 abbrev pub Reads : Form → List ℕ → List ℕ → Type 0
-Reads Utf8 = Shows utf8
-Reads Utf16Le = ShowsUnits false
-Reads Utf16Be = ShowsUnits true
-
--- the code of some scalar begins with the elements, and is longer
-pub record IsProperFront (code : ℕ → List ℕ) (w : List ℕ) : Type 0 where
-  pub char : ℕ
-  pub scalar : IsScalar char
-  pub longer : length w < length (code char)
-  pub front : take (length w) (code char) ≡ w
+Reads from = (text_form from).reads
 
 -- The bytes lack those that make a code of them: there is none, or they are the front of a code. Of units a leading surrogate
 -- is alone, and half a unit is none.
 abbrev pub Lacks : Form → List ℕ → Type 0
-Lacks Utf8 bytes = IsProperFront utf8 bytes
-Lacks Utf16Le bytes = unit_fault_kind (units_of false bytes) ≡ Some Incomplete
-Lacks Utf16Be bytes = unit_fault_kind (units_of true bytes) ≡ Some Incomplete
+Lacks from = (text_form from).lacks
 
 -- the code of a scalar, as bytes of that form
 abbrev pub written : Form → ℕ → List ℕ
-written Utf8 s = utf8 s
-written Utf16Le s = flat_map (bytes_of false) (utf16 s)
-written Utf16Be s = flat_map (bytes_of true) (utf16 s)
+written from = (text_form from).written
 
 -- `out` is the codes of what the bytes show
 abbrev pub IsRecoded : Form → Form → List ℕ → List ℕ → Type 0

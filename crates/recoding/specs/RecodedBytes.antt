@@ -1,21 +1,12 @@
 -- What bytes of one form are recoded as in another, as one list: the word for callers that state a result.
-use Rattle.std.specs.Prelude.{◌≡◌, ◌↔◌, ℕ, false, true, List, [], ◌++◌, drop, flat_map, take}
-use Rattle.utf_base.specs.Code.{utf8, utf16}
-use Rattle.utf_base.proofs.FrontLemmas.{utf8_finds}
-use Rattle.utf_base.proofs.UnitLemmas.{utf16_finds}
-use Rattle.utf_base.proofs.Rests.{shows_some}
-use Rattle.utf_base.proofs.Utf8Code.{utf8_is_code}
-use Rattle.utf_base.proofs.Utf16Code.{utf16_is_code}
-use Rattle.utf_lanes.specs.BytePairs.{units_of}
+use Rattle.std.specs.Prelude.{◌≡◌, ◌↔◌, ℕ, List, [], ◌++◌, drop, flat_map, take}
 use Rattle.recoding.specs.declared.form.Form.{Form}
-use Rattle.recoding.specs.declared.form.Form.TheVariants.{Utf8, Utf16Le, Utf16Be}
-use Rattle.recoding.specs.Recoded.{IsRecoded, Recoding, odd_end, written}
+use Rattle.recoding.specs.TextForms.{text_form}
+use Rattle.recoding.specs.Recoded.{IsRecoded, Recoding, written}
 
--- the list that bytes show as text of that form: `shows_some` says that there is one
+-- the list that bytes show as text of that form
 unfoldable pub shown_by : Form → List ℕ → List ℕ
-shown_by Utf8 bytes = (shows_some utf8 utf8_is_code utf8_finds bytes).0
-shown_by Utf16Le bytes = (shows_some utf16 utf16_is_code utf16_finds (units_of false bytes)).0 ++ odd_end bytes
-shown_by Utf16Be bytes = (shows_some utf16 utf16_is_code utf16_finds (units_of true bytes)).0 ++ odd_end bytes
+shown_by from bytes = ((text_form from).reads_some bytes).0
 
 -- the codes of these scalars: what the bytes are recoded as
 unfoldable pub recoded : Form → Form → List ℕ → List ℕ

@@ -1,10 +1,10 @@
 -- Recoding into room of a fixed size.
-use Rattle.std.specs.Prelude.{◌≡◌, ℕ, ◌+◌, ◌-◌, ◌*◌, ◌/◌, ◌<◌, ◌≤◌, List, ◌++◌, length, take, drop, Vec, vec_len, vec_capacity}
+use Rattle.std.specs.Prelude.{◌≡◌, ℕ, ◌+◌, ◌-◌, ◌*◌, ◌<◌, ◌≤◌, List, ◌++◌, length, take, drop, Vec, vec_len, vec_capacity}
 use Rattle.recoding.specs.Recoded.{Reads, written, IsRecoded, Recoding, Feeds}
 use Rattle.recoding.specs.NextScalars.{Decides, Ends}
 use Rattle.recoding.specs.declared.form.TheConstants.{WIDEST}
 use Rattle.recoding.specs.declared.form.Form.{Form}
-use Rattle.recoding.specs.declared.form.Form.TheVariants.{Utf8, Utf16Le, Utf16Be}
+use Rattle.recoding.specs.TextForms.{text_form}
 
 -- The places of the room from the one to the other became these bytes, and those before them stay. What follows may be anything.
 pub record Fills (old new : List ℕ) (from to : ℕ) (bytes : List ℕ) : Type 0 where
@@ -83,15 +83,11 @@ HasRoomFor out count = vec_len out + WIDEST * count ≤ vec_capacity out
 
 -- the most bytes that come of one byte or unit
 abbrev pub widest : Form → ℕ
-widest Utf8 = 3
-widest Utf16Le = 2
-widest Utf16Be = 2
+widest to = (text_form to).widest
 
 -- how many bytes or units so many bytes are, where half a unit counts as one
 abbrev pub parts_of : Form → ℕ → ℕ
-parts_of Utf8 n = n
-parts_of Utf16Le n = (n + 1) / 2
-parts_of Utf16Be n = (n + 1) / 2
+parts_of from = (text_form from).parts_of
 
 -- the most bytes that so many bytes are recoded as
 abbrev pub most_bytes : Form → Form → ℕ → ℕ

@@ -1,23 +1,16 @@
 -- Where bytes may be cut into shards, each of which is recoded by itself.
-use Rattle.std.specs.Prelude.{◌≡◌, ℕ, ◌+◌, ◌/◌, ◌%◌, ◌<◌, ◌≤◌, Bool, true, false, List, [], ◌∷◌, length, drop, slice_range}
+use Rattle.std.specs.Prelude.{ℕ, ◌+◌, ◌<◌, ◌≤◌, Bool, List, [], ◌∷◌, length, drop, slice_range}
 use Rattle.std.specs.List.{concat}
-use Rattle.utf_base.specs.Code.{utf8, utf16}
+use Rattle.utf_base.specs.Code.{utf16}
 use Rattle.utf_base.specs.Piece.{Stands, Inside}
 use Rattle.recoding.specs.declared.form.Form.{Form}
-use Rattle.recoding.specs.declared.form.Form.TheVariants.{Utf8, Utf16Le, Utf16Be}
-use Rattle.utf_lanes.specs.BytePairs.{units_of}
+use Rattle.recoding.specs.TextForms.{text_form}
+pub use Rattle.recoding.specs.TextForms.{IsUnitsEnd}
 use Rattle.recoding.specs.Recoded.{IsRecoded}
-
--- no unit of the bytes lies over the place, and no code of the units
-pub record IsUnitsEnd (high_first : Bool) (bytes : List ℕ) (n : ℕ) : Type 0 where
-  pub even : n < length bytes → n % 2 ≡ 0
-  pub outside : ¬ (Inside utf16 (units_of high_first bytes) (n / 2))
 
 -- a shard may end at the place: no code lies over it
 abbrev pub IsShardEnd : Form → List ℕ → ℕ → Type 0
-IsShardEnd Utf8 bytes n = ¬ (Inside utf8 bytes n)
-IsShardEnd Utf16Le bytes n = IsUnitsEnd false bytes n
-IsShardEnd Utf16Be bytes n = IsUnitsEnd true bytes n
+IsShardEnd from = (text_form from).is_end
 
 -- n is the last place, up to `at`, where a shard of the bytes may end
 pub record IsLastShardEnd (from : Form) (bytes : List ℕ) (at n : ℕ) : Type 0 where

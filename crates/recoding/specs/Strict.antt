@@ -1,21 +1,14 @@
 -- Strict recoding: of text alone, up to the first fault.
-use Rattle.std.specs.Prelude.{◌≡◌, ℕ, ◌+◌, ◌-◌, ◌<◌, ◌≤◌, List, [], ◌++◌, length, take, drop, flat_map, All, Option, Some, min, false, true}
-use Rattle.std.specs.Option.{option_map}
-use Rattle.utf_base.specs.Kinds.{fault_kind}
+use Rattle.std.specs.Prelude.{◌≡◌, ℕ, ◌+◌, ◌-◌, ◌<◌, ◌≤◌, List, [], ◌++◌, length, take, drop, flat_map, All, Option, Some, min}
 use Rattle.utf_base.specs.Scalar.{IsScalar}
-use Rattle.utf_base.specs.Units.{unit_fault_kind}
-use Rattle.utf_base.specs.declared.errors.Utf8ErrorKind.TheVariants.{TooFewBytes}
-use Rattle.utf_base.specs.declared.errors.units.Utf16PairError.TheVariants.{Incomplete}
-use Rattle.utf_lanes.specs.BytePairs.{units_of}
 use Rattle.recoding.specs.Recoded.{Recoding, IsRecoded, most_held, written}
 use Rattle.recoding.specs.Rooms.{BeginsLonger}
 use Rattle.recoding.specs.NextScalars.{fault_len}
 use Rattle.recoding.specs.declared.first_pieces.FirstPiece.{FirstPiece}
 use Rattle.recoding.specs.declared.first_pieces.FirstPiece.TheVariants as piece
 use Rattle.recoding.specs.declared.form.Form.{Form}
-use Rattle.recoding.specs.declared.form.Form.TheVariants.{Utf8, Utf16Le, Utf16Be}
+use Rattle.recoding.specs.TextForms.{text_form}
 use Rattle.recoding.specs.declared.faults.FaultKind.{FaultKind}
-use Rattle.recoding.specs.declared.faults.FaultKind.TheVariants as kind
 use Rattle.recoding.specs.declared.faults.Fault.{Fault}
 use Rattle.recoding.specs.declared.faults.Outcome.{Outcome}
 use Rattle.recoding.specs.declared.faults.Outcome.TheVariants.{AllRead, Full, Faulty}
@@ -36,15 +29,11 @@ TextIsRecoded =
 
 -- what a decoder says is wrong with bytes that no code begins; half a unit is none
 abbrev pub kind_of : Form → List ℕ → Option FaultKind
-kind_of Utf8 bytes = option_map kind.Utf8 (fault_kind bytes)
-kind_of Utf16Le bytes = option_map kind.Utf16 (unit_fault_kind (units_of false bytes))
-kind_of Utf16Be bytes = option_map kind.Utf16 (unit_fault_kind (units_of true bytes))
+kind_of from = (text_form from).kind_of
 
 -- the kind where elements lack
 abbrev pub lacking : Form → FaultKind
-lacking Utf8 = kind.Utf8 TooFewBytes
-lacking Utf16Le = kind.Utf16 Incomplete
-lacking Utf16Be = kind.Utf16 Incomplete
+lacking from = (text_form from).lacking
 
 -- There is no byte, or what follows the bytes decides which kind they have.
 pub record AwaitsKind (from : Form) (bytes : List ℕ) : Type 0 where

@@ -1,9 +1,10 @@
 -- What a recoder holds is not decided: what follows tells which scalar it shows first.
-use Rattle.std.specs.Prelude.{◌≡◌, ◌≢◌, ℕ, ◌<◌, ◌≤◌, List, [], ◌∷◌, ◌++◌, length, All}
+use Rattle.std.specs.Prelude.{◌≡◌, ◌≢◌, ℕ, ◌<◌, ◌≤◌, true, false, List, [], ◌∷◌, ◌++◌, length, All}
 use Rattle.utf_base.specs.Scalar.{IsScalar}
 use Rattle.recoding.specs.Recoded.{Reads, Lacks, IsProperFront, Continues, written}
 use Rattle.recoding.specs.declared.form.Form.{Form}
-use Rattle.recoding.specs.declared.form.Form.TheVariants.{Utf8, Utf16Le, Utf16Be}
+use Rattle.recoding.specs.declared.form.Form.TheVariants.{Utf8}
+use Rattle.recoding.specs.TextForms.{utf16_form}
 
 -- Where nothing follows the bytes, U+FFFD is shown first. Where the rest of the code of another scalar does, that scalar is.
 pub record IsUndecided (from : Form) (w : List ℕ) : Type 0 where
@@ -28,11 +29,11 @@ LackingTextIsUndecided = (w : List ℕ) → 0 < length w → Lacks Utf8 w → Is
 
 -- nor those of units, where the low byte of each is the first
 abbrev pub LackingUnitsAreUndecided : Type 0
-LackingUnitsAreUndecided = (w : List ℕ) → AreBytes w → 0 < length w → Lacks Utf16Le w → IsUndecided Utf16Le w
+LackingUnitsAreUndecided = (w : List ℕ) → AreBytes w → 0 < length w → Lacks (utf16_form false) w → IsUndecided (utf16_form false) w
 
 -- Where the high byte is, half a unit may be one that begins no code. A whole one is a leading surrogate.
 abbrev pub LackingUnitIsUndecided : Type 0
-LackingUnitIsUndecided = (w : List ℕ) → AreBytes w → length w ≡ 2 → Lacks Utf16Be w → IsUndecided Utf16Be w
+LackingUnitIsUndecided = (w : List ℕ) → AreBytes w → length w ≡ 2 → Lacks (utf16_form true) w → IsUndecided (utf16_form true) w
 
 -- Some bytes continue as one output and held bytes that are the front of a code. However else they continue, the output is no longer.
 abbrev pub NothingComesEarlier : Type 0

@@ -1,0 +1,167 @@
+-- The forms of text, each as one record: all that the other words say of bytes in a form, they say by it.
+use Rattle.std.specs.Prelude.{◌≡◌, ℕ, ◌+◌, ◌*◌, ◌/◌, ◌%◌, ◌<◌, ◌≤◌, Bool, true, false, if◌then◌else◌, List, [], ◌∷◌, ◌++◌, length, take, flat_map, count_by, is_none, Option, Some, None}
+use Rattle.std.proofs.Common.{refl}
+use Rattle.std.specs.Option.{option_map}
+use Rattle.utf_base.specs.Code.{utf8, utf16}
+use Rattle.utf_base.specs.Kinds.{fault_kind}
+use Rattle.utf_base.specs.Piece.{Piece, IsCut, IsPiece, Inside}
+use Rattle.utf_base.specs.Scalar.{IsScalar}
+use Rattle.utf_base.specs.Shown.{Shows}
+use Rattle.utf_base.specs.Subparts.{ShowsParts}
+use Rattle.utf_base.specs.Units.{is_leading_surrogate, unit_fault_kind}
+use Rattle.utf_base.specs.declared.errors.Utf8ErrorKind.TheVariants.{TooFewBytes}
+use Rattle.utf_base.specs.declared.errors.units.Utf16PairError.TheVariants.{Incomplete}
+use Rattle.utf_base.proofs.Cuts.{cut_exists}
+use Rattle.utf_base.proofs.FrontLemmas.{utf8_finds}
+use Rattle.utf_base.proofs.PartLists.{parts_show_some}
+use Rattle.utf_base.proofs.Rests.{shows_some}
+use Rattle.utf_base.proofs.UnitLemmas.{utf16_finds}
+use Rattle.utf_base.proofs.Utf8Code.{utf8_is_code}
+use Rattle.utf_base.proofs.Utf16Code.{utf16_is_code}
+use Rattle.utf_lanes.specs.BytePairs.{bytes_of, unit_of, units_of}
+use Rattle.recoding.specs.declared.faults.FaultKind.{FaultKind}
+use Rattle.recoding.specs.declared.faults.FaultKind.TheVariants as kind
+use Rattle.recoding.specs.declared.form.Form.{Form}
+use Rattle.recoding.specs.declared.form.Form.TheVariants.{Utf8, Utf16Le, Utf16Be}
+
+-- the code of some scalar begins with the elements, and is longer
+pub record IsProperFront (code : ℕ → List ℕ) (w : List ℕ) : Type 0 where
+  pub char : ℕ
+  pub scalar : IsScalar char
+  pub longer : length w < length (code char)
+  pub front : take (length w) (code char) ≡ w
+
+-- how many of these pieces are faults
+abbrev pub faults_in : List Piece → ℕ
+faults_in ps = count_by (λ x. is_none x.char) ps
+
+-- so many pieces of the one cut are
+abbrev pub HasFaults : (ℕ → List ℕ) → List ℕ → ℕ → Type 0
+HasFaults code xs n = (ps : List Piece) × IsCut code xs ps × (n ≡ faults_in ps)
+
+-- the first fault of the list begins at the place n, or there is none, and n is the length of the list
+pub record IsFirstFault (code : ℕ → List ℕ) (xs : List ℕ) (n : ℕ) : Type 0 where
+  pub within : n ≤ length xs
+  pub none : (x : Piece) → IsPiece code xs x → x.char ≡ None → n ≤ x.start
+  pub fault : n < length xs → IsPiece code xs (record { start = n; len = 1; char = None })
+
+-- The same words of bytes that are units, and maybe half a unit at the end.
+
+-- an odd last byte is a fault
+abbrev pub odd_end : List ℕ → List ℕ
+odd_end [] = []
+odd_end (a ∷ []) = 0xFFFD ∷ []
+odd_end (a ∷ b ∷ bytes) = odd_end bytes
+
+-- It is a subpart of its own, unless the last unit is a leading surrogate: both together are one subpart, which that
+-- unit shows already (so the WHATWG's decoder ends).
+abbrev pub odd_part : Bool → List ℕ → List ℕ
+odd_part high_first [] = []
+odd_part high_first (a ∷ []) = 0xFFFD ∷ []
+odd_part high_first (a ∷ b ∷ []) = []
+odd_part high_first (a ∷ b ∷ c ∷ []) = if is_leading_surrogate (unit_of high_first a b) then [] else 0xFFFD ∷ []
+odd_part high_first (a ∷ b ∷ c ∷ d ∷ bytes) = odd_part high_first (c ∷ d ∷ bytes)
+
+-- ss is what the units that the bytes make show, and U+FFFD for an odd last byte
+abbrev pub ShowsUnits : Bool → List ℕ → List ℕ → Type 0
+ShowsUnits high_first bytes ss = (ts : List ℕ) × Shows utf16 (units_of high_first bytes) ts × (ss ≡ ts ++ odd_end bytes)
+
+-- ss is what the parts of the units that the bytes make show, and an odd last byte where it is a subpart
+abbrev pub ShowsUnitParts : Bool → List ℕ → List ℕ → Type 0
+ShowsUnitParts high_first bytes ss = (ts : List ℕ) × ShowsParts utf16 (units_of high_first bytes) ts × (ss ≡ ts ++ odd_part high_first bytes)
+
+-- so many are faults of the units that the bytes make, and an odd last byte is one more
+abbrev pub HasUnitFaults : Bool → List ℕ → ℕ → Type 0
+HasUnitFaults high_first bytes n = (m : ℕ) × HasFaults utf16 (units_of high_first bytes) m × (n ≡ m + length (odd_end bytes))
+
+-- the first fault of bytes that are UTF-16 begins at the place n, which is that of a unit, or there is none, and n is their length.
+-- A single byte at the end is a fault.
+pub record IsFirstUnitFault (high_first : Bool) (bytes : List ℕ) (n : ℕ) : Type 0 where
+  pub within : n ≤ length bytes
+  pub even : n ≡ 2 * (n / 2)
+  pub first : IsFirstFault utf16 (units_of high_first bytes) (n / 2)
+
+-- no unit of the bytes lies over the place, and no code of the units
+pub record IsUnitsEnd (high_first : Bool) (bytes : List ℕ) (n : ℕ) : Type 0 where
+  pub even : n < length bytes → n % 2 ≡ 0
+  pub outside : ¬ (Inside utf16 (units_of high_first bytes) (n / 2))
+
+-- What a form is.
+
+-- A form of text. The words that have a form as a parameter are its fields: `Reads from` is the field `reads` of the form, and so on.
+pub record TextForm : Type 1 where
+  -- the code of a scalar, and how long it is at most for each byte or unit that shows the scalar
+  pub written : ℕ → List ℕ
+  pub widest : ℕ
+  -- how many bytes or units so many bytes are
+  pub parts_of : ℕ → ℕ
+  -- what bytes show piece by piece, and part by part, and how many faults they have: there is a list, or a number
+  pub reads : List ℕ → List ℕ → Type 0
+  pub reads_some : (bytes : List ℕ) → (ss : List ℕ) × reads bytes ss
+  pub reads_parts : List ℕ → List ℕ → Type 0
+  pub parts_some : (bytes : List ℕ) → (ss : List ℕ) × reads_parts bytes ss
+  pub faults : List ℕ → ℕ → Type 0
+  pub faults_some : (bytes : List ℕ) → (n : ℕ) × faults bytes n
+  -- how many bytes a fault has, its kind, and where the first is
+  pub fault_len : ℕ
+  pub kind_of : List ℕ → Option FaultKind
+  pub first_fault : List ℕ → ℕ → Type 0
+  -- the kind where elements lack, and bytes that lack some
+  pub lacking : FaultKind
+  pub lacks : List ℕ → Type 0
+  -- no code lies over the place
+  pub is_end : List ℕ → ℕ → Type 0
+
+abbrev pub utf8_form : TextForm
+utf8_form = record {
+  written = utf8;
+  widest = 3;
+  parts_of = λ n. n;
+  reads = Shows utf8;
+  reads_some = shows_some utf8 utf8_is_code utf8_finds;
+  reads_parts = ShowsParts utf8;
+  parts_some = parts_show_some utf8 utf8_is_code utf8_finds;
+  faults = HasFaults utf8;
+  faults_some = λ bytes. let cut = cut_exists utf8 utf8_is_code utf8_finds bytes in (faults_in cut.0, (cut.0, cut.1, refl));
+  fault_len = 1;
+  kind_of = λ bytes. option_map kind.Utf8 (fault_kind bytes);
+  first_fault = λ bytes n. IsFirstFault utf8 bytes n;
+  lacking = kind.Utf8 TooFewBytes;
+  lacks = λ bytes. IsProperFront utf8 bytes;
+  is_end = λ bytes n. ¬ (Inside utf8 bytes n);
+}
+
+-- UTF-16, with the high byte of each unit first or second
+abbrev pub units_form : Bool → TextForm
+units_form high_first = record {
+  written = λ s. flat_map (bytes_of high_first) (utf16 s);
+  widest = 2;
+  parts_of = λ n. (n + 1) / 2;
+  reads = ShowsUnits high_first;
+  reads_some = λ bytes. let shown = shows_some utf16 utf16_is_code utf16_finds (units_of high_first bytes) in (shown.0 ++ odd_end bytes, (shown.0, shown.1, refl));
+  reads_parts = ShowsUnitParts high_first;
+  parts_some = λ bytes. let shown = parts_show_some utf16 utf16_is_code utf16_finds (units_of high_first bytes) in (shown.0 ++ odd_part high_first bytes, (shown.0, shown.1, refl));
+  faults = HasUnitFaults high_first;
+  faults_some = λ bytes.
+      let cut = cut_exists utf16 utf16_is_code utf16_finds (units_of high_first bytes) in
+      (faults_in cut.0 + length (odd_end bytes), (faults_in cut.0, (cut.0, cut.1, refl), refl));
+  fault_len = 2;
+  kind_of = λ bytes. option_map kind.Utf16 (unit_fault_kind (units_of high_first bytes));
+  first_fault = λ bytes n. IsFirstUnitFault high_first bytes n;
+  lacking = kind.Utf16 Incomplete;
+  lacks = λ bytes. unit_fault_kind (units_of high_first bytes) ≡ Some Incomplete;
+  is_end = λ bytes n. IsUnitsEnd high_first bytes n;
+}
+
+-- the form that has units in that order
+abbrev pub utf16_form : Bool → Form
+utf16_form big_endian = if big_endian then Utf16Be else Utf16Le
+
+-- What is given of UTF-8, and of units in any order of bytes, is given of each form. No other word has a case for each.
+abbrev pub by_form {ℓ} : (P : Form → Type ℓ) → P Utf8 → ((high_first : Bool) → P (utf16_form high_first)) → (form : Form) → P form
+by_form P bytes units Utf8 = bytes
+by_form P bytes units Utf16Le = units false
+by_form P bytes units Utf16Be = units true
+
+abbrev pub text_form : Form → TextForm
+text_form = by_form (λ form. TextForm) utf8_form units_form
