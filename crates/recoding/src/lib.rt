@@ -9,7 +9,6 @@
 mod ascii_to_utf16;
 pub mod boundaries;
 mod codes;
-mod copied;
 mod engine;
 pub mod faults;
 mod fills;
@@ -31,8 +30,8 @@ mod room;
 pub mod rooms;
 pub mod shards;
 pub mod strict;
-mod swapped;
 mod text;
+mod turned;
 mod utf16_to_utf8;
 mod utf8_to_utf16;
 mod way;

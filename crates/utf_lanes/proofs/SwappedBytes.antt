@@ -16,9 +16,10 @@ swapped_more xs old mid new p n even within e f =
     ∙ ap (λ ys. old ++ ys) (sym (swapped_append (take p xs) (take n (drop p xs)) (p / 2) half) ∙ ap swapped (sym (take-add p n xs)))
 
 -- blocks of whole pairs
-pub width_pairs : (n : ℕ) → (n ≡ 64) ⊎ (n ≡ 16) → n % 2 ≡ 0
+pub width_pairs : (n : ℕ) → (n ≡ 64) ⊎ ((n ≡ 16) ⊎ (n ≡ 2)) → n % 2 ≡ 0
 width_pairs n (inl at) = omega arith
-width_pairs n (inr at) = omega arith
+width_pairs n (inr (inl at)) = omega arith
+width_pairs n (inr (inr at)) = omega arith
 
 -- the rest of the bytes after a front
 pub swapped_rest : (xs old mid new : List ℕ) (p : ℕ) → p % 2 ≡ 0 → p ≤ length xs → mid ≡ old ++ swapped (take p xs) → new ≡ mid ++ swapped (drop p xs) → new ≡ old ++ swapped xs
