@@ -8,11 +8,11 @@ ghost use Rattle.utf_lanes.specs.Utf8ToUtf16.{utf16_bytes};
 
 use crate::ascii_to_utf16::{put_ascii_as_utf16, put_ascii_front};
 use crate::block_output::BlockOutput;
-use crate::copied::copy_units;
 use crate::form::WIDEST;
 use crate::next_scalar::ascii_of_units;
 use crate::output::Output;
 use crate::text::{Text, Utf8, Utf16};
+use crate::turned::copy_units;
 use utf_lanes::ascii_texts::is_ascii;
 use utf_lanes::byte_order::ByteOrder;
 use utf_lanes::text_blocks::{are_text, text_len};

@@ -1,5 +1,5 @@
 -- Bytes swapped in pairs, part by part, and as lanes.
-use Rattle.std.proofs.Common.{◌≡◌, ℕ, zero, suc, ◌+◌, ◌-◌, ◌*◌, ◌/◌, ◌%◌, ◌≤◌, List, [], ◌∷◌, ◌++◌, ◌⊎◌, inl, inr, map, length, get_or, take, drop, refl, sym, ap, ap₂, ◌∙◌, arith, append_assoc, length-append, length-take, length-drop, drop-cons, take-add, take-append-drop}
+use Rattle.std.proofs.Common.{◌≡◌, ℕ, zero, suc, ◌+◌, ◌-◌, ◌*◌, ◌/◌, ◌%◌, ◌≤◌, List, [], ◌∷◌, ◌++◌, map, length, get_or, take, drop, refl, sym, ap, ap₂, ◌∙◌, arith, append_assoc, length-append, length-take, length-drop, drop-cons, take-add, take-append-drop}
 use Rattle.std.proofs.lemmas.List.{drop-drop, drop_at, take_at, take_all}
 use Rattle.utf_lanes.specs.BytePairs.{swapped}
 
@@ -14,11 +14,6 @@ swapped_more xs old mid new p n even within e f =
     let half : length (take p xs) ≡ 2 * (p / 2) = omega (arith, length-take p xs) in
     f ∙ ap (λ ys. ys ++ swapped (take n (drop p xs))) e ∙ append_assoc old (swapped (take p xs)) (swapped (take n (drop p xs)))
     ∙ ap (λ ys. old ++ ys) (sym (swapped_append (take p xs) (take n (drop p xs)) (p / 2) half) ∙ ap swapped (sym (take-add p n xs)))
-
--- blocks of whole pairs
-pub width_pairs : (n : ℕ) → (n ≡ 64) ⊎ (n ≡ 16) → n % 2 ≡ 0
-width_pairs n (inl at) = omega arith
-width_pairs n (inr at) = omega arith
 
 -- the rest of the bytes after a front
 pub swapped_rest : (xs old mid new : List ℕ) (p : ℕ) → p % 2 ≡ 0 → p ≤ length xs → mid ≡ old ++ swapped (take p xs) → new ≡ mid ++ swapped (drop p xs) → new ≡ old ++ swapped xs

@@ -1,5 +1,5 @@
 //! Texts of ASCII alone, judged as a whole, and the units of sixteen bytes of them.
-ghost use Rattle.std.specs.Prelude.{◌≡◌, ℕ, ◌+◌, ◌<◌, ◌≤◌, IsTrue, length, slice_index};
+ghost use Rattle.std.specs.Prelude.{◌≡◌, ℕ, ◌+◌, ◌*◌, ◌<◌, ◌≤◌, IsTrue, length, slice_index};
 ghost use Rattle.utf_lanes.specs.AsciiTexts.{AreAscii};
 ghost use Rattle.utf_lanes.specs.Utf8ToUtf16.{concat_range, halves};
 
@@ -16,7 +16,7 @@ pub fn is_ascii(bytes: &[u8]) -> bool
     if bytes.len() <= 16 {
         return is_ascii_few(bytes);
     }
-    let wide = ascii_wide_end(bytes, 0);
+    let wide = ascii_end::<1>(bytes, 0);
     is_ascii_from(bytes, wide)
 }
 
@@ -112,38 +112,42 @@ pub fn ascii_wide_end(bytes: &[u8], start: usize) -> usize
     ensures within { result ≤ length bytes.now }
     ensures ascii { AreAscii bytes.now start result }
 {
-    let place = ascii_pairs_end(bytes, start);
+    let place = ascii_end::<2>(bytes, start);
     if 64 <= bytes.len() - place && is_ascii_block(bytes, place) {
         return place + 64;
     }
     place
 }
 
-// The same of two blocks at once alone.
+// The same of so many blocks at once alone, one or two.
 #[inline(always)]
-fn ascii_pairs_end(bytes: &[u8], start: usize) -> usize
-    requires { start ≤ length bytes.now }
+pub(crate) fn ascii_end<const BLOCKS: usize>(bytes: &[u8], start: usize) -> usize
+    requires some { 1 ≤ BLOCKS }
+    requires few { BLOCKS ≤ 2 }
+    requires start { start ≤ length bytes.now }
     ensures least { start ≤ result }
     ensures within { result ≤ length bytes.now }
     ensures ascii { AreAscii bytes.now start result }
 {
     let mut place = start;
-    while 128 <= bytes.len() - place {
-        if !are_ascii_blocks(bytes, place) {
+    while 64 * BLOCKS <= bytes.len() - place {
+        if !are_ascii_blocks::<BLOCKS>(bytes, place) {
             return place;
         }
-        place += 128;
+        place += 64 * BLOCKS;
     }
     place
 }
 
-// Whether the 128 bytes from the place on are ASCII.
+// Whether so many blocks from the place on are ASCII: the first and the last are all of them.
 #[inline(always)]
-fn are_ascii_blocks(bytes: &[u8], place: usize) -> bool
-    requires { place + 128 ≤ length bytes.now }
-    ensures { IsTrue result → AreAscii bytes.now place (place + 128) }
+fn are_ascii_blocks<const BLOCKS: usize>(bytes: &[u8], place: usize) -> bool
+    requires some { 1 ≤ BLOCKS }
+    requires few { BLOCKS ≤ 2 }
+    requires within { place + 64 * BLOCKS ≤ length bytes.now }
+    ensures { IsTrue result → AreAscii bytes.now place (place + 64 * BLOCKS) }
 {
-    is_ascii_block(bytes, place) & is_ascii_block(bytes, place + 64)
+    is_ascii_block(bytes, place) & is_ascii_block(bytes, place + 64 * (BLOCKS - 1))
 }
 
 /// Each byte with a NUL: the first eight bytes, and the others.

@@ -7,7 +7,7 @@ ghost use Rattle.std.specs.Prelude.{◌≡◌, ℕ, ◌+◌, ◌<◌, ◌≤◌,
 ghost use Rattle.utf_lanes.specs.AsciiTexts.{AreAscii};
 ghost use Rattle.utf_lanes.specs.TextBlocks.{AllMayFollow, ArePairsLeft, EndsCharacter, ZeroLanesFollow, ZerosFollow};
 
-use crate::ascii_texts::{ascii_wide_end, is_ascii_block, is_ascii_each};
+use crate::ascii_texts::{ascii_end, ascii_wide_end, is_ascii_block, is_ascii_each};
 use crate::few_bytes::{before_lanes, padded_text};
 use crate::look_ups::LookUp;
 use crate::text_front::front_of_text;
@@ -229,7 +229,7 @@ fn valid_len_wide(bytes: &[u8], start: usize) -> usize
     let mut place = start;
     while 64 <= bytes.len() - place {
         if is_ascii_block(bytes, place) && ends_character(bytes, place) {
-            place = ascii_wide_end(bytes, place + 64);
+            place = ascii_end::<1>(bytes, place + 64);
         } else if follows_block(bytes, place) {
             place += 64;
         } else {

@@ -6,9 +6,9 @@ pub loop-place-preserved-then-ends_character : goal.loop-place-preserved-then-en
 loop-place-preserved-then-ends_character c =
     let xs = c.args.bytes.now in
     let place = c.loop-place.place in
-    let end = c.ascii_wide_end-place.result in
+    let end = c.ascii_end-place.result in
     let block = ascii_block xs place (c.is_ascii_block.ensures.ascii c.if-is_ascii_block.true) in
-    let ascii = ascii_on xs place (place + 64) end block c.ascii_wide_end-place.ensures.ascii in
+    let ascii = ascii_on xs place (place + 64) end block c.ascii_end-place.ensures.ascii in
     let new = ascii_follows xs place end (c.ends_character.ensures.closed c.if-ends_character.true) ascii (omega arith) in
     (omega arith, omega arith, follow_on xs c.args.start place end c.loop-place.invariant.2 new)
 

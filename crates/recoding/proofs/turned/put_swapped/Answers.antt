@@ -1,7 +1,7 @@
 use Rattle.std.proofs.Common.{◌≡◌, ◌+◌, ◌-◌, take, drop, length, arith, length-take, length-drop}
-use Rattle.std.proofs.lemmas.List.{take_rest}
+use Rattle.std.proofs.lemmas.List.{take_all, take_rest}
 use Rattle.recoding.proofs.SwappedRuns.{appends_swapped, appends_swapped_rest, length_swapped_front}
-use Rattle.recoding.proofs.swapped.put_swapped.Goals as goal
+use Rattle.recoding.proofs.turned.put_swapped.Goals as goal
 
 pub put_blocks-place-requires-clause-room : goal.put_blocks-place-requires-clause-room
 put_blocks-place-requires-clause-room g c =
@@ -27,6 +27,12 @@ put_last-requires-clause-room g c =
       g.met.O.Output.appends_room _ _ _ second.appends,
       length_swapped_front rest place second.even second.within,
     )
+
+pub returns-then-bytes-lt16 : goal.returns-then-bytes-lt16
+returns-then-bytes-lt16 g c =
+    let put = c.put_blocks.ensures in
+    let even = put.even in
+    rw (take_all c.put_blocks.result c.args.bytes.now (omega arith)) at put.appends
 
 pub returns : goal.returns
 returns g c =

@@ -1,7 +1,7 @@
 use Rattle.std.proofs.Common.{[], arith, refl}
 use Rattle.recoding.specs.Recodes.{differ}
 use Rattle.recoding.proofs.SwappedRuns.{turned_none}
-use Rattle.recoding.proofs.copied.copy_units.Goals as goal
+use Rattle.recoding.proofs.turned.copy_units.Goals as goal
 
 pub returns-then-len-eq0 : goal.returns-then-len-eq0
 returns-then-len-eq0 g c = record {

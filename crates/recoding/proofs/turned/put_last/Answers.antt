@@ -1,5 +1,5 @@
 use Rattle.utf_lanes.proofs.SwappedBytes.{swapped_last}
-use Rattle.recoding.proofs.swapped.put_last.Goals as goal
+use Rattle.recoding.proofs.turned.put_last.Goals as goal
 
 pub returns : goal.returns
 returns g c =

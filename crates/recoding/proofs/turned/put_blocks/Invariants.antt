@@ -1,6 +1,6 @@
 use Rattle.std.proofs.Common.{◌≡◌, ◌-◌, ◌%◌, ◌≤◌, length, take}
 use Rattle.utf_lanes.specs.BytePairs.{swapped}
-use Rattle.recoding.proofs.swapped.put_pairs.Given as goal
+use Rattle.recoding.proofs.turned.put_blocks.Given as goal
 
 abbrev pub invariant-loop-place : goal.invariant-loop-place
 invariant-loop-place g l = record {
