@@ -12,22 +12,17 @@
 
 pub mod ascii_texts;
 pub mod byte_pairs;
-mod compressed;
 mod few_bytes;
 mod look_ups;
 pub mod paired_units;
 mod shuffles;
-mod sixteen_slots;
-mod slot_writers;
+mod slots;
 pub mod starts;
 pub mod text_blocks;
 pub mod text_front;
 pub mod text_puts;
 pub mod text_units;
-mod thirty_two_slots;
 pub mod unit_blocks;
 pub mod unit_bytes;
 pub mod unit_starts;
 pub mod utf16_blocks;
-pub mod wide_halves;
-mod wide_rows;
