@@ -97,8 +97,8 @@ LENT = {"utf_chars/utf8_char.rt": ["scalar"]}
 
 # What goes by lanes: of these files there is a copy for processors with AVX2 (wide.py), over the types of all other files.
 WIDE = ("utf_lanes/",) + tuple(f"recoding/{it}.rt" for it in (
-    "ascii_to_utf16", "codes", "copied", "engine", "fills", "form_calls", "kernels", "list", "output", "recoder_runs", "replacing", "room",
-    "swapped", "text", "utf16_to_utf8", "utf8_to_utf16",
+    "ascii_to_utf16", "codes", "engine", "fills", "form_calls", "kernels", "list", "output", "recoder_runs", "replacing", "room",
+    "text", "turned", "utf16_to_utf8", "utf8_to_utf16",
 )) + ("cuts/runs/piece_counts.rt",)
 
 

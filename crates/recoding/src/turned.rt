@@ -69,7 +69,7 @@ fn put_blocks<O: Output, const WIDTH: usize>(bytes: &[u8], out: &mut O) -> usize
 {
     let mut place = 0;
     while WIDTH <= bytes.len() - place {
-        put_block::<O, WIDTH>(bytes, place, out);
+        put_swapped_block::<O, WIDTH>(bytes, place, out);
         place += WIDTH;
     }
     place
@@ -77,7 +77,7 @@ fn put_blocks<O: Output, const WIDTH: usize>(bytes: &[u8], out: &mut O) -> usize
 
 // One block.
 #[inline(always)]
-fn put_block<O: Output, const WIDTH: usize>(bytes: &[u8], place: usize, out: &mut O)
+fn put_swapped_block<O: Output, const WIDTH: usize>(bytes: &[u8], place: usize, out: &mut O)
     requires width { WIDTH ≡ 64 ⊎ (WIDTH ≡ 16 ⊎ WIDTH ≡ 2) }
     requires within { place + WIDTH ≤ length bytes.now }
     requires room { WIDTH ≤ O.room out.old }

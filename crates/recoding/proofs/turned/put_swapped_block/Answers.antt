@@ -1,6 +1,6 @@
 use Rattle.std.proofs.Common.{◌≡◌, [], arith, inl, inr, refl}
 use Rattle.utf_lanes.proofs.SwappedBytes.{swapped_pair}
-use Rattle.recoding.proofs.turned.put_block.Goals as goal
+use Rattle.recoding.proofs.turned.put_swapped_block.Goals as goal
 
 pub returns-else-this-eq16 : goal.returns-else-this-eq16
 returns-else-this-eq16 g c =
