@@ -8,7 +8,6 @@ use Rattle.std.proofs.Math.Seq.{take-append-add, drop-append-add}
 use borrow.Rule.Slice.PartMut.{put_mid}
 use Rattle.std.specs.Prelude.{slice_range}
 use Rattle.cuts.specs.declared.Form.{Form}
-use Rattle.cuts.specs.declared.Form.TheVariants.{Utf8, Utf16Le, Utf16Be}
 use Rattle.cuts.specs.Recoded.{Recoding, IsRecoded, Finishes, fresh}
 use Rattle.cuts.specs.Rooms.{FeedsInto, FinishesInto, IsAmple, IsAmpleFor, IsFull, IsLastFull, most_bytes}
 use Rattle.cuts.specs.Bounds.{HasRoom}
@@ -17,7 +16,7 @@ use Rattle.c_api.specs.declared.recodings.NodyRecoder.{NodyRecoder}
 use Rattle.c_api.specs.Whole.{IsLongerThan, IsFrontOfRecoded, IsRecodedLen}
 use Rattle.recoding.proofs.BoundLemmas.{recoded_bound}
 use Rattle.recoding.proofs.Earliest.{read_are_scalars}
-use Rattle.recoding.proofs.EnoughRoom.{feeds_in_room, room_is_left, finishes_in_room}
+use Rattle.recoding.proofs.EnoughRoom.{feeds_in_room, finishes_in_room, room_is_left, three_each}
 use Rattle.recoding.proofs.FedParts.{nothing_is_fed, part_is_fed, fed_is_recoded}
 use Rattle.recoding.proofs.Growing.{recoded_once, recoded_nothing}
 
@@ -95,21 +94,10 @@ pub record CountsTo (from to : Form) (bytes : List ℕ) (place count : ℕ) (r :
 pub counts_none : (from to : Form) (bytes : List ℕ) → CountsTo from to bytes 0 0 (fresh from to)
 counts_none from to bytes = record { within = omega arith; out = []; fed = nothing_is_fed from to; counted = refl }
 
-few_parts : (from to : Form) (n room : ℕ) → IsAmple room n → most_bytes from to n ≤ room
-few_parts Utf8 Utf8 n room ample = omega arith
-few_parts Utf8 Utf16Le n room ample = omega arith
-few_parts Utf8 Utf16Be n room ample = omega arith
-few_parts Utf16Le Utf8 n room ample = omega arith
-few_parts Utf16Le Utf16Le n room ample = omega arith
-few_parts Utf16Le Utf16Be n room ample = omega arith
-few_parts Utf16Be Utf8 n room ample = omega arith
-few_parts Utf16Be Utf16Le n room ample = omega arith
-few_parts Utf16Be Utf16Be n room ample = omega arith
-
 room_for_few : (from to : Form) (bytes : List ℕ) (room : ℕ) → IsAmple room (length bytes) → HasRoom from to bytes room
 room_for_few from to bytes room le out r =
     let bound = recoded_bound from to bytes out r in
-    let few = few_parts from to (length bytes) room le in
+    let few = three_each from to (length bytes) in
     omega arith
 
 -- ample room for what is held and fed is never full

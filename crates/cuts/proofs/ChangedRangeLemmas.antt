@@ -20,7 +20,9 @@ use Rattle.recoding.specs.NextScalars.{HasByteOrder}
 use Rattle.recoding.specs.Shards.{IsShardEnd, IsUnitsEnd}
 use Rattle.recoding.specs.declared.faults.FaultKind.TheVariants as kind
 use Rattle.recoding.specs.declared.form.Form.{Form}
-use Rattle.recoding.specs.declared.form.Form.TheVariants.{Utf8, Utf16Le, Utf16Be}
+use Rattle.recoding.specs.declared.form.Form.TheVariants.{Utf8}
+use Rattle.recoding.specs.TextForms.{utf16_form}
+use Rattle.recoding.proofs.Forms.{by_form, is_units}
 use Rattle.recoding.proofs.FirstPieces.{BeginsFault-trailing}
 use Rattle.recoding.proofs.FrontBytes.{first_unit}
 use Rattle.recoding.proofs.JoinedShards.{even_units, units_within}
@@ -153,9 +155,11 @@ module _ (high : Bool) (from : Form) (form : HasByteOrder high from) (bytes : Li
 
 -- A run comes to each place over which no code lies.
 pub run_comes : (form : Form) (bytes : List ℕ) (end : ℕ) → end ≤ length bytes → IsShardEnd form bytes end → (given : List LocatedPiece) × BeginWith form bytes given end (drop end bytes)
-run_comes Utf8 bytes end le out = runs_to Utf8 bytes end le (λ p. 0 ≤ p) (λ p lt s. utf8_fits bytes end le out p lt) (λ p lt s. omega arith) end 0 (omega arith) (omega arith) (omega arith)
-run_comes Utf16Le bytes end le out = runs_to Utf16Le bytes end le _ (units_fit false Utf16Le refl bytes end le out) (units_on false Utf16Le refl bytes end le out) end 0 (omega arith) (omega arith) (λ some. refl)
-run_comes Utf16Be bytes end le out = runs_to Utf16Be bytes end le _ (units_fit true Utf16Be refl bytes end le out) (units_on true Utf16Be refl bytes end le out) end 0 (omega arith) (omega arith) (λ some. refl)
+run_comes =
+    by_form _ (λ bytes end le out. runs_to Utf8 bytes end le (λ p. 0 ≤ p) (λ p lt s. utf8_fits bytes end le out p lt) (λ p lt s. omega arith) end 0 (omega arith) (omega arith) (omega arith))
+    (λ high bytes end le out.
+    let at_end : IsUnitsEnd high bytes end = rw (is_units high, IsShardEnd) at out in
+    runs_to (utf16_form high) bytes end le _ (units_fit high (utf16_form high) refl bytes end le at_end) (units_on high (utf16_form high) refl bytes end le at_end) end 0 (omega arith) (omega arith) (λ some. refl))
 
 -- What ends before a place is the same, whatever follows it.
 
@@ -173,19 +177,17 @@ units_end_before high w v n lt end =
     }
 
 end_before : (form : Form) (w v : List ℕ) (n : ℕ) → n < length w → IsShardEnd form (w ++ v) n → IsShardEnd form w n
-end_before Utf8 w v n lt end = λ i. end (inside_front utf8 w v n i)
-end_before Utf16Le w v n lt end = units_end_before false w v n lt end
-end_before Utf16Be w v n lt end = units_end_before true w v n lt end
+end_before = by_form _ (λ w v n lt end i. end (inside_front utf8 w v n i)) (λ high. rw (is_units high, IsShardEnd) (units_end_before high))
 
 abbrev Comes : Form → List ℕ → ℕ → Type 0
 Comes form w n = (given : List LocatedPiece) × Locates form (wrapped 0) w given (wrapped n) (drop n w)
 
 comes_before : (form : Form) (w : List ℕ) (n : ℕ) → n + 3 ≤ length w → IsShardEnd form w n → Comes form w n
-comes_before Utf8 w n near end = locates_to Utf8 w n (λ p. 0 ≤ p) (λ p lt s. utf8_ends w n near end p lt) (λ p lt s. omega arith) n 0 (omega arith) (omega arith) (omega arith)
-comes_before Utf16Le w n near end =
-    locates_to Utf16Le w n (λ p. p % 2 ≡ 0) (λ p lt even. (units_end_near false Utf16Le refl w n near end p lt even).by) (λ p lt even. let one = (units_end_near false Utf16Le refl w n near end p lt even).even in omega arith) n 0 (omega arith) (omega arith) refl
-comes_before Utf16Be w n near end =
-    locates_to Utf16Be w n (λ p. p % 2 ≡ 0) (λ p lt even. (units_end_near true Utf16Be refl w n near end p lt even).by) (λ p lt even. let one = (units_end_near true Utf16Be refl w n near end p lt even).even in omega arith) n 0 (omega arith) (omega arith) refl
+comes_before =
+    by_form _ (λ w n near end. locates_to Utf8 w n (λ p. 0 ≤ p) (λ p lt s. utf8_ends w n near end p lt) (λ p lt s. omega arith) n 0 (omega arith) (omega arith) (omega arith))
+    (λ high w n near end.
+    let ends = units_end_near high (utf16_form high) refl w n near (rw (is_units high, IsShardEnd) at end) in
+    locates_to (utf16_form high) w n (λ p. p % 2 ≡ 0) (λ p lt even. (ends p lt even).by) (λ p lt even. let one = (ends p lt even).even in omega arith) n 0 (omega arith) (omega arith) refl)
 
 front_stays : (form : Form) (w v : List ℕ) (n : ℕ) → n ≤ length w - 3 → IsShardEnd form (w ++ v) n → (given : List LocatedPiece) × ((later : List ℕ) → BeginWith form (w ++ later) given n (drop n (w ++ later)))
 front_stays form w v n near end =
@@ -270,11 +272,15 @@ module _ (high : Bool) (xs new : List ℕ) (s e b : ℕ) (lo : s ≤ e) (hi : e 
       (λ (near : e + 3 ≤ b). ⊎_elim (λ (short : b < length xs). ends_near near short) (λ (all : length xs ≤ b). ends_all (omega arith)) (cases_lt b (length xs)))
       far
 
+keep_halves : (high : Bool) (gone come : ℕ) → KeepUnits (utf16_form high) gone come → gone % 2 ≡ come % 2
+keep_halves true gone come keep = keep
+keep_halves false gone come keep = keep
+
 end_after : (form : Form) (xs new : List ℕ) (s e b : ℕ) → s ≤ e → e ≤ length xs → KeepUnits form (e - s) (length new) → b ≤ length xs → (b ≡ length xs) ⊎ (e + 3 ≤ b) → IsShardEnd form xs b
     → IsShardEnd form (splice xs s e new) (s + length new + (b - e))
-end_after Utf8 xs new s e b lo hi keep within far end = stays_outside_after xs new s e lo hi b far within end
-end_after Utf16Le xs new s e b lo hi keep within far end = units_end_after false xs new s e b lo hi keep within end far
-end_after Utf16Be xs new s e b lo hi keep within far end = units_end_after true xs new s e b lo hi keep within end far
+end_after =
+    by_form _ (λ xs new s e b lo hi keep within far end. stays_outside_after xs new s e lo hi b far within end)
+    (λ high. rw (is_units high, IsShardEnd) (λ xs new s e b lo hi keep within far end. units_end_after high xs new s e b lo hi (keep_halves high _ _ keep) within end far))
 
 -- what stands from there on is what stood
 left_after : (xs new : List ℕ) (s e b : ℕ) → s ≤ e → e ≤ length xs → e ≤ b → drop (s + length new + (b - e)) (splice xs s e new) ≡ drop b xs

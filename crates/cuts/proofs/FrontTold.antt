@@ -1,5 +1,5 @@
 -- The piece that begins some bytes, from what a decoding of them answers.
-use Rattle.std.proofs.Common.{◌≡◌, ◌≢◌, ℕ, ◌*◌, ◌<◌, ◌≤◌, Bool, eqb, true, false, List, [], ◌∷◌, ◌++◌, length, drop, flat_map, min, Option, Some, None, Result, Ok, Err, arith, refl, ap, sym, ◌∙◌, append_assoc, length-append}
+use Rattle.std.proofs.Common.{◌≡◌, ◌≢◌, ℕ, ◌*◌, ◌<◌, ◌≤◌, Bool, eqb, true, false, List, [], ◌∷◌, ◌++◌, length, drop, min, Option, Some, None, Result, Ok, Err, arith, refl, ap, sym, ◌∙◌, append_assoc, length-append}
 use Rattle.std.proofs.lemmas.Grind.{common_steps}
 use Rattle.std.proofs.lemmas.List.{append-nil}
 use Rattle.std.specs.Option.{option_map}
@@ -14,20 +14,23 @@ use Rattle.utf_base.specs.declared.errors.Utf8ErrorKind.TheVariants.{TooFewBytes
 use Rattle.utf_base.specs.declared.errors.units.Utf16PairError.{Utf16PairError}
 use Rattle.utf_base.specs.declared.errors.units.Utf16PairError.TheVariants.{Incomplete}
 use Rattle.utf_base.proofs.Utf8Code.{length_utf8, utf8_is_code}
-use Rattle.utf_lanes.specs.BytePairs.{bytes_of, units_of}
+use Rattle.utf_lanes.specs.BytePairs.{units_of}
 use Rattle.encode_unicode.proofs.ForCallers.{decoded_pairs_code, decoded_pairs_kind, some_units, stands_first}
 use Rattle.encode_unicode.specs.Mergers.{decoded_by_merger}
 use Rattle.encode_unicode.specs.Window.{as_piece}
-use Rattle.recoding.specs.NextScalars.{HasByteOrder}
+use Rattle.recoding.specs.NextScalars.{HasByteOrder, fault_len}
 use Rattle.recoding.specs.Recoded.{written}
-use Rattle.recoding.specs.Strict.{BeginsFault, kind_of}
+use Rattle.recoding.specs.Strict.{BeginsFault, kind_of, lacking}
 use Rattle.recoding.specs.declared.faults.FaultKind.{FaultKind}
 use Rattle.recoding.specs.declared.faults.FaultKind.TheVariants as kind
 use Rattle.recoding.specs.declared.form.Form.{Form}
-use Rattle.recoding.specs.declared.form.Form.TheVariants.{Utf8, Utf16Le, Utf16Be}
+use Rattle.recoding.specs.declared.form.Form.TheVariants.{Utf8}
+use Rattle.recoding.specs.TextForms.{utf16_form}
+use Rattle.recoding.proofs.Forms.{by_form, is_units}
 use Rattle.recoding.proofs.CopiedUnits.{as_written}
 use Rattle.recoding.proofs.FirstPieces.{kind_of_units}
 use Rattle.recoding.proofs.FrontBytes.{first_unit, not_empty, lacks_byte, lacks_second, second_unit, units_next, units_two}
+use Rattle.recoding.proofs.Growing.{two_bytes}
 use Rattle.recoding.proofs.HeldFronts.{two_do_not_lack}
 use Rattle.recoding.proofs.RoomRuns.{few_written, some_written}
 use Rattle.recoding.proofs.TextLaws.{units_of_bytes}
@@ -96,11 +99,13 @@ few_last w h e some =
 
 -- UTF-16: bytes, two by two.
 
-told_units : (high : Bool) (from : Form) (w : List ℕ) → HasByteOrder high from → first_told from w ≡ in_bytes w (told_as kind.Utf16 (as_piece (decoded_pairs (units_of high w))))
+pub told_by_units : (high : Bool) (w : List ℕ) → first_told (utf16_form high) w ≡ in_bytes w (told_as kind.Utf16 (as_piece (decoded_pairs (units_of high w))))
 unfolding first_told
-told_units high Utf8 w form = absurd form
-told_units high Utf16Le w form = rw form refl
-told_units high Utf16Be w form = rw form refl
+told_by_units true w = refl
+told_by_units false w = refl
+
+told_units : (high : Bool) (from : Form) (w : List ℕ) → HasByteOrder high from → first_told from w ≡ in_bytes w (told_as kind.Utf16 (as_piece (decoded_pairs (units_of high w))))
+told_units high from w form = rw form (told_by_units high w)
 
 inner_kind : (x : Option Utf16PairError) (k : Utf16PairError) → option_map kind.Utf16 x ≡ Some (kind.Utf16 k) → x ≡ Some k
 inner_kind None k e = cc
@@ -111,9 +116,7 @@ some_told kind (Ok s, n) h = h
 some_told kind (Err e, n) h = h
 
 pub lacking_units : (high : Bool) (from : Form) (n : ℕ) → HasByteOrder high from → lacking_told from n ≡ (Err (kind.Utf16 Incomplete), min 2 n)
-lacking_units high Utf8 n form = absurd form
-lacking_units high Utf16Le n form = refl
-lacking_units high Utf16Be n form = refl
+lacking_units high from n form = rw (form, is_units high, lacking, fault_len) refl
 
 lacks_where : (us : List ℕ) → (told_as kind.Utf16 (as_piece (decoded_pairs us))).0 ≡ Err (kind.Utf16 Incomplete) → unit_fault_kind us ≡ Some Incomplete
 unfolding decoded_pairs
@@ -256,18 +259,13 @@ module _ (high : Bool) (from : Form) (form : HasByteOrder high from) where
         let w = written from s ++ (later ++ more) in
         let all : units_of high w ≡ utf16 s ++ units_of high (later ++ more) = ap (λ v. units_of high (v ++ (later ++ more))) (as_written high from s form) ∙ units_of_bytes high (utf16 s) (later ++ more) in
         let known : decoded_pairs (units_of high w) ≡ Ok (s, length (utf16 s)) = decoded_pairs_code (units_of high w) s (stands_first utf16 (units_of high w) (units_of high (later ++ more)) s scalar all) in
-        let two : length (written from s) ≡ 2 * length (utf16 s) = ap length (as_written high from s form) ∙ two_each high (utf16 s) in
+        let two : length (written from s) ≡ 2 * length (utf16 s) = ap length (as_written high from s form) ∙ two_bytes high (utf16 s) in
         let len : min (2 * length (utf16 s)) (length w) ≡ length (written from s) = omega (arith, length-append (written from s) (later ++ more)) in
         ap (first_told from) (append_assoc (written from s) later more) ∙ told_by w (Ok (s, length (utf16 s))) known ∙ ap (λ m. (Ok s, m)) len;
   }
-    where
-      two_each : (high : Bool) (us : List ℕ) → length (flat_map (bytes_of high) us) ≡ 2 * length us
-      two_each high [] = refl
-      two_each true (u ∷ us) = let rest = two_each true us in omega arith
-      two_each false (u ∷ us) = let rest = two_each false us in omega arith
 
 -- In each form the code of a scalar begins what begins with it.
 pub code_begins : (form : Form) (s : ℕ) (later : List ℕ) → IsScalar s → Begins form (written form s ++ later) (Ok s, length (written form s))
-code_begins Utf8 s later scalar = char_begins (utf8 s ++ later) s (length (utf8 s)) (stands_first utf8 (utf8 s ++ later) later s scalar refl, refl)
-code_begins Utf16Le s later scalar = units_begin false Utf16Le refl s later scalar
-code_begins Utf16Be s later scalar = units_begin true Utf16Be refl s later scalar
+code_begins =
+    by_form _ (λ s later scalar. char_begins (utf8 s ++ later) s (length (utf8 s)) (stands_first utf8 (utf8 s ++ later) later s scalar refl, refl))
+    (λ high. units_begin high (utf16_form high) refl)

@@ -1,5 +1,5 @@
 -- The list of located pieces: its first piece, what decides of it, and runs over bytes that put pieces into a room.
-use Rattle.std.proofs.Common.{◌≡◌, ℕ, zero, suc, ◌+◌, ◌-◌, ◌<◌, ◌≤◌, List, [], ◌∷◌, ◌++◌, get_or, length, take, drop, map, arith, refl, ap, sym, subst, ◌∙◌, append_assoc, length-append, length-drop, length-set, true, false, set, Bool, Result, Ok, Err}
+use Rattle.std.proofs.Common.{◌≡◌, ℕ, zero, suc, ◌+◌, ◌-◌, ◌<◌, ◌≤◌, List, [], ◌∷◌, ◌++◌, get_or, length, take, drop, map, arith, refl, ap, sym, subst, ◌∙◌, append_assoc, length-append, length-drop, length-set, set, Bool, Result, Ok, Err}
 use Rattle.std.proofs.lemmas.List.{append-nil, drop-append-le, drop-drop, drop-set-lt, get_or-drop, get_or-take, length-take-le, map-append, take_more_set, take-append-drop}
 use Rattle.std.specs.Prelude.{slice_range}
 use Rattle.utf_base.specs.Code.{utf8}
@@ -14,11 +14,12 @@ use Rattle.encode_unicode.proofs.ForCallers.{some_units}
 use Rattle.recoding.specs.declared.faults.FaultKind.{FaultKind}
 use Rattle.recoding.specs.declared.faults.FaultKind.TheVariants as kind
 use Rattle.recoding.specs.declared.form.Form.{Form}
-use Rattle.recoding.specs.declared.form.Form.TheVariants.{Utf8, Utf16Le, Utf16Be}
+use Rattle.recoding.specs.declared.form.Form.TheVariants.{Utf8}
+use Rattle.recoding.proofs.Forms.{by_form}
 use Rattle.cuts.specs.declared.located.LocatedPiece.{LocatedPiece}
 use Rattle.cuts.specs.declared.located.Spot.{Spot}
 use Rattle.cuts.specs.Located.{Begins, KeepsEach, Locates, Puts, PutsKept, Told, WritesPlaces, all_keep_each, at_offset, first_told, in_bytes, located, located_by, told_as, wrapped}
-use Rattle.cuts.proofs.FrontTold.{char_begins}
+use Rattle.cuts.proofs.FrontTold.{char_begins, told_by_units}
 use Rattle.cuts.proofs.MergedFronts.{some_merged}
 
 -- Each piece has a byte.
@@ -34,9 +35,7 @@ some_in_bytes high_first w some =
 
 pub first_some : (form : Form) (w : List ℕ) → 0 < length w → 1 ≤ (first_told form w).1
 unfolding first_told
-first_some Utf8 w some = some_told kind.Utf8 (as_piece (decoded_by_merger w)) (some_merged w)
-first_some Utf16Le w some = some_in_bytes false w some
-first_some Utf16Be w some = some_in_bytes true w some
+first_some = by_form _ (λ w some. some_told kind.Utf8 (as_piece (decoded_by_merger w)) (some_merged w)) (λ high w some. rw (told_by_units high w) (some_in_bytes high w some))
 
 -- So as many pieces as there are bytes are all.
 

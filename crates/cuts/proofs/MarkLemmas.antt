@@ -4,18 +4,20 @@ use Rattle.std.proofs.lemmas.Slice.Eq.{slice_eq-Decides}
 use lib.Pointwise.{pointwise}
 use Rattle.utf_base.specs.Code.{utf8, utf16}
 use Rattle.recoding.specs.declared.form.Form.{Form}
-use Rattle.recoding.specs.declared.form.Form.TheVariants.{Utf8, Utf16Le, Utf16Be}
+use Rattle.recoding.specs.declared.form.Form.TheVariants.{Utf8}
+use Rattle.recoding.specs.TextForms.{utf16_form}
+use Rattle.recoding.proofs.Forms.{by_form}
 use Rattle.cuts.specs.ByteOrderMarks.{BeginsWithMark, HasNoMark, mark_of}
 
 pub utf8_mark : mark_of Utf8 ≡ 0xEF ∷ 0xBB ∷ 0xBF ∷ []
 unfolding utf8
 utf8_mark = refl
 
-pub utf16le_mark : mark_of Utf16Le ≡ 0xFF ∷ 0xFE ∷ []
+pub utf16le_mark : mark_of (utf16_form false) ≡ 0xFF ∷ 0xFE ∷ []
 unfolding utf16
 utf16le_mark = refl
 
-pub utf16be_mark : mark_of Utf16Be ≡ 0xFE ∷ 0xFF ∷ []
+pub utf16be_mark : mark_of (utf16_form true) ≡ 0xFE ∷ 0xFF ∷ []
 unfolding utf16
 utf16be_mark = refl
 
@@ -30,8 +32,10 @@ module _ (form : Form) (bytes mark : List ℕ) (is : mark_of form ≡ mark) (r :
   begins_not fails front = true≢false (sym (decides.1 (sym (rw is at front))) ∙ fails)
 
 -- no mark where none of three begins the bytes
-pub has_no_mark : (bytes : List ℕ) → (take (length (mark_of Utf8)) bytes ≡ mark_of Utf8 → ⊥) → (take (length (mark_of Utf16Le)) bytes ≡ mark_of Utf16Le → ⊥)
-    → (take (length (mark_of Utf16Be)) bytes ≡ mark_of Utf16Be → ⊥) → HasNoMark bytes
-has_no_mark bytes a b c Utf8 = a
-has_no_mark bytes a b c Utf16Le = b
-has_no_mark bytes a b c Utf16Be = c
+pub has_no_mark : (bytes : List ℕ) → (take (length (mark_of Utf8)) bytes ≡ mark_of Utf8 → ⊥) → (take (length (mark_of (utf16_form false))) bytes ≡ mark_of (utf16_form false) → ⊥)
+    → (take (length (mark_of (utf16_form true))) bytes ≡ mark_of (utf16_form true) → ⊥) → HasNoMark bytes
+has_no_mark bytes a b c = by_form _ a by_order
+  where
+    by_order : (high : Bool) → take (length (mark_of (utf16_form high))) bytes ≡ mark_of (utf16_form high) → ⊥
+    by_order true = c
+    by_order false = b

@@ -21,7 +21,9 @@ use Rattle.recoding.specs.NextScalars.{HasByteOrder}
 use Rattle.recoding.specs.Shards.{IsShardEnd, IsUnitsEnd}
 use Rattle.recoding.specs.declared.faults.FaultKind.TheVariants as kind
 use Rattle.recoding.specs.declared.form.Form.{Form}
-use Rattle.recoding.specs.declared.form.Form.TheVariants.{Utf8, Utf16Le, Utf16Be}
+use Rattle.recoding.specs.declared.form.Form.TheVariants.{Utf8}
+use Rattle.recoding.specs.TextForms.{utf16_form}
+use Rattle.recoding.proofs.Forms.{by_form, is_units}
 use Rattle.recoding.proofs.FirstPieces.{BeginsFault-trailing, BeginsFault-unmatched}
 use Rattle.recoding.proofs.FrontBytes.{first_unit, second_unit, units_next, units_two}
 use Rattle.recoding.proofs.JoinedShards.{even_units, units_within}
@@ -29,7 +31,7 @@ use Rattle.recoding.proofs.ShardEnds.{stands_in_list}
 use Rattle.cuts.specs.declared.located.LocatedPiece.{LocatedPiece}
 use Rattle.cuts.specs.Located.{Begins, IsOpen, Locates, Told, at_offset, first_told, located, located_by, told_as, wrapped}
 use Rattle.cuts.specs.UndecidedEnds.{IsLenOfHeld, IsUndecidedEnd, LocatesFront}
-use Rattle.cuts.proofs.FrontTold.{char_begins, fault_begins, kind_begins, pair_begins, plain_begins}
+use Rattle.cuts.proofs.FrontTold.{char_begins, fault_begins, kind_begins, pair_begins, plain_begins, told_by_units}
 use Rattle.cuts.proofs.LocatedLemmas.{Locates-none, Locates-one, Locates-then, first_some}
 use Rattle.cuts.proofs.LocatedLists.{no_piece_earlier}
 use Rattle.cuts.proofs.MergedFronts.{merged_code, merged_kind}
@@ -180,9 +182,9 @@ module _ (high : Bool) (from : Form) (form : HasByteOrder high from) (bytes : Li
 -- Each form.
 
 front_located : (form : Form) (bytes : List ℕ) (end offset : ℕ) → end + 3 ≤ length bytes → IsShardEnd form bytes end → LocatesFront form offset bytes (drop end bytes)
-front_located Utf8 bytes end offset near h = utf8_front bytes end near h offset
-front_located Utf16Le bytes end offset near h = units_front false Utf16Le refl bytes end near h offset
-front_located Utf16Be bytes end offset near h = units_front true Utf16Be refl bytes end near h offset
+front_located =
+    by_form _ (λ bytes end offset near h. utf8_front bytes end near h offset)
+    (λ high bytes end offset near h. units_front high (utf16_form high) refl bytes end near (rw (is_units high, IsShardEnd) at h) offset)
 
 -- A run comes to such a place that is three bytes before the end, or more, or at the front.
 pub front_near_end : (form : Form) (bytes : List ℕ) (end offset : ℕ) → end ≤ length bytes - 3 → IsShardEnd form bytes end → LocatesFront form offset bytes (drop end bytes)
@@ -194,18 +196,16 @@ front_near_end form bytes end offset near h =
 
 -- How many bytes pieces have.
 
+merged_within : (w : List ℕ) (k : Option Utf8ErrorKind) → 0 < length w → merger_kind w ≡ k → (told_as kind.Utf8 (as_piece (decoded_by_merger w))).1 ≤ length w
+merged_within w None some e =
+    let code = (code_where_no_fault w (merger_none w e)).0 in
+    let within = code.within in
+    rw (merged_code w (value w) code) (omega arith)
+merged_within w (Some k) some e = rw (merged_kind w k e) (omega arith)
+
 first_within : (form : Form) (w : List ℕ) → 0 < length w → (first_told form w).1 ≤ length w
 unfolding first_told
-first_within Utf8 w some = by (merger_kind w) refl
-  where
-    by : (k : Option Utf8ErrorKind) → merger_kind w ≡ k → (told_as kind.Utf8 (as_piece (decoded_by_merger w))).1 ≤ length w
-    by None e =
-        let code = (code_where_no_fault w (merger_none w e)).0 in
-        let within = code.within in
-        rw (merged_code w (value w) code) (omega arith)
-    by (Some k) e = rw (merged_kind w k e) (omega arith)
-first_within Utf16Le w some = omega arith
-first_within Utf16Be w some = omega arith
+first_within = by_form _ (λ w some. merged_within w (merger_kind w) some refl) (λ high w some. rw (told_by_units high w) (omega arith))
 
 abbrev total : List LocatedPiece → ℕ
 total [] = 0

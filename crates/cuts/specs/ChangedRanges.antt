@@ -4,7 +4,7 @@ use Rattle.std.specs.Prelude.{◌≡◌, ℕ, ◌+◌, ◌-◌, ◌%◌, ◌≤�
 use Rattle.recoding.specs.Boundaries.{IsFirstFrom}
 use Rattle.recoding.specs.Shards.{IsLastShardEnd, IsShardEnd}
 use Rattle.recoding.specs.declared.form.Form.{Form}
-use Rattle.recoding.specs.declared.form.Form.TheVariants.{Utf8, Utf16Le, Utf16Be}
+use Rattle.recoding.specs.TextForms.{by_form}
 use Rattle.cuts.specs.declared.changes.ChangedRange.{ChangedRange}
 use Rattle.cuts.specs.declared.located.LocatedPiece.{LocatedPiece}
 use Rattle.cuts.specs.Located.{located, wrapped}
@@ -15,9 +15,7 @@ BeginWith form bytes given p left = located form 0 bytes ≡ given ++ located fo
 
 -- where so many bytes come in place of so many, each unit after them has its two bytes as before
 abbrev pub KeepUnits : Form → ℕ → ℕ → Type 0
-KeepUnits Utf8 gone come = Unit {0}
-KeepUnits Utf16Le gone come = gone % 2 ≡ come % 2
-KeepUnits Utf16Be gone come = gone % 2 ≡ come % 2
+KeepUnits = by_form (λ form. ℕ → ℕ → Type 0) (λ gone come. Unit {0}) (λ high_first gone come. gone % 2 ≡ come % 2)
 
 -- Whatever comes in place of the bytes from s up to e: the pieces before the place a stay, and those from the place b on stay, moved
 -- with their bytes. Of UTF-16 the latter is said where units keep their bytes.

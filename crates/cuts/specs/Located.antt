@@ -1,5 +1,5 @@
 -- The pieces of bytes of any form, each with its offset, as a merger names them: what a decoder of parts gives.
-use Rattle.std.specs.Prelude.{◌≡◌, ◌≢◌, ℕ, zero, suc, ◌+◌, ◌*◌, ◌%◌, ◌^◌, ◌<◌, ◌≤◌, List, [], ◌∷◌, ◌++◌, length, take, drop, filter, is_err, map, min, false, true, refl, Result, Ok, Err}
+use Rattle.std.specs.Prelude.{◌≡◌, ◌≢◌, ℕ, zero, suc, ◌+◌, ◌*◌, ◌%◌, ◌^◌, ◌<◌, ◌≤◌, List, [], ◌∷◌, ◌++◌, length, take, drop, filter, is_err, map, min, true, refl, Result, Ok, Err}
 use Rattle.std.proofs.lemmas.List.Elements.{filter-append}
 use Rattle.utf_base.specs.Decoded.{decoded_pairs}
 use Rattle.utf_lanes.specs.BytePairs.{units_of}
@@ -11,7 +11,7 @@ use Rattle.recoding.specs.Strict.{lacking}
 use Rattle.recoding.specs.declared.faults.FaultKind.{FaultKind}
 use Rattle.recoding.specs.declared.faults.FaultKind.TheVariants as kind
 use Rattle.recoding.specs.declared.form.Form.{Form}
-use Rattle.recoding.specs.declared.form.Form.TheVariants.{Utf8, Utf16Le, Utf16Be}
+use Rattle.recoding.specs.TextForms.{by_form}
 use Rattle.cuts.specs.declared.first_pieces.Front.{Front}
 use Rattle.cuts.specs.declared.first_pieces.Front.TheVariants.{Char, Fault}
 use Rattle.cuts.specs.declared.located.LocatedPiece.{LocatedPiece}
@@ -37,9 +37,9 @@ in_bytes w x = (x.0, min (2 * x.1) (length w))
 
 -- what begins some bytes that no others follow
 unfoldable pub first_told : Form → List ℕ → Told
-first_told Utf8 w = told_as kind.Utf8 (as_piece (decoded_by_merger w))
-first_told Utf16Le w = in_bytes w (told_as kind.Utf16 (as_piece (decoded_pairs (units_of false w))))
-first_told Utf16Be w = in_bytes w (told_as kind.Utf16 (as_piece (decoded_pairs (units_of true w))))
+first_told =
+    by_form (λ form. List ℕ → Told) (λ w. told_as kind.Utf8 (as_piece (decoded_by_merger w)))
+    (λ high_first w. in_bytes w (told_as kind.Utf16 (as_piece (decoded_pairs (units_of high_first w)))))
 
 -- the fault that so few bytes are, of which what follows decides
 abbrev pub lacking_told : Form → ℕ → Told

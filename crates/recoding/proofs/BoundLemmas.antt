@@ -15,7 +15,7 @@ use Rattle.utf_base.proofs.Utf8Code.{utf8_is_code}
 use Rattle.utf_base.proofs.Utf16Code.{utf16_is_code}
 use Rattle.recoding.specs.declared.form.Form.{Form}
 use Rattle.recoding.specs.declared.form.Form.TheVariants.{Utf8}
-use Rattle.recoding.proofs.Forms.{by_form, form_words, is_units}
+use Rattle.recoding.proofs.Forms.{by_form, is_units}
 use Rattle.utf_lanes.specs.BytePairs.{units_of}
 use Rattle.recoding.specs.Recoded.{Reads, odd_end, written, IsRecoded}
 use Rattle.recoding.specs.Rooms.{widest, parts_of, most_bytes, IsRoomFor}
@@ -26,7 +26,7 @@ use Rattle.recoding.proofs.Growing.{length_units, length_written, two_bytes, two
 within_widest : (to : Form) (s n : ℕ) → 0 < n → (0x1_0000 ≤ s → 2 ≤ n) → length (written to s) ≤ widest to * n
 within_widest =
     by_form _ (length_written Utf8)
-    (λ high. rw (is_units high, form_words) (λ s n some wide. omega (arith, two_bytes high (utf16 s), length_units s n some wide)))
+    (λ high. rw (is_units high, widest, written) (λ s n some wide. omega (arith, two_bytes high (utf16 s), length_units s n some wide)))
 
 -- a scalar above 0xFFFF has two elements or more
 abbrev IsWide : (ℕ → List ℕ) → Type 0

@@ -3,24 +3,18 @@ use Rattle.std.proofs.Common.{◌≡◌, ℕ, Bool, true, false, flat_map, refl,
 use Rattle.utf_base.specs.Code.{utf16}
 use Rattle.utf_base.specs.declared.errors.units.Utf16PairError.TheVariants.{Incomplete}
 use Rattle.utf_lanes.specs.BytePairs.{bytes_of}
-use Rattle.recoding.specs.Faults.{Faults}
-use Rattle.recoding.specs.Lossy.{ReadsParts}
 use Rattle.recoding.specs.NextScalars.{HasByteOrder, fault_len}
-use Rattle.recoding.specs.Recoded.{Lacks, Reads, written}
-use Rattle.recoding.specs.Rooms.{parts_of, widest}
-use Rattle.recoding.specs.Shards.{IsShardEnd}
-use Rattle.recoding.specs.Strict.{kind_of, lacking}
+use Rattle.recoding.specs.Recoded.{written}
+use Rattle.recoding.specs.Strict.{lacking}
 pub use Rattle.recoding.specs.TextForms.{by_form}
 use Rattle.recoding.specs.TextForms.{text_form, units_form, utf16_form}
 use Rattle.recoding.specs.declared.faults.FaultKind.TheVariants as kind
 
--- What is proved of UTF-8, and of units in any order of bytes, is so of each form: `by_form` of `specs/TextForms`. After `rw (is_units high, form_words)` a
--- goal about the form that has units is one about units; the second list opens the words of a form.
+-- What is proved of UTF-8, and of units in any order of bytes, is so of each form: `by_form`. Of units `rw (is_units high, Reads)` opens the
+-- goal where it says `Reads`, and so of other words of a form.
 pub is_units : (high : Bool) → text_form (utf16_form high) ≡ units_form high
 is_units true = refl
 is_units false = refl
-
-pub ruleset form_words = (Faults, IsShardEnd, Lacks, Reads, ReadsParts, fault_len, kind_of, lacking, parts_of, widest, written)
 
 pub is_utf16 : (big : Bool) → HasByteOrder big (utf16_form big)
 is_utf16 big = refl

@@ -1,4 +1,4 @@
--- The forms of text, each as one record: all that the other words say of bytes in a form, they say by it.
+-- The forms of text, each as a record: what other words say of bytes in a form, they say by it.
 use Rattle.std.specs.Prelude.{◌≡◌, ℕ, ◌+◌, ◌*◌, ◌/◌, ◌%◌, ◌<◌, ◌≤◌, Bool, true, false, if◌then◌else◌, List, [], ◌∷◌, ◌++◌, length, take, flat_map, count_by, is_none, Option, Some, None}
 use Rattle.std.proofs.Common.{refl}
 use Rattle.std.specs.Option.{option_map}
@@ -45,7 +45,7 @@ pub record IsFirstFault (code : ℕ → List ℕ) (xs : List ℕ) (n : ℕ) : Ty
   pub none : (x : Piece) → IsPiece code xs x → x.char ≡ None → n ≤ x.start
   pub fault : n < length xs → IsPiece code xs (record { start = n; len = 1; char = None })
 
--- The same words of bytes that are units, and maybe half a unit at the end.
+-- Bytes that are units, and maybe half a unit at the end.
 
 -- an odd last byte is a fault
 abbrev pub odd_end : List ℕ → List ℕ
@@ -53,8 +53,8 @@ odd_end [] = []
 odd_end (a ∷ []) = 0xFFFD ∷ []
 odd_end (a ∷ b ∷ bytes) = odd_end bytes
 
--- It is a subpart of its own, unless the last unit is a leading surrogate: both together are one subpart, which that
--- unit shows already (so the WHATWG's decoder ends).
+-- an odd last byte is a subpart of its own, unless the last unit is a leading surrogate: both together are one subpart, which that
+-- unit shows already (so the WHATWG's decoder ends)
 abbrev pub odd_part : Bool → List ℕ → List ℕ
 odd_part high_first [] = []
 odd_part high_first (a ∷ []) = 0xFFFD ∷ []
@@ -88,7 +88,7 @@ pub record IsUnitsEnd (high_first : Bool) (bytes : List ℕ) (n : ℕ) : Type 0 
 
 -- What a form is.
 
--- A form of text. The words that have a form as a parameter are its fields: `Reads from` is the field `reads` of the form, and so on.
+-- A form of text. The words of a form are its fields: `Reads from` is the field `reads`, and so on.
 pub record TextForm : Type 1 where
   -- the code of a scalar, and how long it is at most for each byte or unit that shows the scalar
   pub written : ℕ → List ℕ
@@ -106,7 +106,7 @@ pub record TextForm : Type 1 where
   pub fault_len : ℕ
   pub kind_of : List ℕ → Option FaultKind
   pub first_fault : List ℕ → ℕ → Type 0
-  -- the kind where elements lack, and bytes that lack some
+  -- the kind where elements lack, and which bytes lack some
   pub lacking : FaultKind
   pub lacks : List ℕ → Type 0
   -- no code lies over the place
@@ -157,7 +157,7 @@ units_form high_first = record {
 abbrev pub utf16_form : Bool → Form
 utf16_form big_endian = if big_endian then Utf16Be else Utf16Le
 
--- What is given of UTF-8, and of units in any order of bytes, is given of each form. No other word has a case for each.
+-- What is given of UTF-8, and of units in any order of bytes, is given of each form. No other word of this crate has a case for each.
 abbrev pub by_form {ℓ} : (P : Form → Type ℓ) → P Utf8 → ((high_first : Bool) → P (utf16_form high_first)) → (form : Form) → P form
 by_form P bytes units Utf8 = bytes
 by_form P bytes units Utf16Le = units false

@@ -1,5 +1,5 @@
 use Rattle.std.proofs.Common.{refl}
-use Rattle.recoding.specs.declared.form.Form.TheVariants.{Utf16Le, Utf16Be}
+use Rattle.std.specs.Prelude.{true, false}
 use Rattle.cuts.proofs.KeptPieces.{text_then, units_then}
 use Rattle.cuts.proofs.piece_runs.front_text_len.Goals as goal
 
@@ -8,8 +8,8 @@ returns-in-Utf8-clause-text c = rw c.in-Utf8.is (text_then c.args.bytes.now c.te
 
 pub returns-in-Utf16Le-clause-text : goal.returns-in-Utf16Le-clause-text
 returns-in-Utf16Le-clause-text c =
-    rw c.in-Utf16Le.is (units_then _ Utf16Le c.args.bytes.now c.units_len.result refl c.units_len.ensures.within c.type_inv.bytes c.units_len.ensures.codes)
+    rw c.in-Utf16Le.is (units_then false _ c.args.bytes.now c.units_len.result refl c.units_len.ensures.within c.type_inv.bytes c.units_len.ensures.codes)
 
 pub returns-in-Utf16Be-clause-text : goal.returns-in-Utf16Be-clause-text
 returns-in-Utf16Be-clause-text c =
-    rw c.in-Utf16Be.is (units_then _ Utf16Be c.args.bytes.now c.units_len-in-Utf16Be.result refl c.units_len-in-Utf16Be.ensures.within c.type_inv.bytes c.units_len-in-Utf16Be.ensures.codes)
+    rw c.in-Utf16Be.is (units_then true _ c.args.bytes.now c.units_len-in-Utf16Be.result refl c.units_len-in-Utf16Be.ensures.within c.type_inv.bytes c.units_len-in-Utf16Be.ensures.codes)
