@@ -104,7 +104,8 @@ fn other_front(bytes: &[u8]) -> Option<Front>
 }
 
 // The same of fewer than four bytes. They are judged with zeros after them: a character that ends before the zeros is one of the bytes.
-#[inline(always)]
+// It stands apart, so that the loops which ask keep all that they use in registers.
+#[inline(never)]
 fn front_of_last(bytes: &[u8]) -> Option<Front>
     requires { length bytes.now < 4 }
     ensures begins { IfSome result (λ x. Begins Utf8 bytes.now (told_of x)) }
