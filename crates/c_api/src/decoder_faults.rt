@@ -3,8 +3,30 @@ ghost use Rattle.std.specs.Prelude.{◌≡◌, [], ◌<◌, ◌≤◌, length};
 ghost use Rattle.cuts.specs.Located.{FeedsFaults, FinishesFaults, HasNoPlaceForFault, IsOpen};
 ghost use Rattle.c_api.specs.Decoders.{IfDecoder, IsDecoder, decoder_of, located_for_c};
 
-use crate::decoders::{NodyDecoder, NodyLocated, decoder_in, is_decoder, keep_decoder};
-use crate::recodings::{DONE, FULL, REFUSED};
+use crate::decoders::{Asked, NodyDecoder, NodyLocated, feed_decoder, finish_decoder, is_decoder};
+use crate::recodings::REFUSED;
+use cuts::{Decoder, Fed};
+
+// The faults alone.
+struct FaultsAlone;
+
+impl Asked for FaultsAlone {
+    ghost use Rattle.cuts.specs.Located.{HasNoPlaceForFault, faults_alone};
+
+    ghost kept = { faults_alone };
+
+    ghost has_no_place = { HasNoPlaceForFault };
+
+    #[inline(always)]
+    fn feed(decoder: &mut Decoder, part: &[u8], room: &mut [NodyLocated]) -> Fed {
+        decoder.feed_faults(part, room)
+    }
+
+    #[inline(always)]
+    fn finish(decoder: &mut Decoder, room: &mut [NodyLocated]) -> Fed {
+        decoder.finish_faults(room)
+    }
+}
 
 /// Feeds a part, as far as there is room for its invalid bytes, and answers 0 where all of it was read, 1 where the room is full
 /// before an invalid byte that is known, and 2, with nothing changed, where the struct is no decoder.
@@ -34,35 +56,7 @@ pub extern "C" fn nody_decoder_feed_faults(
     if !is_decoder(decoder) {
         return REFUSED;
     }
-    feed_for_faults(decoder, part, room, read, written)
-}
-
-// The same of the decoder that the struct is.
-#[inline(always)]
-fn feed_for_faults(
-    decoder: &mut NodyDecoder,
-    part: &[u8],
-    room: &mut [NodyLocated],
-    read: &mut usize,
-    written: &mut usize,
-) -> u8
-    requires { IsDecoder decoder.old }
-    ensures decoder { IsDecoder decoder.new }
-    ensures feeds { FeedsFaults located_for_c (decoder_of decoder.old) part.now room.old room.new
-        read.new written.new (decoder_of decoder.new) }
-    ensures all { result ≡ 0 → read.new ≡ length part.now }
-    ensures waits { result ≡ 0 → 0 < length (decoder_of decoder.new).held →
-        IsOpen (decoder_of decoder.new).form (decoder_of decoder.new).held }
-    ensures full { result ≡ 1 →
-        HasNoPlaceForFault (decoder_of decoder.new) part.now read.new written.new (length room.old) }
-    ensures status { result < 2 }
-{
-    let mut inner = decoder_in(decoder);
-    let fed = inner.feed_faults(part, room);
-    keep_decoder(decoder, &inner);
-    *read = fed.read;
-    *written = fed.written;
-    if fed.is_full { FULL } else { DONE }
+    feed_decoder::<FaultsAlone>(decoder, part, room, read, written)
 }
 
 /// Gives the invalid bytes of what is held, which nothing follows, as far as there is room, and answers 0 where nothing is held any
@@ -88,24 +82,5 @@ pub extern "C" fn nody_decoder_finish_faults(
     if !is_decoder(decoder) {
         return REFUSED;
     }
-    finish_for_faults(decoder, room, written)
-}
-
-// The same of the decoder that the struct is.
-#[inline(always)]
-fn finish_for_faults(decoder: &mut NodyDecoder, room: &mut [NodyLocated], written: &mut usize) -> u8
-    requires { IsDecoder decoder.old }
-    ensures decoder { IsDecoder decoder.new }
-    ensures finishes { FinishesFaults located_for_c (decoder_of decoder.old) room.old room.new
-        written.new (decoder_of decoder.new) }
-    ensures all { result ≡ 0 → decoder.new.count ≡ 0 }
-    ensures full { result ≡ 1 → written.new ≡ length room.old }
-    ensures more { result ≡ 1 → 0 < decoder.new.count }
-    ensures status { result < 2 }
-{
-    let mut inner = decoder_in(decoder);
-    let fed = inner.finish_faults(room);
-    keep_decoder(decoder, &inner);
-    *written = fed.written;
-    if fed.is_full { FULL } else { DONE }
+    finish_decoder::<FaultsAlone>(decoder, room, written)
 }

@@ -1,12 +1,12 @@
 //! The pieces of input that comes in parts, each with its offset.
 ghost use Rattle.std.specs.Prelude.{◌≡◌, true, [], ◌∷◌, ◌<◌, ◌≤◌, length};
-ghost use Rattle.cuts.specs.Located.{FeedsPieces, FinishesPieces, HasNoPlace, IsOpen};
+ghost use Rattle.cuts.specs.Located.{FeedsKept, FeedsPieces, FinishesKept, FinishesPieces, HasNoPlace, IsOpen};
 ghost use Rattle.c_api.specs.Api.{form_of};
 ghost use Rattle.c_api.specs.Decoders.{IfDecoder, IsDecoder, ascii_told_of, character_mark_of, decoder_of, located_for_c};
 
 use crate::kinds::fault_number_of;
 use crate::recodings::{DONE, FULL, REFUSED, form_of};
-use cuts::{Decoder, FaultKind, FromPiece};
+use cuts::{Decoder, FaultKind, Fed, FromPiece};
 
 /// A decoder, which the caller keeps.
 #[repr(C)]
@@ -157,7 +157,7 @@ pub(crate) fn is_decoder(decoder: &NodyDecoder) -> bool
 
 // The decoder that the struct is.
 #[inline(always)]
-pub(crate) fn decoder_in(decoder: &NodyDecoder) -> Decoder
+fn decoder_in(decoder: &NodyDecoder) -> Decoder
     requires { IsDecoder decoder.now }
     ensures { result ≡ decoder_of decoder.now }
 {
@@ -170,7 +170,7 @@ pub(crate) fn decoder_in(decoder: &NodyDecoder) -> Decoder
 
 // Puts into the struct what the decoder holds, and the offset of that.
 #[inline(always)]
-pub(crate) fn keep_decoder(decoder: &mut NodyDecoder, inner: &Decoder)
+fn keep_decoder(decoder: &mut NodyDecoder, inner: &Decoder)
     requires { inner.now.form ≡ form_of decoder.old.form }
     ensures kept { decoder_of decoder.new ≡ inner.now }
     ensures count { decoder.new.count ≡ length inner.now.held }
@@ -181,6 +181,54 @@ pub(crate) fn keep_decoder(decoder: &mut NodyDecoder, inner: &Decoder)
     decoder.count = held.len() as u8;
     if !held.is_empty() {
         decoder.held[..held.len()].copy_from_slice(held);
+    }
+}
+
+// Which pieces a call gives.
+pub(crate) trait Asked {
+    ghost use Rattle.std.specs.Prelude.{◌≡◌, ◌<◌, ℕ, List, [], length, IsTrue, IsFalse};
+    ghost use Rattle.cuts.specs.declared.LocatedPiece.{LocatedPiece};
+    ghost use Rattle.cuts.specs.Located.{Decoding, FeedsKept, FinishesKept, IsOpen};
+    ghost use Rattle.c_api.specs.Decoders.{located_for_c};
+
+    // Those of a list that it gives.
+    ghost kept: { List LocatedPiece → List LocatedPiece };
+
+    // That the room is full before one of them: of a decoder, a part, how much of it was read, how much was written, and the room.
+    ghost has_no_place: { Decoding → List ℕ → ℕ → ℕ → ℕ → Type 0 };
+
+    fn feed(decoder: &mut Decoder, part: &[u8], room: &mut [NodyLocated]) -> Fed
+        ensures feeds { FeedsKept kept located_for_c decoder.old part.now room.old room.new result.read result.written decoder.new }
+        ensures full { IsTrue result.is_full →
+            has_no_place decoder.new part.now result.read result.written (length room.old) }
+        ensures read { IsFalse result.is_full → result.read ≡ length part.now }
+        ensures waits { IsFalse result.is_full → 0 < length decoder.new.held → IsOpen decoder.new.form decoder.new.held };
+
+    fn finish(decoder: &mut Decoder, room: &mut [NodyLocated]) -> Fed
+        ensures finishes { FinishesKept kept located_for_c decoder.old room.old room.new result.written decoder.new }
+        ensures full { IsTrue result.is_full → result.written ≡ length room.old }
+        ensures more { IsTrue result.is_full → 0 < length decoder.new.held }
+        ensures all { IsFalse result.is_full → decoder.new.held ≡ [] };
+}
+
+// All of them.
+struct AllPieces;
+
+impl Asked for AllPieces {
+    ghost use Rattle.cuts.specs.Located.{HasNoPlace, all_pieces};
+
+    ghost kept = { all_pieces };
+
+    ghost has_no_place = { HasNoPlace };
+
+    #[inline(always)]
+    fn feed(decoder: &mut Decoder, part: &[u8], room: &mut [NodyLocated]) -> Fed {
+        decoder.feed(part, room)
+    }
+
+    #[inline(always)]
+    fn finish(decoder: &mut Decoder, room: &mut [NodyLocated]) -> Fed {
+        decoder.finish(room)
     }
 }
 
@@ -212,12 +260,12 @@ pub extern "C" fn nody_decoder_feed(
     if !is_decoder(decoder) {
         return REFUSED;
     }
-    feed_decoder(decoder, part, room, read, written)
+    feed_decoder::<AllPieces>(decoder, part, room, read, written)
 }
 
-// The same of the decoder that the struct is.
+// The same of the decoder that the struct is, for the pieces that are asked for.
 #[inline(always)]
-fn feed_decoder(
+pub(crate) fn feed_decoder<A: Asked>(
     decoder: &mut NodyDecoder,
     part: &[u8],
     room: &mut [NodyLocated],
@@ -226,17 +274,17 @@ fn feed_decoder(
 ) -> u8
     requires { IsDecoder decoder.old }
     ensures decoder { IsDecoder decoder.new }
-    ensures feeds { FeedsPieces located_for_c (decoder_of decoder.old) part.now room.old room.new
+    ensures feeds { FeedsKept A.kept located_for_c (decoder_of decoder.old) part.now room.old room.new
         read.new written.new (decoder_of decoder.new) }
     ensures all { result ≡ 0 → read.new ≡ length part.now }
     ensures waits { result ≡ 0 → 0 < length (decoder_of decoder.new).held →
         IsOpen (decoder_of decoder.new).form (decoder_of decoder.new).held }
     ensures full { result ≡ 1 →
-        HasNoPlace (decoder_of decoder.new) part.now read.new written.new (length room.old) }
+        A.has_no_place (decoder_of decoder.new) part.now read.new written.new (length room.old) }
     ensures status { result < 2 }
 {
     let mut inner = decoder_in(decoder);
-    let fed = inner.feed(part, room);
+    let fed = A::feed(&mut inner, part, room);
     keep_decoder(decoder, &inner);
     *read = fed.read;
     *written = fed.written;
@@ -266,15 +314,19 @@ pub extern "C" fn nody_decoder_finish(
     if !is_decoder(decoder) {
         return REFUSED;
     }
-    finish_decoder(decoder, room, written)
+    finish_decoder::<AllPieces>(decoder, room, written)
 }
 
-// The same of the decoder that the struct is.
+// The same of the decoder that the struct is, for the pieces that are asked for.
 #[inline(always)]
-fn finish_decoder(decoder: &mut NodyDecoder, room: &mut [NodyLocated], written: &mut usize) -> u8
+pub(crate) fn finish_decoder<A: Asked>(
+    decoder: &mut NodyDecoder,
+    room: &mut [NodyLocated],
+    written: &mut usize,
+) -> u8
     requires { IsDecoder decoder.old }
     ensures decoder { IsDecoder decoder.new }
-    ensures finishes { FinishesPieces located_for_c (decoder_of decoder.old) room.old room.new
+    ensures finishes { FinishesKept A.kept located_for_c (decoder_of decoder.old) room.old room.new
         written.new (decoder_of decoder.new) }
     ensures all { result ≡ 0 → decoder.new.count ≡ 0 }
     ensures full { result ≡ 1 → written.new ≡ length room.old }
@@ -282,7 +334,7 @@ fn finish_decoder(decoder: &mut NodyDecoder, room: &mut [NodyLocated], written: 
     ensures status { result < 2 }
 {
     let mut inner = decoder_in(decoder);
-    let fed = inner.finish(room);
+    let fed = A::finish(&mut inner, room);
     keep_decoder(decoder, &inner);
     *written = fed.written;
     if fed.is_full { FULL } else { DONE }

@@ -145,6 +145,19 @@ pub record IsSoFar {E P : Type 0} (made : Placed E → P) (answer : List ℕ →
   pub fits : wrote ≤ length old
 
 module _ {E P : Type 0} (made : Placed E → P) (answer : List ℕ → Result (ℕ × ℕ) E) (some : (xs : List ℕ) → 1 ≤ (as_piece (answer xs)).1) (xs : List ℕ) (old : List P) where
+  -- after the text at the front
+  pub so_far_front : (n : ℕ) → n ≤ length xs → n ≡ valid_len (pieces_by answer (length xs) 0 xs) → IsSoFar made answer xs old old n 0
+  so_far_front n most e = record {
+    found = [];
+    all = (let at : 0 + n ≡ n = omega arith in text_step_by answer some (length xs) 0 0 xs n (omega arith) e ∙ ap (λ j. faults_by answer j (drop n xs)) at);
+    count = refl;
+    front = refl;
+    rest = refl;
+    len = refl;
+    within = most;
+    fits = omega arith;
+  }
+
   -- after a character, and the text after it
   pub so_far_text : (new : List P) (read wrote s m n : ℕ) → IsSoFar made answer xs old new read wrote → read < length xs → m ≤ length (drop read xs) → as_piece (answer (drop read xs)) ≡ (Ok s, m)
       → n ≤ length (drop (read + m) xs) → n ≡ valid_len (pieces_by answer (length (drop (read + m) xs)) 0 (drop (read + m) xs)) → IsSoFar made answer xs old new (read + (m + n)) wrote
@@ -259,6 +272,11 @@ pub text_known : {E : Type 0} (answer : List ℕ → Result (ℕ × ℕ) E) (xs 
 text_known answer xs place n e =
     let v = slice_range xs place (length xs) in
     e ∙ ap (λ y. valid_len (pieces_by answer (length y) 0 y)) (take_rest v 0 ∙ take_rest xs place)
+
+-- the same of the whole list
+pub text_at_front : {E : Type 0} (answer : List ℕ → Result (ℕ × ℕ) E) (xs : List ℕ) (n : ℕ) → n ≡ valid_len (pieces_by answer (length (elements (whole_window xs))) 0 (elements (whole_window xs)))
+    → n ≡ valid_len (pieces_by answer (length xs) 0 xs)
+text_at_front answer xs n e = e ∙ ap (λ y. valid_len (pieces_by answer (length y) 0 y)) (take_rest xs 0)
 
 pub text_fits : (xs : List ℕ) (place n : ℕ) → n ≤ length (slice_range xs place (length xs)) → n ≤ length (drop place xs)
 text_fits xs place n h = rw (take_rest xs place) at h

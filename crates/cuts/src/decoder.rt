@@ -4,7 +4,7 @@ ghost use Rattle.std.specs.Prelude.{◌≡◌, ◌<◌, ◌≤◌, ◌+◌, ◌-
 ghost use Rattle.recoding.specs.Recoded.{most_held};
 ghost use Rattle.cuts.specs.Located.{BeginsKept, Decoding, FeedsFaults, FeedsKept, FeedsPieces, FeedsRest, FinishesFaults, FinishesKept, FinishesPieces, HasNoPlace, HasNoPlaceFor, HasNoPlaceForFault, IsOpen, IsWithin, wrapped};
 
-use crate::first_pieces::{front_of, last_front};
+use crate::first_pieces::{byte_or_zero, front_of, last_front};
 use crate::located::{FromPiece, Spot};
 use crate::piece_runs::{AllPieces, FaultsAlone, Kept, put_run, write_piece};
 use recoding::form::Form;
@@ -356,26 +356,35 @@ impl Decoder {
     }
 }
 
-// The held bytes and at most three that follow them.
+// The held bytes and at most three that follow them. Each byte is chosen by itself: bytes that are stored at a place which is computed
+// are waited for.
 #[inline(always)]
 fn held_and_more(held: &[u8], part: &[u8]) -> ([u8; 6], usize)
     requires { length held.now ≤ 3 }
     ensures len { result.1 ≡ length held.now + min 3 (length part.now) }
     ensures bytes { take result.1 result.0 ≡ held.now ++ take 3 part.now }
 {
-    let count = held.len();
-    let mut joined = [
-        byte_or_zero(held, 0),
-        byte_or_zero(held, 1),
-        byte_or_zero(held, 2),
-        0,
-        0,
-        0,
+    let joined = [
+        byte_of_both(held, part, 0),
+        byte_of_both(held, part, 1),
+        byte_of_both(held, part, 2),
+        byte_of_both(held, part, 3),
+        byte_of_both(held, part, 4),
+        byte_of_both(held, part, 5),
     ];
-    joined[count] = byte_or_zero(part, 0);
-    joined[count + 1] = byte_or_zero(part, 1);
-    joined[count + 2] = byte_or_zero(part, 2);
-    (joined, count + 3usize.min(part.len()))
+    (joined, held.len() + 3usize.min(part.len()))
+}
+
+// The byte at a place of the held bytes and those that follow them, or zero where there is none.
+#[inline(always)]
+fn byte_of_both(held: &[u8], part: &[u8], place: usize) -> u8
+    ensures { result ≡ get_or (held.now ++ part.now) place 0 }
+{
+    if place < held.len() {
+        held[place]
+    } else {
+        byte_or_zero(part, place - held.len())
+    }
 }
 
 // The bytes, of which there are at most three, and zeros after them: one by one, since to copy so few by a call takes longer.
@@ -389,12 +398,4 @@ fn three_of(bytes: &[u8]) -> [u8; 3]
         byte_or_zero(bytes, 1),
         byte_or_zero(bytes, 2),
     ]
-}
-
-// The byte at a place, or zero where there is none.
-#[inline(always)]
-fn byte_or_zero(bytes: &[u8], place: usize) -> u8
-    ensures { result ≡ get_or bytes.now place 0 }
-{
-    if place < bytes.len() { bytes[place] } else { 0 }
 }

@@ -278,7 +278,8 @@ fn put_located_characters<P: FromPiece>(bytes: &[u8], room: &mut [P], from: Spot
     requires { IsWithin from bytes.now room.old }
     ensures { Puts P.made Utf8 bytes.now room.old room.new from result }
 {
-    let mut at = put_many_characters(bytes, room, from);
+    let many = put_many_characters(bytes, room, from);
+    let mut at = put_characters_in_room(bytes, room, many);
     while at.written < room.len() && 4 <= bytes.len() - at.read {
         let Some(next) = put_character(bytes, room, at) else {
             return at;
@@ -301,6 +302,27 @@ fn put_many_characters<P: FromPiece>(bytes: &[u8], room: &mut [P], from: Spot) -
     let end = from.written + most;
     let mut at = from;
     while at.written < end {
+        let Some(next) = put_character(bytes, room, at) else {
+            return at;
+        };
+        at = next;
+    }
+    at
+}
+
+// The same of no more bytes than there are places left: each character has one byte at least, so places are not counted.
+#[inline(always)]
+fn put_characters_in_room<P: FromPiece>(bytes: &[u8], room: &mut [P], from: Spot) -> Spot
+    requires { IsWithin from bytes.now room.old }
+    ensures { Puts P.made Utf8 bytes.now room.old room.new from result }
+{
+    let most = (room.len() - from.written).min(bytes.len() - from.read);
+    if most < 4 {
+        return from;
+    }
+    let last = from.read + most - 4;
+    let mut at = from;
+    while at.read <= last {
         let Some(next) = put_character(bytes, room, at) else {
             return at;
         };

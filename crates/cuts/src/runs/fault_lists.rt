@@ -22,7 +22,7 @@ pub fn faults_into<P: FromPiece>(bytes: &[u8], offset: u64, room: &mut [P]) -> F
     ensures full { IsTrue result.is_full → result.written ≡ length room.old }
     ensures all { IsFalse result.is_full → result.read ≡ length bytes.now }
 {
-    let mut place = 0;
+    let mut place = valid_up_to(bytes);
     let mut written = 0;
     while let Some((_, answer, len)) = Utf8CharDecoder::from(&bytes[place..]).next() {
         match answer {
@@ -50,7 +50,7 @@ pub fn unit_faults_into<P: FromPiece>(units: &[u16], offset: u64, room: &mut [P]
     ensures full { IsTrue result.is_full → result.written ≡ length room.old }
     ensures all { IsFalse result.is_full → result.read ≡ length units.now }
 {
-    let mut place = 0;
+    let mut place = units_valid_up_to(units);
     let mut written = 0;
     while let Some((_, answer, len)) = Utf16CharDecoder::from(&units[place..]).next() {
         match answer {

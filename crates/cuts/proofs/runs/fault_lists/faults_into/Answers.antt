@@ -1,8 +1,13 @@
 use Rattle.std.proofs.Common.{◌∙◌, ap, arith}
 use Rattle.utf_base.specs.Decoded.{decoded}
 use Rattle.encode_unicode.proofs.ForCallers.{some_bytes}
-use Rattle.cuts.proofs.FaultLemmas.{finds_all, finds_full, front_fits, front_known, front_none, front_some, so_far_fault, so_far_text, text_fits, text_known, faults_are}
+use Rattle.cuts.proofs.FaultLemmas.{finds_all, finds_full, front_fits, front_known, front_none, front_some, so_far_fault, so_far_front, so_far_text, text_at_front, text_fits, text_known, faults_are}
 use Rattle.cuts.proofs.runs.fault_lists.faults_into.Goals as goal
+
+pub loop-answer-init : goal.loop-answer-init
+loop-answer-init g c =
+    let xs = c.args.bytes.now in
+    so_far_front _ decoded some_bytes xs _ _ c.valid_up_to-place.ensures.within (text_at_front decoded xs _ c.valid_up_to-place.ensures.value)
 
 pub loop-answer-preserved-in-Ok : goal.loop-answer-preserved-in-Ok
 loop-answer-preserved-in-Ok g c =

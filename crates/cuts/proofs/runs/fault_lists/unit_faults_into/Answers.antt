@@ -1,8 +1,13 @@
 use Rattle.std.proofs.Common.{◌∙◌, ap, arith}
 use Rattle.utf_base.specs.Decoded.{decoded_pairs}
 use Rattle.encode_unicode.proofs.ForCallers.{some_units}
-use Rattle.cuts.proofs.FaultLemmas.{finds_all, finds_full, front_fits, front_known, front_none, front_some, so_far_fault, so_far_text, text_fits, text_known, unit_faults_are}
+use Rattle.cuts.proofs.FaultLemmas.{finds_all, finds_full, front_fits, front_known, front_none, front_some, so_far_fault, so_far_front, so_far_text, text_at_front, text_fits, text_known, unit_faults_are}
 use Rattle.cuts.proofs.runs.fault_lists.unit_faults_into.Goals as goal
+
+pub loop-answer-init : goal.loop-answer-init
+loop-answer-init g c =
+    let xs = c.args.units.now in
+    so_far_front _ decoded_pairs some_units xs _ _ c.units_valid_up_to-place.ensures.within (text_at_front decoded_pairs xs _ c.units_valid_up_to-place.ensures.value)
 
 pub loop-answer-preserved-in-Ok : goal.loop-answer-preserved-in-Ok
 loop-answer-preserved-in-Ok g c =
