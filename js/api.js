@@ -1,5 +1,5 @@
 // The calls of the package, over a module that node.js or web.js has loaded. index.d.ts says what they take and return.
-import { Codec, FEW, FORMS, INCOMPLETE, MAXIMAL, NONE, NO_BYTES, NO_PIECES, OK, REPLACE, ROOM, SEEN, STRICT, TOO_FEW, UTF16LE, UTF8, joined } from "./codec.js";
+import { Codec, FEW, FORMS, INCOMPLETE, MAXIMAL, NONE, NO_BYTES, NO_PIECES, OK, REPLACE, ROOM, SEEN, STRICT, TOO_FEW, UTF16LE, UTF8, joined, own } from "./codec.js";
 
 // Bytes whose pieces are asked for at once.
 const BLOCK = 4096;
@@ -83,11 +83,21 @@ function objectOf(options, example) {
     throw new TypeError(`noddychest: options are an object, as ${example}, or left out, and not ${options === null ? "null" : `a ${typeof options}`}`);
 }
 
+const has = (object, name) => Object.prototype.hasOwnProperty.call(object, name);
+
+// An option; undefined of one that somebody put into Object.prototype, where all objects seem to have it.
+function optionOf(options, name) {
+    let it = options;
+    for (let next; (next = Object.getPrototypeOf(it)) !== null; it = next) if (has(it, name)) return options[name];
+    return it !== options && has(it, name) ? undefined : options[name];
+}
+
 // What options ask to do with invalid bytes. `fatal: true` is how TextDecoder says "strict".
 const WAYS = { replace: REPLACE, maximal: MAXIMAL, strict: STRICT };
 
 function wayOf(options = {}) {
-    const { errors, fatal } = objectOf(options, "{ fatal: true }");
+    const given = objectOf(options, "{ fatal: true }");
+    const [errors, fatal] = [optionOf(given, "errors"), optionOf(given, "fatal")];
     if (errors === undefined) return fatal ? STRICT : REPLACE;
     const name = String(errors);
     if (!Object.keys(WAYS).includes(name)) throw new RangeError(`noddychest: errors is "replace", "maximal" or "strict", and not ${name}`);
@@ -135,7 +145,8 @@ function* piecesIn(bytes, form, base = 0, end = bytes.length) {
 }
 
 // The invalid ones of them, of which about so many are looked for at once.
-function* faultsIn(bytes, form, { base = 0, end = bytes.length, most = BLOCK } = {}) {
+function* faultsIn(bytes, form, settings) {
+    const { base = 0, end = bytes.length, most = BLOCK } = own(settings);
     const { length } = bytes;
     let [begin, front, filled, limit] = [0, 0, 0, 0];
     while (begin + front < end) {
@@ -327,19 +338,24 @@ export function encodingOfBom(data) {
 // That text which had to be valid is not. A TypeError, as TextDecoder throws. (Of an error structuredClone and postMessage keep the
 // message and the cause alone.)
 export class FaultError extends TypeError {
+    offset;
+    length;
+    error;
+    name = "FaultError";
+
     constructor({ offset, length, error }, form) {
         const told = { offset, length, error };
         super(`noddychest: invalid ${FORMS[form].toUpperCase()} at offset ${offset}: ${error}`, { cause: told });
         // (where an Error takes no cause yet)
-        if (!this.cause) Object.defineProperty(this, "cause", { value: told, configurable: true, writable: true });
+        if (!has(this, "cause")) Object.defineProperty(this, "cause", own({ value: told, configurable: true, writable: true, enumerable: false }));
         Object.assign(this, told);
-        this.name = "FaultError";
     }
 }
 
 // What comes of bytes that are fed to a recoder, at whose first an offset stands; after the last ones its input ends. It throws where it is
 // strict and meets an invalid byte.
-function recoded(state, bytes, { form, mode, base = 0, isLast }) {
+function recoded(state, bytes, settings) {
+    const { form, mode, base = 0, isLast } = own(settings);
     const chunks = [];
     const { fault } = codec.feed(state, bytes, chunks, { mode, isLast });
     if (fault) throw new FaultError(shown(fault, base), form);
@@ -389,22 +405,28 @@ export class Recoder {
 export function recoderStream(from, to, options) {
     const recoder = new Recoder(from, to, options);
     const put = (bytes, controller) => bytes.length && controller.enqueue(bytes);
-    return new TransformStream({
-        transform: (part, controller) => void put(recoder.feed(part), controller),
-        flush: (controller) => void put(recoder.finish(), controller),
-    });
+    const feed = (part, controller) => void put(recoder.feed(part), controller);
+    const finish = (controller) => void put(recoder.finish(), controller);
+    return new TransformStream(own({ transform: feed, flush: finish }));
 }
 
 // The offset from which options ask to count.
 function startOf(options = {}) {
-    const { offset = 0 } = objectOf(options, "{ offset: 0 }");
-    return wholeOf(offset);
+    const offset = optionOf(objectOf(options, "{ offset: 0 }"), "offset");
+    return wholeOf(offset === undefined ? 0 : offset);
 }
 
 // A part of the input that a decoder reads, or the end of the input, which has no bytes.
 class Part {
+    at = 0;
+    isOver = false;
+    base = 0;
+    filled = 0;
+    next = null;
+
     constructor(bytes, isEnd) {
-        Object.assign(this, { bytes, isEnd, at: 0, isOver: false, base: 0, filled: 0, next: null });
+        this.bytes = bytes;
+        this.isEnd = isEnd;
     }
 
     // Copies what is left to read, so that it does not matter what becomes of the caller's buffer.
@@ -539,7 +561,7 @@ export class Decoder {
 function textOf(bytes, form, way) {
     const units = joined(codec.recode(form, UTF16LE, bytes, { mode: way }));
     try {
-        return new TextDecoder("utf-16le", { ignoreBOM: true }).decode(units);
+        return new TextDecoder("utf-16le", own({ ignoreBOM: true })).decode(units, own({ stream: false }));
     } catch {
         // (these units are valid: V8 says of those that fit in no string that they are not)
         throw new RangeError(`noddychest: a text of ${units.length / 2} units of UTF-16 is too long for a string here: take streamText, or recode`);

@@ -33,6 +33,8 @@ const PART_ROOM = 4 * PART;
 // takes longer than to recode.
 const MADE = 4 * 1024 * 1024;
 export const NO_BYTES = new Uint8Array(0);
+// A record without what somebody put into Object.prototype, where all others seem to have it.
+export const own = (record) => ({ __proto__: null, ...record });
 // The size of a recoder, and of a decoder; and where the count of replaced bytes stands in the one, and in the other how many bytes it
 // holds, and its offset.
 const STATE = 16;
@@ -317,7 +319,8 @@ export class Codec {
     // Feeds bytes to a recoder, and puts what comes of them into `chunks`, up to about so many bytes, or, where it is strict, up to the
     // first invalid byte. Returns how many were fed, and that byte or null. Where these bytes are the last ones, the input ends after them.
     // (Calls that are not strict take one argument less: the last is passed over.)
-    feed(state, source, chunks, { most = Infinity, mode = REPLACE, isLast = false } = {}) {
+    feed(state, source, chunks, settings) {
+        const { most = Infinity, mode = REPLACE, isLast = false } = own(settings);
         const call = this.calls[`nody_recoder_feed${MODES[mode]}`];
         const [recoder, part, read, written, fault] = [this.state, this.part, this.numbers, this.numbers + 8, this.fault].map(this.address);
         this.memory.set(state, this.state);
@@ -400,9 +403,9 @@ export class Codec {
     }
 
     // These bytes in another form, as chunks; about so many bytes of them where there are more.
-    recode(from, to, source, { most = Infinity, mode = REPLACE } = {}) {
+    recode(from, to, source, settings) {
         const chunks = [];
-        this.feed(this.newRecoder(from, to), source, chunks, { most, mode, isLast: true });
+        this.feed(this.newRecoder(from, to), source, chunks, { ...settings, isLast: true });
         return chunks;
     }
 }

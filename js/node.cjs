@@ -35,6 +35,8 @@ const PART_ROOM = 4 * PART;
 // takes longer than to recode.
 const MADE = 4 * 1024 * 1024;
 const NO_BYTES = new Uint8Array(0);
+// A record without what somebody put into Object.prototype, where all others seem to have it.
+const own = (record) => ({ __proto__: null, ...record });
 // The size of a recoder, and of a decoder; and where the count of replaced bytes stands in the one, and in the other how many bytes it
 // holds, and its offset.
 const STATE = 16;
@@ -319,7 +321,8 @@ class Codec {
     // Feeds bytes to a recoder, and puts what comes of them into `chunks`, up to about so many bytes, or, where it is strict, up to the
     // first invalid byte. Returns how many were fed, and that byte or null. Where these bytes are the last ones, the input ends after them.
     // (Calls that are not strict take one argument less: the last is passed over.)
-    feed(state, source, chunks, { most = Infinity, mode = REPLACE, isLast = false } = {}) {
+    feed(state, source, chunks, settings) {
+        const { most = Infinity, mode = REPLACE, isLast = false } = own(settings);
         const call = this.calls[`nody_recoder_feed${MODES[mode]}`];
         const [recoder, part, read, written, fault] = [this.state, this.part, this.numbers, this.numbers + 8, this.fault].map(this.address);
         this.memory.set(state, this.state);
@@ -402,9 +405,9 @@ class Codec {
     }
 
     // These bytes in another form, as chunks; about so many bytes of them where there are more.
-    recode(from, to, source, { most = Infinity, mode = REPLACE } = {}) {
+    recode(from, to, source, settings) {
         const chunks = [];
-        this.feed(this.newRecoder(from, to), source, chunks, { most, mode, isLast: true });
+        this.feed(this.newRecoder(from, to), source, chunks, { ...settings, isLast: true });
         return chunks;
     }
 }
@@ -576,11 +579,21 @@ function objectOf(options, example) {
     throw new TypeError(`noddychest: options are an object, as ${example}, or left out, and not ${options === null ? "null" : `a ${typeof options}`}`);
 }
 
+const has = (object, name) => Object.prototype.hasOwnProperty.call(object, name);
+
+// An option; undefined of one that somebody put into Object.prototype, where all objects seem to have it.
+function optionOf(options, name) {
+    let it = options;
+    for (let next; (next = Object.getPrototypeOf(it)) !== null; it = next) if (has(it, name)) return options[name];
+    return it !== options && has(it, name) ? undefined : options[name];
+}
+
 // What options ask to do with invalid bytes. `fatal: true` is how TextDecoder says "strict".
 const WAYS = { replace: REPLACE, maximal: MAXIMAL, strict: STRICT };
 
 function wayOf(options = {}) {
-    const { errors, fatal } = objectOf(options, "{ fatal: true }");
+    const given = objectOf(options, "{ fatal: true }");
+    const [errors, fatal] = [optionOf(given, "errors"), optionOf(given, "fatal")];
     if (errors === undefined) return fatal ? STRICT : REPLACE;
     const name = String(errors);
     if (!Object.keys(WAYS).includes(name)) throw new RangeError(`noddychest: errors is "replace", "maximal" or "strict", and not ${name}`);
@@ -628,7 +641,8 @@ function* piecesIn(bytes, form, base = 0, end = bytes.length) {
 }
 
 // The invalid ones of them, of which about so many are looked for at once.
-function* faultsIn(bytes, form, { base = 0, end = bytes.length, most = BLOCK } = {}) {
+function* faultsIn(bytes, form, settings) {
+    const { base = 0, end = bytes.length, most = BLOCK } = own(settings);
     const { length } = bytes;
     let [begin, front, filled, limit] = [0, 0, 0, 0];
     while (begin + front < end) {
@@ -820,19 +834,24 @@ function encodingOfBom(data) {
 // That text which had to be valid is not. A TypeError, as TextDecoder throws. (Of an error structuredClone and postMessage keep the
 // message and the cause alone.)
 class FaultError extends TypeError {
+    offset;
+    length;
+    error;
+    name = "FaultError";
+
     constructor({ offset, length, error }, form) {
         const told = { offset, length, error };
         super(`noddychest: invalid ${FORMS[form].toUpperCase()} at offset ${offset}: ${error}`, { cause: told });
         // (where an Error takes no cause yet)
-        if (!this.cause) Object.defineProperty(this, "cause", { value: told, configurable: true, writable: true });
+        if (!has(this, "cause")) Object.defineProperty(this, "cause", own({ value: told, configurable: true, writable: true, enumerable: false }));
         Object.assign(this, told);
-        this.name = "FaultError";
     }
 }
 
 // What comes of bytes that are fed to a recoder, at whose first an offset stands; after the last ones its input ends. It throws where it is
 // strict and meets an invalid byte.
-function recoded(state, bytes, { form, mode, base = 0, isLast }) {
+function recoded(state, bytes, settings) {
+    const { form, mode, base = 0, isLast } = own(settings);
     const chunks = [];
     const { fault } = codec.feed(state, bytes, chunks, { mode, isLast });
     if (fault) throw new FaultError(shown(fault, base), form);
@@ -882,22 +901,28 @@ class Recoder {
 function recoderStream(from, to, options) {
     const recoder = new Recoder(from, to, options);
     const put = (bytes, controller) => bytes.length && controller.enqueue(bytes);
-    return new TransformStream({
-        transform: (part, controller) => void put(recoder.feed(part), controller),
-        flush: (controller) => void put(recoder.finish(), controller),
-    });
+    const feed = (part, controller) => void put(recoder.feed(part), controller);
+    const finish = (controller) => void put(recoder.finish(), controller);
+    return new TransformStream(own({ transform: feed, flush: finish }));
 }
 
 // The offset from which options ask to count.
 function startOf(options = {}) {
-    const { offset = 0 } = objectOf(options, "{ offset: 0 }");
-    return wholeOf(offset);
+    const offset = optionOf(objectOf(options, "{ offset: 0 }"), "offset");
+    return wholeOf(offset === undefined ? 0 : offset);
 }
 
 // A part of the input that a decoder reads, or the end of the input, which has no bytes.
 class Part {
+    at = 0;
+    isOver = false;
+    base = 0;
+    filled = 0;
+    next = null;
+
     constructor(bytes, isEnd) {
-        Object.assign(this, { bytes, isEnd, at: 0, isOver: false, base: 0, filled: 0, next: null });
+        this.bytes = bytes;
+        this.isEnd = isEnd;
     }
 
     // Copies what is left to read, so that it does not matter what becomes of the caller's buffer.
@@ -1032,7 +1057,7 @@ class Decoder {
 function textOf(bytes, form, way) {
     const units = joined(codec.recode(form, UTF16LE, bytes, { mode: way }));
     try {
-        return new TextDecoder("utf-16le", { ignoreBOM: true }).decode(units);
+        return new TextDecoder("utf-16le", own({ ignoreBOM: true })).decode(units, own({ stream: false }));
     } catch {
         // (these units are valid: V8 says of those that fit in no string that they are not)
         throw new RangeError(`noddychest: a text of ${units.length / 2} units of UTF-16 is too long for a string here: take streamText, or recode`);

@@ -5,7 +5,7 @@ import { createRequire } from "node:module";
 import test from "node:test";
 import vm from "node:vm";
 import { MessageChannel, receiveMessageOnPort } from "node:worker_threads";
-import { Ends, FaultError, Recoder, boundaryAfter, boundaryBefore, changedRange, charCount, decode, encodingOfBom, faults, firstFault, isValid, numberOf, offsetOf, pieces, piecesBack, recode, recodedLength, recoderStream, streamPieces, undecidedLength } from "noddychest";
+import { Decoder, Ends, FaultError, Recoder, boundaryAfter, boundaryBefore, changedRange, charCount, decode, encodingOfBom, faults, firstFault, isValid, numberOf, offsetOf, pieces, piecesBack, recode, recodedLength, recoderStream, streamFaults, streamPieces, streamText, undecidedLength } from "noddychest";
 import { chances, damaged, hexOf, ofHex } from "./help.js";
 
 const GONE = { name: "TypeError", message: /^noddychest: the bytes are gone: their buffer was detached, or made smaller$/ };
@@ -223,6 +223,85 @@ test("options that are none throw a sentence", () => {
         assert.throws(() => recoderStream("utf8", "utf8", given), told(name));
     }
     for (const given of [undefined, {}, { fatal: undefined }, { fatal: 0 }, Object.create(null)]) assert.equal(recode(ofHex("ff"), "utf8", "utf8", given).length, 3);
+});
+
+// What all calls that have options, or records of their own, answer.
+async function answers() {
+    const bytes = ofHex("61e282ff62f09f9880c3");
+    const thrown = (call) => {
+        try {
+            return call();
+        } catch (it) {
+            return [it.constructor.name, it.name, it.message, it.offset, it.length, it.error, Object.keys(it)];
+        }
+    };
+    const all = [];
+    for (const given of [[], [{}], [Object.create(null)], [{ errors: "maximal" }], [{ fatal: true }], [{ fatal: false, errors: "strict" }]]) {
+        for (const form of ["utf-8", "utf-16le", "utf-16be"]) {
+            const recoder = new Recoder(form, "utf-8", ...given);
+            const feeds = [() => hexOf(recoder.feed(bytes)), () => hexOf(recoder.finish()), () => recoder.replaced];
+            all.push([() => decode(bytes, form, ...given), () => hexOf(recode(bytes, form, "utf-16be", ...given)), ...feeds].map(thrown));
+        }
+        const stream = recoderStream("utf-8", "utf-16le", ...given);
+        const writer = stream.writable.getWriter();
+        const written = [writer.write(bytes.subarray(0, 3)), writer.close()].map((it) => it.catch((error) => error.message));
+        try {
+            for await (const it of stream.readable) all.push(hexOf(it));
+        } catch (it) {
+            all.push(it.message);
+        }
+        all.push(await Promise.all(written));
+        try {
+            for await (const it of streamText([bytes.subarray(0, 2), bytes.subarray(2)], "utf-8", ...given)) all.push(it);
+        } catch (it) {
+            all.push(it.message);
+        }
+    }
+    for (const given of [[], [{}], [{ offset: 5 }]]) {
+        const decoder = new Decoder("utf-8", ...given);
+        all.push([...decoder.feed(bytes.subarray(0, 3))], [...decoder.feedFaults(bytes.subarray(3))], decoder.offset, decoder.held, [...decoder.finish()]);
+    }
+    for (const call of [pieces, piecesBack, faults]) all.push([...call(bytes)], [...call(bytes, "utf-16be")]);
+    for (const call of [streamPieces, streamFaults]) for await (const it of call([bytes.subarray(0, 2), bytes.subarray(2)])) all.push(it);
+    for (const call of [firstFault, isValid, charCount, encodingOfBom, undecidedLength]) all.push(call(bytes));
+    return [...all, changedRange(bytes, 2, 3), boundaryBefore(bytes, 6), offsetOf(bytes, 2), numberOf(bytes, 3), recodedLength(bytes, "utf-8", "utf-16le")];
+}
+
+const NAMES = ["most", "base", "end", "errors", "fatal", "encoding", "offset", "mode", "isLast", "form", "length", "error", "char", "cause", "settings", "ignoreBOM", "stream", "bytes", "isEnd", "at", "isOver", "filled", "read", "count", "kind", "place", "len", "scalar", "fault", "readableType", "writableType", "from", "to"];
+
+test("what somebody put into Object.prototype changes no answer", async () => {
+    const want = await answers();
+    for (const name of NAMES) {
+        for (const value of [1, "strict", null]) {
+            Object.defineProperty(Object.prototype, name, { value, writable: true, enumerable: false, configurable: true });
+            let have;
+            try {
+                have = await answers();
+            } finally {
+                delete Object.prototype[name];
+            }
+            assert.deepEqual(have, want, `${name}: ${value}`);
+        }
+    }
+});
+
+test("options count that an object has from its class, or from an object before it", () => {
+    class Options {
+        get fatal() {
+            return true;
+        }
+    }
+    for (const given of [new Options(), Object.create({ errors: "strict" }), Object.create(new Options()), new Proxy({}, { get: (_, name) => name === "fatal" || undefined })]) {
+        assert.throws(() => recode(ofHex("ff"), "utf8", "utf8", given), FaultError);
+        assert.throws(() => decode(ofHex("ff"), "utf8", given), FaultError);
+    }
+    assert.equal(new Decoder("utf-8", Object.create({ offset: 7 })).offset, 7);
+});
+
+test("an error where the language's own objects are frozen", () => {
+    const program = 'for (const it of [Object, Error, TypeError, Array, Function]) Object.freeze(it.prototype); const { recode, FaultError } = require("noddychest"); try { recode(Uint8Array.of(255), "utf8", "utf8", { fatal: true }); } catch (it) { console.log(it.name, it instanceof FaultError, it.offset, it.cause.error); }';
+    const ran = spawnSync(process.execPath, ["-e", program], { cwd: new URL("..", import.meta.url), encoding: "utf8" });
+    assert.equal(ran.stdout, "FaultError true 0 NonUtf8Byte\n", ran.stderr);
 });
 
 test("an error says where also after it was cloned or sent", () => {

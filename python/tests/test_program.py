@@ -1,6 +1,8 @@
 """`python3 -m noddychest`: what it prints, how it ends, and that it reads by parts."""
 import os
+import random
 import re
+import signal
 import subprocess
 import sys
 import tempfile
@@ -11,6 +13,7 @@ from noddychest import ErrorKind, pieces, recode
 import outside
 
 SAMPLE = b"h\xc3\xa9\xe2\x82A\xf0\x9f\x98\x80"
+NODY = os.path.join(outside.TOP, "build", "nody")
 # What ./pieces prints for it (README.md of the repository).
 LISTING = "0 1 000068\n1 2 0000e9\n3 1 InterruptedSequence\n4 1 UnexpectedContinuationByte\n5 1 000041\n6 4 01f600\n"
 
@@ -43,10 +46,58 @@ class Program(unittest.TestCase):
         path, good = self.file(SAMPLE), os.path.join(self.folder, "good")
         with open(good, "wb") as file:
             file.write("é".encode() * 10)
-        text = f"{path}: offset 3: {reason[0]}\n{path}: offset 4: {reason[1]}\n"
-        self.assertEqual(ran("check", good, path), (1, text.encode(), ""))
-        self.assertEqual(ran("check", good), (0, b"", ""))
+        text = f"{path}:1:3: offset 3: {reason[0]}\n{path}:1:4: offset 4: {reason[1]}\n{path}: not valid UTF-8: 2 invalid bytes\n"
+        valid = f"{good}: valid UTF-8\n"
+        self.assertEqual(ran("check", good, path), (1, (valid + text).encode(), ""))
+        self.assertEqual(ran("check", good), (0, valid.encode(), ""))
         self.assertEqual(ran("check", given=SAMPLE), (1, text.replace(path, "-").encode(), ""))
+        for jobs in ([], ["--jobs", "2"]):
+            self.assertEqual(ran("check", "--quiet", *jobs, good), (0, b"", ""))
+            self.assertEqual(ran("check", "-q", *jobs, good, path, good), (1, b"", ""))
+
+    def test_lines_and_columns(self):
+        """As an editor counts them: a line ends with its line feed, and an invalid byte is a column."""
+        text = b"a\xffb\n\n\xc3\xa9\xe2\x82\n\xf0\x9f\x98\x80\xff"
+        places = [("1:2", 1), ("3:2", 7), ("3:3", 8), ("4:2", 14)]
+        self.assertEqual([it[:2] for it in self.told(text)], places)
+        wide = "a\ud83db\n\n\u0a00\u0d0a\udc00\n\U0001f600\ud83d".encode("utf-16-le", "surrogatepass") + b"\n"
+        places = [("1:2", 2), ("3:3", 14), ("4:2", 22), ("4:3", 24)]
+        self.assertEqual([it[:2] for it in self.told(wide, "--encoding", "utf16le")], places)
+
+    def told(self, data, *words):
+        path = self.file(data)
+        status, out, err = ran("check", *words, path)
+        self.assertEqual((status, err), (1, ""))
+        lines = out.decode().splitlines()
+        self.assertEqual(len(lines) - 1, int(lines[-1].split(": ")[2].split()[0]))
+        found = [re.fullmatch(re.escape(path) + r":(\d+:\d+): offset (\d+): (.*)", it) for it in lines[:-1]]
+        return [(it[1], int(it[2]), it[3]) for it in found]
+
+    @unittest.skipUnless(os.path.exists(NODY), "the program nody is not built")
+    def test_it_says_what_nody_says(self):
+        chances = random.Random(7)
+        for encoding in ("utf8", "utf16le", "utf16be"):
+            codec = {"utf8": "utf-8", "utf16le": "utf-16-le", "utf16be": "utf-16-be"}[encoding]
+            for size in (0, 1, 30, (1 << 20) + 3):
+                text = ("né\n😀" * 40).encode(codec) * (size // 200)
+                noise = b"".join(chances.choice([b"\xff", b"\n\0", b"\0\n", b"\xd8\x3d", b"\x3d\xd8", b"\xe2\x82", b"a"]) for _ in range(size % 200))
+                path = self.file(text + noise + text[:500] + noise)
+                of_nody = subprocess.run([NODY, "check", "--from", encoding, path, path + "-none", "-"], input=noise, stdout=subprocess.PIPE, stderr=subprocess.PIPE)
+                for jobs in ("1", "3"):
+                    status, out, err = ran("check", "--encoding", encoding, "--jobs", jobs, path, path + "-none", "-", given=noise)
+                    self.assertEqual((status, out, "noddychest: " + err.partition(": ")[2]), (of_nody.returncode, of_nody.stdout, of_nody.stderr.decode().replace("nody:", "noddychest:")))
+                words = ["--to", "utf16be", "--errors", "strict"]
+                strict = subprocess.run([NODY, "recode", "--from", encoding, *words, path], stdout=subprocess.PIPE, stderr=subprocess.PIPE)
+                self.assertEqual(ran("recode", "--from", encoding, *words, path), (strict.returncode, strict.stdout, strict.stderr.decode()))
+                into = ran("recode", "--from", encoding, *words, "-o", path + "-out", path)
+                self.assertEqual(into, (strict.returncode, b"", strict.stderr.decode()))
+
+    def test_files_that_cannot_be_read_stop_no_others(self):
+        path, none = self.file(b"a\xff"), self.folder + "/none"
+        line = f"{path}:1:2: offset 1: {ErrorKind.NON_UTF8_BYTE.reason}\n{path}: not valid UTF-8: 1 invalid byte\n"
+        for jobs in ([], ["--jobs", "2"]):
+            status, out, err = ran("check", *jobs, none, path, none, path)
+            self.assertEqual((status, out, err), (3, line.encode() * 2, f"noddychest: {none}: No such file or directory\n" * 2))
 
     def test_long_input(self):
         """The parts in which it reads are not to be seen."""
@@ -55,7 +106,11 @@ class Program(unittest.TestCase):
                 data = b"a" * ((1 << 20) + shift) + wrong + "é".encode() * 3000 + b"\xe2\x82"
                 path = self.file(data)
                 _, out, _ = ran("check", path)
-                expected = [f"{path}: offset {it.offset}: {it.error.reason}" for it in pieces(data) if it.error]
+                lines, columns = data.count(b"\n"), [at for at, it in enumerate(pieces(data), 1) if it.error]
+                faults = [it for it in pieces(data) if it.error]
+                expected = [f"{path}:1:{column}: offset {it.offset}: {it.error.reason}" for column, it in zip(columns, faults)]
+                expected += [f"{path}: not valid UTF-8: {len(faults)} invalid bytes"]
+                self.assertEqual(lines, 0)
                 self.assertEqual(out.decode().splitlines(), expected)
 
     def test_recode(self):
@@ -67,7 +122,7 @@ class Program(unittest.TestCase):
         self.assertEqual((status, out), (0, ("é😀" * 300_000).encode("utf-16-be")))
         for before in (b"", b"ab", "é".encode() * 700_000):
             status, out, err = ran("recode", "--from", "utf8", "--to", "utf8", "--errors", "strict", given=before + b"\xffb")
-            self.assertEqual((status, out, err), (1, before, f"-: offset {len(before)}: {ErrorKind.NON_UTF8_BYTE.reason}\n"))
+            self.assertEqual((status, out, err), (1, before, f"-:1:{len(before.decode()) + 1}: offset {len(before)}: {ErrorKind.NON_UTF8_BYTE.reason}\n"))
 
     def test_jobs(self):
         path, out = self.file(SAMPLE * 600_000), os.path.join(self.folder, "out")
@@ -78,7 +133,7 @@ class Program(unittest.TestCase):
                 self.assertEqual(file.read(), expected)
         self.assertEqual(sorted(os.listdir(self.folder)), ["file", "out"])
         status, _, err = ran("recode", "--from", "utf8", "--to", "utf16le", "-o", out, "--errors", "strict", "--jobs", "2", path)
-        self.assertEqual((status, err), (1, f"{path}: offset 3: {ErrorKind.INTERRUPTED_SEQUENCE.reason}\n"))
+        self.assertEqual((status, err), (1, f"{path}:1:3: offset 3: {ErrorKind.INTERRUPTED_SEQUENCE.reason}\n"))
         path = self.file(b"a" * 3_000_000 + SAMPLE * 3 + b"\xe2")
         self.assertEqual(ran("check", "--jobs", "3", path), ran("check", path))
         self.assertEqual(ran("check", "--jobs", "3", path, "/none")[0], 3)
@@ -124,7 +179,7 @@ class Program(unittest.TestCase):
         """The status is the same, and no message comes among the output."""
         path = self.file(b"ab\xff")
         recoding = ["recode", "--from", "utf8", "--to", "utf8", "--errors", "strict", path]
-        found = path.encode() + f": offset 2: {ErrorKind.NON_UTF8_BYTE.reason}\n".encode()
+        found = f"{path}:1:3: offset 2: {ErrorKind.NON_UTF8_BYTE.reason}\n{path}: not valid UTF-8: 1 invalid byte\n".encode()
         for words, status, out in ((recoding, 1, b"ab"), ([*recoding, "--output", path + "-out"], 1, b""), (["check", path + "-none"], 3, b""),
                                    (["check", "--jobs", "2", path], 1, found), ([*recoding[:5], path, "--output", path + "-out"], 0, b"")):
             for to in ("2>&-", "2>/dev/full"):
@@ -139,20 +194,35 @@ class Program(unittest.TestCase):
             with open(path, "rb") as file:
                 self.assertEqual((it.returncode, file.read()), (3, b"a\xff"), (words, it.stderr))
 
-    def test_names_that_are_no_text(self):
-        name = os.fsencode(self.folder) + b"/\xff"
-        with open(name, "wb") as file:
-            file.write(b"a\xff")
-        expected = name + f": offset 1: {ErrorKind.NON_UTF8_BYTE.reason}\n".encode()
-        self.assertEqual(ran("check", name, env=dict(os.environ, PYTHONIOENCODING="utf-8")), (1, expected, ""))
+    def test_names_that_are_no_text_or_command_a_terminal(self):
+        """They are shown as nody(1) shows them, whatever the output is encoded in."""
+        for name, shown in ((b"\xff", b"\\377"), ("é".encode(), "é".encode()), (b"a\nb\x1b[m", b"a\\012b\\033[m"), ("\u202ea".encode(), b"\\342\\200\\256a")):
+            path, front = os.fsencode(self.folder) + b"/" + name, os.fsencode(self.folder) + b"/" + shown
+            with open(path, "wb") as file:
+                file.write(b"a\xff")
+            expected = front + f":1:2: offset 1: {ErrorKind.NON_UTF8_BYTE.reason}\n".encode() + front + b": not valid UTF-8: 1 invalid byte\n"
+            for encoding in ("utf-8", "ascii", "latin-1", "utf-16"):
+                self.assertEqual(ran("check", path, env=dict(os.environ, PYTHONUTF8="1", PYTHONIOENCODING=encoding)), (1, expected, ""))
+            missing = subprocess.run([sys.executable, "-m", "noddychest", "check", path + b"-"], stdout=subprocess.PIPE, stderr=subprocess.PIPE)
+            self.assertEqual((missing.returncode, missing.stdout, missing.stderr), (3, b"", b"noddychest: " + front + b"-: No such file or directory\n"))
 
-    def test_names_whatever_the_output_is_encoded_in(self):
-        name = os.path.join(self.folder, "é").encode()
-        with open(name, "wb") as file:
-            file.write(b"a\xff")
-        expected = name + f": offset 1: {ErrorKind.NON_UTF8_BYTE.reason}\n".encode()
-        for encoding in ("ascii", "latin-1", "utf-16"):
-            self.assertEqual(ran("check", name, env=dict(os.environ, PYTHONUTF8="1", PYTHONIOENCODING=encoding)), (1, expected, ""))
+    def test_a_pipe_that_is_closed(self):
+        """Nobody reads any more: it ends with 3, and says nothing."""
+        path = self.file(b"a\xff\n" * 400_000)
+        for words in (["pieces", path], ["check", path], ["recode", "--from", "utf8", "--to", "utf8", path]):
+            with subprocess.Popen([sys.executable, "-m", "noddychest", *words], stdout=subprocess.PIPE, stderr=subprocess.PIPE) as it:
+                it.stdout.read(10)
+                it.stdout.close()
+                self.assertEqual((it.stderr.read(), it.wait()), (b"", 3), words)
+
+    def test_what_comes_in_time_is_told_of_in_time(self):
+        """Each part of a pipe is told of before the next one is waited for; an interrupt ends it as a signal does."""
+        with subprocess.Popen([sys.executable, "-m", "noddychest", "check"], stdin=subprocess.PIPE, stdout=subprocess.PIPE, stderr=subprocess.PIPE) as it:
+            it.stdin.write(b"a\xffbcdefgh")
+            it.stdin.flush()
+            self.assertEqual(it.stdout.readline(), f"-:1:2: offset 1: {ErrorKind.NON_UTF8_BYTE.reason}\n".encode())
+            it.send_signal(signal.SIGINT)
+            self.assertEqual((it.wait(), it.stderr.read()), (-signal.SIGINT, b""))
 
     @unittest.skipUnless(os.path.exists("/dev/full"), "there is no /dev/full")
     def test_writes_that_fail(self):

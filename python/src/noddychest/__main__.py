@@ -1,23 +1,30 @@
 """Checks, splits and converts files: python3 -m noddychest check|pieces|recode.
 
 Exit status: 0 if all input is valid (after `recode` without `--errors strict` also if it is not), 1 if it is not, 2 for wrong arguments,
-3 if a file cannot be read or written."""
+3 if a file cannot be read or written, or there is no memory. Of several files it is the highest."""
 from __future__ import annotations
 
 import argparse
+import array
 import contextlib
 import errno
 import os
+import re
+import signal
 import stat
 import sys
 from collections.abc import Iterator
 from io import BufferedReader, TextIOWrapper
+from typing import NamedTuple, Optional
 
-from . import FaultError, Piece, Recoder, Shard, boundary_before, faults, parallel, pieces, shards
+from . import ErrorKind, FaultError, Faults, Recoder, Shard, _noddychest, boundary_before, parallel, pieces, shards
 from ._names import form_of
-from ._shards import taken
+from ._shards import arrays, taken
 
 _SIZE = 1 << 20
+_NAMES = ("UTF-8", "UTF-16LE", "UTF-16BE")  # by the numbers of the C library
+_HIDDEN = re.compile("[\0-\x1f\x7f-\x9f\u061c\u200b-\u200f\u2028-\u202e\u2060-\u206f\ufeff]")
+_LINE_FEEDS = ("\n".encode(), "\n".encode("utf-16-le"), "\n".encode("utf-16-be"))
 
 
 def _encoding(name: str) -> str:
@@ -32,8 +39,9 @@ def _arguments() -> argparse.ArgumentParser:
     what, _, statuses = (__doc__ or "").partition("\n\n")
     parser = argparse.ArgumentParser(prog="python3 -m noddychest", description=what, epilog=statuses)
     jobs = parser.add_subparsers(dest="job", required=True)
-    check = jobs.add_parser("check", help="says where input is invalid, and why")
+    check = jobs.add_parser("check", help="says whether each file is valid, and of each invalid byte FILE:LINE:COLUMN: offset N: reason")
     check.add_argument("file", nargs="*", default=["-"], metavar="FILE", help="standard input, if there is none, or for -")
+    check.add_argument("-q", "--quiet", action="store_true", help="writes nothing: the exit status tells")
     split = jobs.add_parser("pieces", help="lists each character and each invalid byte")
     convert = jobs.add_parser("recode", help="converts to another encoding, on standard output")
     for it in (split, convert):
@@ -56,11 +64,60 @@ def _jobs(word: str) -> int:
     return int(word)
 
 
-def _tell(words: str) -> None:
-    """Writes a line on standard error, as far as that can be written. (If it is closed, `print` would write on standard output.)"""
+def _shown(text: str) -> bytes:
+    """Names as nody(1) shows them: a control character, a mark of direction, or a byte that is not UTF-8 as a backslash and three octal
+    digits for each byte. So no name commands a terminal, or has the look of two lines."""
+    data = os.fsencode(text)
+    return b"".join(_shown_piece(data[it.offset : it.offset + it.length], it.char) for it in pieces(data))
+
+
+def _shown_piece(data: bytes, char: Optional[str]) -> bytes:
+    return data if char is not None and not _HIDDEN.match(char) else b"".join(b"\\%03o" % it for it in data)
+
+
+def _tell(line: bytes) -> None:
+    """Writes a line on standard error, as far as that can be written."""
     if sys.stderr is not None:
         with contextlib.suppress(OSError):
-            print(words, file=sys.stderr)
+            sys.stderr.buffer.write(line + b"\n")
+            sys.stderr.flush()
+
+
+def _tell_failure(name: str, error: Exception) -> None:
+    """Says why something cannot be read or written."""
+    if isinstance(error, OSError) and error.strerror:
+        told = f"{error.filename if isinstance(error.filename, str) else name}: {error.strerror}"
+    else:
+        told = f"{name}: there is no memory" if isinstance(error, MemoryError) else str(error)
+    _tell(b"noddychest: " + _shown(told))
+
+
+class _OutputError(Exception):
+    """Standard output cannot be written."""
+
+
+class _Output:
+    """Standard output. That it cannot be written is no failure of an input."""
+
+    def __init__(self) -> None:
+        if not isinstance(sys.stdout, TextIOWrapper):  # (it was closed)
+            raise _OutputError(OSError(errno.EBADF, os.strerror(errno.EBADF)))
+        self._file = sys.stdout.buffer
+
+    def write(self, data: bytes) -> None:
+        try:
+            self._file.write(data)
+        except OSError as error:
+            raise _OutputError(error) from None
+
+    def flush(self) -> None:
+        try:
+            self._file.flush()
+        except OSError as error:
+            raise _OutputError(error) from None
+
+
+# ---- reading ----
 
 
 def _open(name: str) -> BufferedReader:
@@ -87,96 +144,217 @@ def _blocks(file: BufferedReader, encoding: str) -> Iterator[tuple[int, bytes, i
     yield offset, data, len(data)
 
 
-def _faults(name: str, encoding: str, jobs: int) -> Iterator[Piece]:
+# ---- places ----
+
+
+class _Place(NamedTuple):
+    """A place in text, from another one: so many lines, and then so many characters and invalid bytes in the line."""
+
+    lines: int = 0
+    columns: int = 0
+
+    def plus(self, more: _Place) -> _Place:
+        return _Place(self.lines + more.lines, more.columns if more.lines else self.columns + more.columns)
+
+
+def _line_start(form: int, data: bytes) -> int:
+    """Where the last line of some bytes begins."""
+    feed = _LINE_FEEDS[form]
+    at = data.rfind(feed)
+    while at >= 0 and at % len(feed):  # (it lies in two units)
+        at = data.rfind(feed, 0, at + 1)
+    return 0 if at < 0 else at + len(feed)
+
+
+def _passed(form: int, data: bytes) -> _Place:
+    """The place after bytes that begin and end between pieces."""
+    columns, lines = _noddychest.counts(form, data)
+    return _Place(lines, _noddychest.char_count(form, data[_line_start(form, data) :]) if lines else columns)
+
+
+class _Found(NamedTuple):
+    """The invalid bytes of a block, with their offsets in the whole input; their lines and columns, counted from the front of the block; and
+    where the block ends."""
+
+    faults: Faults
+    lines: array.array[int]
+    columns: array.array[int]
+    end: _Place
+
+    def places(self, front: _Place) -> Iterator[tuple[int, int, _Place]]:
+        """The offset, the kind and the place of each, by the place at which the block begins."""
+        for offset, kind, lines, columns in zip(self.faults.offsets, self.faults.kinds, self.lines, self.columns):
+            yield offset, kind, front.plus(_Place(lines, columns))
+
+
+def _found_in(form: int, data: bytes, end: int, base: int) -> _Found:
+    """What is invalid in a block up to `end`; it begins at the offset `base`."""
+    found = _Found(arrays(form, data, end, base), array.array("Q"), array.array("Q"), _Place())
+    place, counted = _Place(), 0
+    for offset in found.faults.offsets:
+        place, counted = place.plus(_passed(form, data[counted : offset - base])), offset - base
+        found.lines.append(place.lines)
+        found.columns.append(place.columns)
+    return found._replace(end=place.plus(_passed(form, data[counted:end])))
+
+
+def _found_in_shard(shard: Shard) -> list[_Found]:
+    return [_found_in(form_of(shard.encoding), bytes(data), cut, offset) for offset, data, cut in shard.blocks()]
+
+
+def _found(name: str, encoding: str, jobs: int) -> Iterator[_Found]:
     if jobs > 1 and name != "-":
-        for found in parallel.each(Shard.faults_array, shards(name, parallel.SIZE, encoding), jobs, True):
-            yield from found.pieces()
+        for found in parallel.each(_found_in_shard, shards(name, parallel.SIZE, encoding), jobs, True):
+            yield from found
         return
     with _open(name) as file:
         for offset, data, cut in _blocks(file, encoding):
-            yield from taken(faults(data, encoding), offset, cut)
+            yield _found_in(form_of(encoding), data, cut, offset)
 
 
-def _check(name: str, encoding: str, jobs: int) -> int:
-    status = 0
-    for piece in _faults(name, encoding, jobs):
-        status = 1
-        print(f"{name}: offset {piece.offset}: {piece.error.reason if piece.error else ''}")
-    return status
+def _told(shown: bytes, offset: int, kind: int, place: _Place) -> bytes:
+    """FILE:LINE:COLUMN: offset N: reason, as nody(1) tells of an invalid byte."""
+    return b"%s:%d:%d: offset %d: %s" % (shown, place.lines + 1, place.columns + 1, offset, ErrorKind(kind).reason.encode())
 
 
-def _pieces(name: str, encoding: str) -> int:
+# ---- jobs ----
+
+
+def _summary(encoding: str, count: int) -> bytes:
+    """What is said of a file at the end of its check."""
+    form = form_of(encoding)
+    noun = ("byte" if form == 0 else "unit") + ("" if count == 1 else "s")
+    return f"not valid {_NAMES[form]}: {count} invalid {noun}".encode() if count else f"valid {_NAMES[form]}".encode()
+
+
+def _check(out: _Output, name: str, asked: argparse.Namespace) -> int:
+    count, front, shown = 0, _Place(), _shown(name)
+    for found in _found(name, asked.encoding, asked.jobs):
+        count += len(found.faults.offsets)
+        if asked.quiet and count:
+            return 1
+        if not asked.quiet:
+            for offset, kind, place in found.places(front):
+                out.write(_told(shown, offset, kind, place) + b"\n")
+        front = front.plus(found.end)
+        out.flush()
+    if not asked.quiet:
+        out.write(b"%s: %s\n" % (shown, _summary(asked.encoding, count)))
+    return 1 if count else 0
+
+
+def _pieces(out: _Output, name: str, encoding: str) -> int:
     status = 0
     with _open(name) as file:
         for offset, data, cut in _blocks(file, encoding):
             for piece in taken(iter(pieces(data, encoding)), offset, cut):
                 if piece.error is not None:
                     status = 1
-                    print(piece.offset, piece.length, piece.error.name.replace("_", " ").title().replace(" ", ""))
+                    out.write(f"{piece.offset} {piece.length} {piece.error.name.replace('_', ' ').title().replace(' ', '')}\n".encode())
                 elif piece.char is not None:
-                    print(f"{piece.offset} {piece.length} {ord(piece.char):06x}")
+                    out.write(b"%d %d %06x\n" % (piece.offset, piece.length, ord(piece.char)))
+            out.flush()
     return status
 
 
-def _recode(name: str, from_: str, to: str, errors: str) -> int:
-    recoder, before, out = Recoder(from_, to, errors), 0, sys.stdout.buffer
+def _recode(out: _Output, name: str, asked: argparse.Namespace) -> int:
+    if asked.errors == "strict":
+        return _recode_strictly(out, name, asked.from_, asked.to)
+    recoder = Recoder(asked.from_, asked.to, asked.errors)
     with _open(name) as file:
-        try:
-            for part in _parts(file):
-                try:
-                    out.write(recoder.feed(part))
-                except FaultError as fault:  # what stands before it is written
-                    out.write(recoder.feed(part[:max(fault.offset - before, 0)]))
-                    raise
-                before += len(part)
-            out.write(recoder.finish())
-        except FaultError as fault:
+        for part in _parts(file):
+            out.write(recoder.feed(part))
             out.flush()
-            _tell(f"{name}: offset {fault.offset}: {fault.error.reason}")
-            return 1
+    out.write(recoder.finish())
     return 0
+
+
+def _recode_strictly(out: _Output, name: str, from_: str, to: str) -> int:
+    """Writes what stands before the first invalid byte, and tells of that as `check` does."""
+    recoder, front = Recoder(from_, to), _Place()
+    with _open(name) as file:
+        for offset, data, cut in _blocks(file, from_):
+            found = _found_in(form_of(from_), data, cut, offset)
+            first = next(found.places(front), None)
+            out.write(recoder.feed(data[: cut if first is None else first[0] - offset]))
+            out.flush()
+            if first is not None:
+                _tell(_told(_shown(name), *first))
+                return 1
+            front = front.plus(found.end)
+    return 0
+
+
+def _place_of(name: str, encoding: str, offset: int) -> _Place:
+    """The place of an offset in a file."""
+    place = _Place()
+    for shard in shards(name, parallel.SIZE, encoding):
+        for start, data, cut in shard.blocks():
+            if start < offset:
+                place = place.plus(_passed(form_of(encoding), bytes(data)[: min(cut, offset - start)]))
+    return place
 
 
 def _recode_into(asked: argparse.Namespace) -> int:
     try:
         parallel.recode(asked.file, asked.output, asked.from_, asked.to, asked.jobs, errors=asked.errors, resume=asked.resume)
     except FaultError as fault:
-        _tell(f"{asked.file}: offset {fault.offset}: {fault.error.reason}")
+        _tell(_told(_shown(asked.file), fault.offset, fault.error.value, _place_of(asked.file, asked.from_, fault.offset)))
         return 1
+    except (OSError, ImportError, MemoryError) as error:
+        _tell_failure(asked.output, error)
+        return 3
     return 0
+
+
+def _run_on(out: _Output, name: str, asked: argparse.Namespace) -> int:
+    """The status of a job for one input; one that cannot be read is told of."""
+    try:
+        if asked.job == "check":
+            return _check(out, name, asked)
+        return _pieces(out, name, asked.encoding) if asked.job == "pieces" else _recode(out, name, asked)
+    except (OSError, ImportError, MemoryError) as error:  # (a URL asks for fsspec)
+        out.flush()
+        _tell_failure(name, error)
+        return 3
 
 
 def _run(asked: argparse.Namespace) -> int:
     if asked.job == "recode" and asked.output is not None:
         return _recode_into(asked)
-    if not isinstance(sys.stdout, TextIOWrapper):  # (it was closed)
-        raise OSError(errno.EBADF, os.strerror(errno.EBADF))
-    sys.stdout.reconfigure(encoding=sys.getfilesystemencoding(), errors="surrogateescape")  # (names of files are written as they are)
-    if asked.job == "check":
-        status = max(_check(name, asked.encoding, asked.jobs) for name in asked.file)
-    elif asked.job == "pieces":
-        status = _pieces(asked.file, asked.encoding)
-    else:
-        status = _recode(asked.file, asked.from_, asked.to, asked.errors)
-    sys.stdout.flush()
+    out = _Output()
+    status = max(_run_on(out, name, asked) for name in (asked.file if asked.job == "check" else [asked.file]))
+    out.flush()
     return status
+
+
+def _wrong_with(asked: argparse.Namespace) -> Optional[str]:
+    """What is wrong with the words together, or None."""
+    if asked.job != "recode":
+        return None
+    if asked.output is None:
+        return "--jobs and --resume need --output" if asked.jobs > 1 or asked.resume else None
+    if asked.output == "-":
+        return "--output needs the name of a file: without it the text goes to standard output"
+    return "--output needs a FILE" if asked.file == "-" else None
 
 
 def main() -> int:
     parser = _arguments()
     asked = parser.parse_args()
-    if asked.job == "recode" and asked.output is None and (asked.jobs > 1 or asked.resume):
-        parser.error("--jobs and --resume need --output")
-    if asked.job == "recode" and asked.output is not None and asked.file == "-":
-        parser.error("--output needs a FILE")
-    if asked.job == "recode" and asked.output == "-":
-        parser.error("--output needs the name of a file: without it the text goes to standard output")
+    wrong = _wrong_with(asked)
+    if wrong is not None:
+        parser.error(wrong)
     try:
         return _run(asked)
-    except (OSError, ImportError) as error:  # (a URL asks for fsspec)
-        _tell(f"noddychest: {error}")
+    except _OutputError as error:
+        if error.args[0].errno != errno.EPIPE:  # (nobody reads there any more)
+            _tell_failure("standard output", error.args[0])
         os.dup2(os.open(os.devnull, os.O_WRONLY), 1)  # (nothing more is written at the end)
-        return 3
+    except KeyboardInterrupt:
+        signal.signal(signal.SIGINT, signal.SIG_DFL)
+        os.kill(os.getpid(), signal.SIGINT)
+    return 3
 
 
 if __name__ == "__main__":

@@ -72,10 +72,11 @@ def faults_array(data: Union[ReadableBuffer, Shard], encoding: str = "utf8") -> 
     form = form_of(encoding)
     _noddychest.check(data)
     with memoryview(data) as view:
-        return _arrays(form, view, view.nbytes, 0)
+        return arrays(form, view, view.nbytes, 0)
 
 
-def _arrays(form: int, data: ReadableBuffer, end: int, base: int) -> Faults:
+def arrays(form: int, data: ReadableBuffer, end: int, base: int) -> Faults:
+    """The invalid bytes that begin before `end`, with offsets from `base` on."""
     found = no_faults()
     for made, its in zip(found, _noddychest.fault_arrays(form, data, end, base)):
         made.frombytes(its)
@@ -260,7 +261,7 @@ class Shard(NamedTuple):
         """The same as arrays: 10 bytes for each."""
         form, found = form_of(self.encoding), no_faults()
         for offset, data, cut in self.blocks():
-            found.extend(_arrays(form, data, cut, offset))
+            found.extend(arrays(form, data, cut, offset))
         return found
 
     def first_fault(self) -> Optional[Piece]:
