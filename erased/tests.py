@@ -163,6 +163,7 @@ OVER_BYTES = [
      "f({ assert!(4 <= x.len() && at.read <= x.len() - 4); &x[at.read..at.read + 4] }, &x[a..b + 4], &mut x[a..a + 4])\n"),
     ("while 2 <= x.len() - 4 * place {\n    if 4 <= x.len() - place {}\n", None),
     ("while PLACES + 13 <= x.len() - place {\n", None),
+    ("f(x[x.len() - 2], x[y.len() - 2], x[x.len() - a], x.y[y.len() - 2])\n", "f({ assert!(2 <= x.len()); x[x.len() - 2] }, x[y.len() - 2], x[x.len() - a], x.y[y.len() - 2])\n"),
 ]
 
 # A part of a text as bytes: whether it is empty is seen first.

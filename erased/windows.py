@@ -93,7 +93,7 @@ def called(text, it):
 
 def tested_once(text, name):
     """An erased file, in which more than its clauses shows what needs no test."""
-    return by_size(by_rest(by_front(by_bytes(text, name))))
+    return by_end(by_size(by_rest(by_front(by_bytes(text, name)))))
 
 
 def by_bytes(text, name):
@@ -128,6 +128,11 @@ def by_size(text):
     """An erased file. Of `&bytes[at..at + 4]` one comparison says that it is there, with what does not change in a loop; else two do."""
     part = re.compile(r"&(\w+)\[([a-z_.]+)\.\.\2 \+ (\w+)\]")
     return part.sub(r"{ assert!(\3 <= \1.len() && \2 <= \1.len() - \3); &\1[\2..\2 + \3] }", text)
+
+
+def by_end(text):
+    """An erased file. Of `bytes[bytes.len() - 2]` the length is tested, and not the place: else the place has a register, and a loop from the back more moves."""
+    return re.sub(r"(?<!\.)\b(\w+)\[\1\.len\(\) - (\d)\]", r"{ assert!(\2 <= \1.len()); \1[\1.len() - \2] }", text)
 
 
 def apart(text, name):
