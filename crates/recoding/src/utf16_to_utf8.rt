@@ -10,11 +10,10 @@ ghost use Rattle.utf_lanes.specs.UnitCodes.{lane_unit, AreCharacters};
 use crate::form::Form;
 use std::simd::prelude::*;
 use utf_lanes::byte_order::ByteOrder;
-use utf_lanes::unit_bytes::{are_ascii, are_characters, sixteen_halves};
+use utf_lanes::unit_bytes::{are_ascii, are_characters, sixteen_halves, thirty_two_halves};
 use utf_lanes::utf16_blocks::{
     write_ascii_units, write_characters, write_sixteen, write_thirty_two,
 };
-use utf_lanes::wide_halves::thirty_two_halves;
 
 // How many bytes a block has, and how much room what comes of it takes, with bytes that are none of its own.
 pub(crate) const BLOCK: usize = 32;

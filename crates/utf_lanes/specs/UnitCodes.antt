@@ -2,8 +2,8 @@
 use Rattle.std.specs.Prelude.{◌≡◌, ℕ, ◌<◌, ◌+◌, ◌-◌, ◌*◌, Bool, true, false, ◌/◌, ◌%◌, if◌then◌else◌, List, [], ◌∷◌, ◌++◌, nat_lt, nat_eq, slice_index, ◌≤◌, length, take}
 use Rattle.std.specs.Int.{bit_at}
 use Rattle.utf_lanes.specs.Utf8ToUtf16.{concat_range}
-use Rattle.utf_lanes.specs.declared.compressed.Row.{Row}
-use Rattle.utf_lanes.specs.declared.compressed.Rows.{Rows}
+use Rattle.utf_lanes.specs.declared.slots.Row.{Row}
+use Rattle.utf_lanes.specs.declared.slots.Rows.{Rows}
 use Rattle.utf_base.specs.Units.{is_leading_surrogate, is_trailing_surrogate, is_surrogate}
 
 -- the unit in the lane k, of which two vectors have the halves

@@ -3,9 +3,7 @@ ghost use Rattle.std.specs.Prelude.{◌≡◌, ℕ, ◌+◌, ◌-◌, ◌*◌, �
 ghost use Rattle.utf_lanes.specs.UnitCodes.{lane_unit, AreCharacters, AreText, WritesUnits};
 ghost use Rattle.utf_base.specs.Units.{is_leading_surrogate};
 
-use crate::sixteen_slots::Sixteen;
-use crate::slot_writers::SlotWriter;
-use crate::thirty_two_slots::ThirtyTwo;
+use crate::slots::{Sixteen, SlotWriter, ThirtyTwo};
 use crate::unit_bytes::{
     are_ascii, are_characters, are_short, first_bytes, last_bytes, mask_of_top_bits, middle_bytes,
     text_first_bytes, text_last_bytes, text_middle_bytes,

@@ -1,6 +1,0 @@
-use Rattle.std.proofs.Common.{◌++◌, arith, length-append}
-use Rattle.std.proofs.lemmas.Simd.{pick_l_whole}
-use Rattle.utf_lanes.proofs.wide_rows.joined.Goals as goal
-
-pub returns : goal.returns
-returns c = pick_l_whole 0 (c.args.first ++ c.args.second) 32 (omega (arith, length-append c.args.first c.args.second, c.fits-first.0, c.fits-second.0))
