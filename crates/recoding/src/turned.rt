@@ -12,7 +12,7 @@ use utf_lanes::unit_blocks::units_len;
 // What swaps the bytes of each pair of a block of N bytes.
 trait BlockSwapper<const N: usize> {
     // Appends the block that begins at the place, its pairs swapped.
-    fn put_block<O: Output>(bytes: &[u8], place: usize, out: &mut O)
+    fn put_swapped_block<O: Output>(bytes: &[u8], place: usize, out: &mut O)
         requires within { place + N ≤ length bytes.now }
         requires room { N ≤ O.room out.old }
         ensures { O.appends out.old (swapped (take N (drop place bytes.now))) out.new };
@@ -29,21 +29,21 @@ struct SixtyFour;
 
 impl BlockSwapper<2> for Pair {
     #[inline(always)]
-    fn put_block<O: Output>(bytes: &[u8], place: usize, out: &mut O) {
+    fn put_swapped_block<O: Output>(bytes: &[u8], place: usize, out: &mut O) {
         put_pair(bytes[place + 1], bytes[place], out);
     }
 }
 
 impl BlockSwapper<16> for Sixteen {
     #[inline(always)]
-    fn put_block<O: Output>(bytes: &[u8], place: usize, out: &mut O) {
+    fn put_swapped_block<O: Output>(bytes: &[u8], place: usize, out: &mut O) {
         out.put(&swapped_16(bytes, place));
     }
 }
 
 impl BlockSwapper<64> for SixtyFour {
     #[inline(always)]
-    fn put_block<O: Output>(bytes: &[u8], place: usize, out: &mut O) {
+    fn put_swapped_block<O: Output>(bytes: &[u8], place: usize, out: &mut O) {
         out.put(&swapped_64(bytes, place));
     }
 }
@@ -107,7 +107,7 @@ fn put_blocks<O: Output, const N: usize, B: BlockSwapper<N>>(bytes: &[u8], out: 
 {
     let mut place = 0;
     while N <= bytes.len() - place {
-        B::put_block(bytes, place, out);
+        B::put_swapped_block(bytes, place, out);
         place += N;
     }
     place

@@ -4,7 +4,7 @@
 //!   `ascii_texts` whether bytes are ASCII. `look_ups` has what depends on the number of lanes there.
 //! - Made: `text_puts` and `text_units` make units of text in UTF-8, `utf16_blocks` text in UTF-8 of sixteen or thirty-two units,
 //!   and `byte_pairs` units in the other order of bytes; what stays in its form is only judged.
-//! - `text_front` gives one character at the front of bytes.
+//! - `text_front` gives one character at the front of bytes, and `byte_order` has the orders of the bytes of a unit, as types.
 //!
 //! It is an addition of this project, and no part of the Rust crate. Nothing here takes memory, and nothing knows of a form of
 //! text but by which byte of a unit is the high one.

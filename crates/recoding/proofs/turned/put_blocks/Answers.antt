@@ -17,5 +17,5 @@ loop-place-preserved g c =
     record {
       within = omega arith;
       even = omega arith;
-      appends = appends_swapped g.O.Output.appends g.met.O.Output.appends_more c.args.bytes.now _ _ _ c.loop-place.place g.row.N before.even before.within before.appends c.put_block.ensures;
+      appends = appends_swapped g.O.Output.appends g.met.O.Output.appends_more c.args.bytes.now _ _ _ c.loop-place.place g.row.N before.even before.within before.appends c.put_swapped_block.ensures;
     }

@@ -1,6 +1,6 @@
 use Rattle.std.proofs.Common.{[], arith, refl}
 use Rattle.utf_lanes.proofs.SwappedBytes.{swapped_pair}
-use Rattle.recoding.proofs.turned.PairBlockSwapper2.put_block.Goals as goal
+use Rattle.recoding.proofs.turned.PairBlockSwapper2.put_swapped_block.Goals as goal
 
 pub returns : goal.returns
 returns g c =
