@@ -151,10 +151,6 @@ pair_on us i j m p q k least most = elim (cases_lt (k + 1) j) [ inl lt ↦ p k l
 pub pair_lanes : (us : List ℕ) (i n : ℕ) → ((k : ℕ) → k < n → AllPaired us (i + k) (i + k + 1)) → AllPaired us i (i + n)
 pair_lanes us i n each k least most = each (k + 1 - i) (omega arith) k (omega arith) (omega arith)
 
--- so many more, each by itself
-pub pair_more : (us : List ℕ) (i j n m : ℕ) → j + n ≡ m → AllPaired us i j → ((k : ℕ) → k < n → AllPaired us (j + k) (j + k + 1)) → AllPaired us i m
-pair_more us i j n m at front each = rw at at (pair_on us i j (j + n) front (pair_lanes us j n each))
-
 -- none before the first lane that is not 0
 pub pair_before : (high : Bool) (us v : List ℕ) (i r : ℕ) → r ≤ 16 → ((k : ℕ) → k < r → get_or v k 0 ≡ 0)
     → ZerosPair us i (high_byte high v) → AllPaired us i (i + r / 2)
