@@ -9,7 +9,7 @@ use borrow.Rule.Slice.PartMut.{put_mid}
 use Rattle.std.specs.Prelude.{slice_range}
 use Rattle.cuts.specs.declared.Form.{Form}
 use Rattle.cuts.specs.Recoded.{Recoding, IsRecoded, Finishes, fresh}
-use Rattle.cuts.specs.Rooms.{FeedsInto, FinishesInto, IsAmple, IsAmpleFor, IsFull, IsLastFull, most_bytes}
+use Rattle.cuts.specs.Rooms.{FeedsInto, FinishesInto, IsAmple, IsAmpleFor, IsFull, IsLastFull}
 use Rattle.cuts.specs.Bounds.{HasRoom}
 use Rattle.cuts.specs.Fed.{IsFed}
 use Rattle.c_api.specs.declared.recodings.NodyRecoder.{NodyRecoder}

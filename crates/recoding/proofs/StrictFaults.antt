@@ -79,7 +79,7 @@ fault_after_units high cs rest all known =
 -- The same in any form: where bytes are text and then a fault, that is the first.
 
 told : (from : Form) (bytes : List ℕ) (n : ℕ) → (text_form from).first_fault bytes n → IsFirstFaultOf from bytes n
-told from bytes n h = (λ narrow. rw narrow at h, λ high form. rw (form, is_units high) at h)
+told from bytes n h = (λ e. rw e at h, λ e. rw e at h, λ e. rw e at h)
 
 first_after : (from : Form) (bytes rest : List ℕ) (k : FaultKind) (cs : List ℕ) → All IsScalar cs → bytes ≡ flat_map (written from) cs ++ rest → 0 < length rest → kind_of from rest ≡ Some k
     → (n : ℕ) → n ≡ length (flat_map (written from) cs) → (text_form from).first_fault bytes n

@@ -1,5 +1,5 @@
 -- Where the first fault of a list is.
-use Rattle.std.specs.Prelude.{◌≡◌, ℕ, ◌-◌, ◌≤◌, Bool, List, [], ◌++◌, length, flat_map, All}
+use Rattle.std.specs.Prelude.{◌≡◌, ℕ, ◌-◌, ◌≤◌, true, false, List, [], ◌++◌, length, flat_map, All}
 use Rattle.utf_base.specs.Code.{utf8}
 use Rattle.utf_base.specs.Scalar.{IsScalar}
 use Rattle.recoding.specs.Recoded.{Recoding, written}
@@ -11,9 +11,10 @@ use Rattle.recoding.specs.declared.form.Form.TheVariants.{Utf8}
 use Rattle.recoding.specs.TextForms.{utf16_form}
 pub use Rattle.recoding.specs.TextForms.{IsFirstFault, IsFirstUnitFault}
 
--- The same of bytes in that form. UTF-8 is a case that a caller can tell, and so is UTF-16.
+-- The same of bytes in that form. Each form is a case that a caller can tell.
 abbrev pub IsFirstFaultOf : Form → List ℕ → ℕ → Type 0
-IsFirstFaultOf from bytes n = (from ≡ Utf8 → IsFirstFault utf8 bytes n) × ((high_first : Bool) → from ≡ utf16_form high_first → IsFirstUnitFault high_first bytes n)
+IsFirstFaultOf from bytes n =
+    (from ≡ Utf8 → IsFirstFault utf8 bytes n) × (from ≡ utf16_form false → IsFirstUnitFault false bytes n) × (from ≡ utf16_form true → IsFirstUnitFault true bytes n)
 
 -- The bytes are text, the codes of some scalars, and then those that are held.
 pub record IsTextAndHeld (from : Form) (bytes held : List ℕ) : Type 0 where
