@@ -22,7 +22,6 @@ use Rattle.cuts.specs.declared.Outcome.TheVariants.{AllRead, Full, Faulty}
 use Rattle.cuts.specs.declared.StrictProgress.{StrictProgress}
 use Rattle.cuts.specs.Recoded.{Recoding, most_held}
 use Rattle.cuts.specs.Faults.{Replaces, ReplacesLast, saturated}
-use Rattle.cuts.specs.WellFormed.{IsFirstFault, IsFirstUnitFault}
 use Rattle.c_api.specs.declared.changes.NodyRange.{NodyRange}
 use Rattle.c_api.specs.declared.piece.NodyPiece.{NodyPiece}
 use Rattle.c_api.specs.declared.recodings.NodyRecoder.{NodyRecoder}
@@ -217,12 +216,6 @@ sentence_at =
 
 abbrev pub sentence_of : ℕ → List ℕ
 sentence_of kind = get_or sentence_at kind []
-
--- the first fault of bytes of that form begins at the place n, or there is none, and n is their length
-abbrev pub IsFirstFaultIn : Form → List ℕ → ℕ → Type 0
-IsFirstFaultIn Utf8 bytes n = IsFirstFault utf8 bytes n
-IsFirstFaultIn Utf16Le bytes n = IsFirstUnitFault false bytes n
-IsFirstFaultIn Utf16Be bytes n = IsFirstUnitFault true bytes n
 
 -- the place where the item with that number stands, or the length of all where there are no more
 abbrev pub IsOffsetOf : {E : Type 0} → List (Placed E) → ℕ → ℕ → ℕ → Type 0

@@ -96,7 +96,7 @@ few_last w h e some =
 
 -- UTF-16: bytes, two by two.
 
-told_units : (high : Bool) (from : Form) (w : List ℕ) → HasByteOrder high from → first_told from w ≡ in_bytes w (told_as kind.Utf16 (as_piece (decoded_pairs (units_of high w))))
+pub told_units : (high : Bool) (from : Form) (w : List ℕ) → HasByteOrder high from → first_told from w ≡ in_bytes w (told_as kind.Utf16 (as_piece (decoded_pairs (units_of high w))))
 unfolding first_told
 told_units high Utf8 w form = absurd form
 told_units high Utf16Le w form = rw form refl

@@ -1,9 +1,11 @@
 -- How far a list is well-formed.
-use Rattle.std.specs.Prelude.{◌≡◌, ℕ, ◌+◌, ◌*◌, ◌/◌, ◌<◌, ◌≤◌, Bool, List, [], ◌∷◌, length, is_ok, if◌then◌else◌}
-use Rattle.utf_base.specs.Code.{utf16}
+use Rattle.std.specs.Prelude.{◌≡◌, ℕ, ◌+◌, ◌*◌, ◌/◌, ◌<◌, ◌≤◌, Bool, true, false, List, [], ◌∷◌, length, is_ok, if◌then◌else◌}
+use Rattle.utf_base.specs.Code.{utf8, utf16}
 use Rattle.utf_base.specs.Front.{BeginsWith, NoneBegins}
 use Rattle.utf_lanes.specs.BytePairs.{units_of}
 use Rattle.encode_unicode.specs.Window.{Placed}
+use Rattle.recoding.specs.declared.form.Form.{Form}
+use Rattle.recoding.specs.declared.form.Form.TheVariants.{Utf8, Utf16Le, Utf16Be}
 pub use Rattle.recoding.specs.FirstFaults.{IsFirstFault, IsFirstFaultOf, IsFirstUnitFault}
 
 -- how many elements stand before the first fault of some pieces, which are all where none is a fault
@@ -22,3 +24,9 @@ pub record BeginsUnits (high_first : Bool) (bytes : List ℕ) (n : ℕ) : Type 0
 -- where they are a unit or more, no character begins them
 abbrev pub NoUnitsBegin : Bool → List ℕ → Type 0
 NoUnitsBegin high_first bytes = 2 ≤ length bytes → NoneBegins utf16 (units_of high_first bytes)
+
+-- the first fault of bytes of that form begins at the place n, or there is none, and n is their length
+abbrev pub IsFirstFaultIn : Form → List ℕ → ℕ → Type 0
+IsFirstFaultIn Utf8 bytes n = IsFirstFault utf8 bytes n
+IsFirstFaultIn Utf16Le bytes n = IsFirstUnitFault false bytes n
+IsFirstFaultIn Utf16Be bytes n = IsFirstUnitFault true bytes n

@@ -46,19 +46,19 @@ none_left false false e = refl
 none_left true false e = cc
 none_left false true e = cc
 
-place_below : (h : Bool) → high_place h < 2
+pub place_below : (h : Bool) → high_place h < 2
 place_below true = lit< tt
 place_below false = lit< tt
 
 -- The lanes of two loads, the second one unit before the first.
 module _ (high : Bool) (bytes : List ℕ) (fits : (k : ℕ) → Fits w8 (get_or bytes k 0)) where
-  leads_at : (h : Bool) (j m : ℕ) → m ≡ 2 * j + high_place h → 2 * j + 1 < length bytes → eqb (bit_and (get_or bytes m 0) 0xFC) 0xD8 ≡ is_leading_surrogate (get_or (units_of h bytes) j 0)
+  pub leads_at : (h : Bool) (j m : ℕ) → m ≡ 2 * j + high_place h → 2 * j + 1 < length bytes → eqb (bit_and (get_or bytes m 0) 0xFC) 0xD8 ≡ is_leading_surrogate (get_or (units_of h bytes) j 0)
   leads_at true j m at lt =
       let first : m ≡ 2 * j = omega arith in
       rw (first, unit_at true bytes j lt) (leads (get_or bytes (2 * j) 0) (get_or bytes (2 * j + 1) 0) (fits (2 * j)).fits (fits (2 * j + 1)).fits)
   leads_at false j m at lt = rw (at, unit_at false bytes j lt) (leads (get_or bytes (2 * j + 1) 0) (get_or bytes (2 * j) 0) (fits (2 * j + 1)).fits (fits (2 * j)).fits)
 
-  trails_at : (h : Bool) (j m : ℕ) → m ≡ 2 * j + high_place h → 2 * j + 1 < length bytes → eqb (bit_and (get_or bytes m 0) 0xFC) 0xDC ≡ is_trailing_surrogate (get_or (units_of h bytes) j 0)
+  pub trails_at : (h : Bool) (j m : ℕ) → m ≡ 2 * j + high_place h → 2 * j + 1 < length bytes → eqb (bit_and (get_or bytes m 0) 0xFC) 0xDC ≡ is_trailing_surrogate (get_or (units_of h bytes) j 0)
   trails_at true j m at lt =
       let first : m ≡ 2 * j = omega arith in
       rw (first, unit_at true bytes j lt) (trails (get_or bytes (2 * j) 0) (get_or bytes (2 * j + 1) 0) (fits (2 * j)).fits (fits (2 * j + 1)).fits)
