@@ -13,7 +13,7 @@
  *     one piece    nody_utf8_first, nody_utf8_last, nody_utf8_encode
  *     all pieces   nody_bytes or nody_units, then nody_utf8_next, nody_utf8_next_back, nody_utf8_pieces; nody_utf8_char_count
  *     all faults   nody_bytes or nody_units, then nody_utf8_faults
- *     numbers      nody_utf8_offset_of, nody_utf8_number_of
+ *     numbers      nody_utf8_offset_of, nody_utf8_number_of; of bytes in any form nody_char_count, nody_offset_of, nody_number_of
  *     edit         nody_changed_range
  *     divide       nody_boundary_before, nody_boundary_after, nody_utf16_boundary_before, nody_utf16_boundary_after, nody_undecided_len
  *     which form   nody_form_of_bom
@@ -325,6 +325,22 @@ size_t nody_utf16_offset_of(const uint16_t *units, size_t len, size_t number);
  */
 size_t nody_utf8_number_of(const uint8_t *bytes, size_t len, size_t offset);
 size_t nody_utf16_number_of(const uint16_t *units, size_t len, size_t offset);
+
+/* The same three for bytes in a form: so for UTF-16 in bytes, of either byte order. The pieces are those that a decoder gives
+ * (nody_decoder_feed): in UTF-16 a single byte at the end is one more.
+ *
+ * form: the form. bytes, len: the input. number: counted from 0. offset: in bytes. It may lie inside a character, or a unit, which is
+ * counted then.
+ * Result: the number of all pieces; the offset in bytes of the piece with a number, or len if there are no more; how many pieces begin
+ * before an offset.
+ * Errors: SIZE_MAX if the form is above 2. Cost: as for units, and for UTF-8 as above. nody_offset_of goes over the input twice where
+ * the result is its last byte or len, and its length is odd.
+ *
+ *     size_t count = nody_char_count(NODY_FORM_UTF16LE, (const uint8_t *)"\x3d\xd8\x00\xde!", 5); // 2: an emoji, and a single byte
+ */
+size_t nody_char_count(nody_form_t form, const uint8_t *bytes, size_t len);
+size_t nody_offset_of(nody_form_t form, const uint8_t *bytes, size_t len, size_t number);
+size_t nody_number_of(nody_form_t form, const uint8_t *bytes, size_t len, size_t offset);
 
 /* Makes a cursor over some bytes, or units.
  *

@@ -326,6 +326,8 @@ inline std::size_t char_count(std::u16string_view text) noexcept {
     return nody_utf16_char_count(reinterpret_cast<const std::uint16_t *>(text.data()), text.size());
 }
 
+inline std::size_t char_count(form from, bytes text) noexcept { return nody_char_count(detail::c(from), text.data(), text.size()); }
+
 // The offset of the piece with a number, counted from 0, or nothing where the text has no more pieces.
 //
 //     std::string_view rest = line.substr(nody::offset_of(line, 80).value_or(line.size())); // what follows the first 80
@@ -335,6 +337,9 @@ inline std::optional<std::size_t> offset_of(std::string_view text, std::size_t n
 inline std::optional<std::size_t> offset_of(std::u16string_view text, std::size_t number) noexcept {
     return detail::below(nody_utf16_offset_of(reinterpret_cast<const std::uint16_t *>(text.data()), text.size(), number), text.size());
 }
+inline std::optional<std::size_t> offset_of(form from, bytes text, std::size_t number) noexcept {
+    return detail::below(nody_offset_of(detail::c(from), text.data(), text.size(), number), text.size());
+}
 
 // How many pieces begin before an offset: where a piece begins at it, its number, counted from 0. All of them where the offset is above the size.
 inline std::size_t number_of(std::string_view text, std::size_t offset) noexcept {
@@ -342,6 +347,9 @@ inline std::size_t number_of(std::string_view text, std::size_t offset) noexcept
 }
 inline std::size_t number_of(std::u16string_view text, std::size_t offset) noexcept {
     return nody_utf16_number_of(reinterpret_cast<const std::uint16_t *>(text.data()), text.size(), offset);
+}
+inline std::size_t number_of(form from, bytes text, std::size_t offset) noexcept {
+    return nody_number_of(detail::c(from), text.data(), text.size(), offset);
 }
 
 // ---- Where text may be divided

@@ -113,6 +113,9 @@ CHOSEN(size_t, nody_utf8_number_of, (const uint8_t *bytes, size_t len, size_t of
 CHOSEN(size_t, nody_utf16_char_count, (const uint16_t *units, size_t len), (units, len))
 CHOSEN(size_t, nody_utf16_offset_of, (const uint16_t *units, size_t len, size_t number), (units, len, number))
 CHOSEN(size_t, nody_utf16_number_of, (const uint16_t *units, size_t len, size_t offset), (units, len, offset))
+CHOSEN(size_t, nody_char_count, (nody_form_t form, const uint8_t *bytes, size_t len), (form, bytes, len))
+CHOSEN(size_t, nody_offset_of, (nody_form_t form, const uint8_t *bytes, size_t len, size_t number), (form, bytes, len, number))
+CHOSEN(size_t, nody_number_of, (nody_form_t form, const uint8_t *bytes, size_t len, size_t offset), (form, bytes, len, offset))
 CHOSEN(size_t, nody_utf8_faults, (nody_bytes_t *left, uint64_t *offset, FOUND), (left, offset, out, room))
 CHOSEN(size_t, nody_utf16_faults, (nody_units_t *left, uint64_t *offset, FOUND), (left, offset, out, room))
 CHOSEN(nody_status_t, nody_decoder_feed_faults, (nody_decoder_t *decoder, INPUT, FOUND, size_t *read, size_t *written),

@@ -116,6 +116,8 @@ CHOSEN = {
     "utf_lanes/starts.rt:nth_start": ("bytes.len()", "OTHER(bytes, number)"),
     "utf_lanes/unit_starts.rt:unit_starts_in": ("units.len()", "OTHER(units)"),
     "utf_lanes/unit_starts.rt:nth_unit_start": ("units.len()", "OTHER(units, number)"),
+    "utf_lanes/unit_starts.rt:unit_byte_starts_in": ("bytes.len()", "OTHER::<E>(bytes)"),
+    "utf_lanes/unit_starts.rt:nth_unit_byte_start": ("bytes.len()", "OTHER::<E>(bytes, number)"),
     "utf_lanes/unit_blocks.rt:units_len": ("bytes.len()", "OTHER::<E>(bytes)"),
     "utf_lanes/paired_units.rt:paired_len": ("units.len()", "OTHER(units)"),
     "cuts/runs/piece_counts.rt:piece_count": ("bytes.len()", "OTHER(bytes)"),

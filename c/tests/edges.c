@@ -471,6 +471,18 @@ static int are_faults(const uint8_t *in, size_t len, const nody_piece_t *all, si
     return 1;
 }
 
+/* The offset of each number, and the number at each offset, of bytes in a form. */
+static int are_numbers_in(nody_form_t form, const uint8_t *in, size_t len, const cut_text *pieces) {
+    for (size_t number = 0; number <= pieces->count + 1; number++)
+        if (nody_offset_of(form, in, len, number) != (number < pieces->count ? pieces->piece[number].start : len)) return 0;
+    for (size_t at = 0; at <= len + 1; at++) {
+        size_t number = 0;
+        while (number < pieces->count && pieces->piece[number].start < at) number++;
+        if (nody_number_of(form, in, len, at) != number) return 0;
+    }
+    return nody_char_count(form, in, len) == pieces->count && nody_offset_of(form, in, len, SIZE_MAX) == len && nody_number_of(form, in, len, SIZE_MAX) == pieces->count;
+}
+
 /* The offset of each number, and the number at each offset, of bytes and of units that are as wide as so many bytes. */
 static int are_numbers(nody_form_t form, const uint8_t *in, size_t len, const cut_text *pieces) {
     size_t wide = form == NODY_FORM_UTF8 ? 1 : 2, ends = len / wide;
@@ -565,6 +577,7 @@ static void all_of(const uint8_t *bytes, size_t len) {
             expect(nody_utf16_bytes_valid_up_to(form, in, len) == pieces.valid, "valid up to", shown);
             expect(are_boundaries(form, in, len, &pieces), "boundaries", shown);
             expect(nody_undecided_len(form, in, len) == undecided(form, in, len) && is_mark(in, len), "undecided bytes, and a mark", shown);
+            expect(are_numbers_in(form, in, len, &pieces), "numbers in a form", shown);
             if (form == NODY_FORM_UTF8 || (form == NODY_FORM_UTF16_NATIVE && len % 2 == 0)) expect(are_numbers(form, in, len, &pieces), "numbers", shown);
             expect(are_changes(form, in, len, &pieces), "what a change reaches", shown);
             if (form == NODY_FORM_UTF8) expect(are_pieces(in, len, &pieces) && nody_utf8_valid_up_to(in, len) == pieces.valid, "pieces", shown);
@@ -610,11 +623,13 @@ static int are_counts(nody_form_t form, const uint8_t *in, size_t len) {
     for (size_t at = 0; at < len; count++) {
         cut_piece it = wide == 1 ? first_of_utf8(in + at, len - at) : first_of_utf16(in + at, len - at, form == NODY_FORM_UTF16BE);
         if ((wide == 1 ? nody_utf8_offset_of(in, len, count) : nody_utf16_offset_of(units, ends, count)) != at / wide) return 0;
+        if (nody_offset_of(form, in, len, count) != at || nody_number_of(form, in, len, at) != count || nody_number_of(form, in, len, at + 1) != count + 1) return 0;
         for (size_t i = at + wide; i <= at + it.len; i += wide)
             if ((wide == 1 ? nody_utf8_number_of(in, len, i) : nody_utf16_number_of(units, ends, i / wide)) != count + 1) return 0;
         at += it.len;
     }
     if ((wide == 1 ? nody_utf8_offset_of(in, len, count) : nody_utf16_offset_of(units, ends, count)) != ends) return 0;
+    if (nody_offset_of(form, in, len, count) != len || nody_char_count(form, in, len) != count) return 0;
     return (wide == 1 ? nody_utf8_char_count(in, len) : nody_utf16_char_count(units, ends)) == count;
 }
 

@@ -128,6 +128,9 @@ static void try_single() {
     expect(nody::offset_of("\xE2\x82\xAC!", 1) == 3 && !nody::offset_of("\xE2\x82\xAC!", 2) && !nody::offset_of(""sv, 0), "the offset of a piece");
     expect(nody::offset_of(u"\U0001F600!", 1) == 2 && !nody::offset_of(u"\U0001F600!", 2), "the offset of a piece of units");
     expect(nody::number_of("\xE2\x82\xAC!", 1) == 1 && nody::number_of("\xE2\x82\xAC!", 9) == 2 && nody::number_of(u"\U0001F600!", 2) == 1, "numbers");
+    expect(nody::char_count(nody::form::utf16be, "\xD8\x3D\xDE\x00!"sv) == 2 && nody::char_count(nody::form::utf8, "\xE2\x82\xAC!"sv) == 2, "count in a form");
+    expect(nody::offset_of(nody::form::utf16be, "\xD8\x3D\xDE\x00!"sv, 1) == 4 && !nody::offset_of(nody::form::utf16be, "\xD8\x3D\xDE\x00!"sv, 2), "the offset of a piece in a form");
+    expect(nody::number_of(nody::form::utf16be, "\xD8\x3D\xDE\x00!"sv, 1) == 1 && nody::number_of(nody::form::utf16be, "\xD8\x3D\xDE\x00!"sv, 9) == 2, "numbers in a form");
     nody::byte_range changed = nody::changed_range(nody::form::utf8, "abc\xE2\x82\xAC" "def\xE2\x82\xAC" "ghi", 7, 8);
     expect(changed.start == 3 && changed.end == 12, "what a change reaches");
     expect(nody::changed_range(static_cast<nody::form>(3), "a", 0, 0).end == SIZE_MAX, "what a change reaches in no form");

@@ -55,6 +55,9 @@ static void ask(const char *when, int lanes) {
     expect(nody_utf16_char_count(utf16, CHARS + 1) == CHARS + 1, "nody_utf16_char_count", when);
     expect(nody_utf16_offset_of(utf16, CHARS + 1, CHARS) == CHARS, "nody_utf16_offset_of", when);
     expect(nody_utf16_number_of(utf16, CHARS + 1, CHARS) == CHARS, "nody_utf16_number_of", when);
+    expect(nody_char_count(UTF16BE, utf16be, BYTES + 2) == CHARS + 1, "nody_char_count", when);
+    expect(nody_offset_of(UTF16BE, utf16be, BYTES + 2, CHARS) == BYTES, "nody_offset_of", when);
+    expect(nody_number_of(UTF16BE, utf16be, BYTES + 2, BYTES - 1) == CHARS, "nody_number_of", when);
     expect(nody_utf8_faults(&bytes, &offset, faults, 3) == 2 && faults[0].offset == BYTES, "nody_utf8_faults", when);
     expect(nody_utf16_faults(&units, &unit_offset, faults, 3) == 1 && faults[0].offset == CHARS, "nody_utf16_faults", when);
     expect(nody_decoder_feed_faults(&decoder, utf16be, BYTES + 2, faults, 3, &taken, &written) == NODY_STATUS_DONE && taken == BYTES + 2 &&

@@ -66,6 +66,7 @@ mod bytes;
 mod decoder;
 pub mod encode_unicode;
 mod fault;
+pub mod forms;
 #[cfg(feature = "std")]
 pub mod io;
 #[cfg(feature = "std")]

@@ -22,7 +22,6 @@ use Rattle.cuts.specs.declared.Outcome.TheVariants.{AllRead, Full, Faulty}
 use Rattle.cuts.specs.declared.StrictProgress.{StrictProgress}
 use Rattle.cuts.specs.Recoded.{Recoding, most_held}
 use Rattle.cuts.specs.Faults.{Replaces, ReplacesLast, saturated}
-use Rattle.recoding.specs.TextForms.{text_form}
 use Rattle.c_api.specs.declared.changes.NodyRange.{NodyRange}
 use Rattle.c_api.specs.declared.piece.NodyPiece.{NodyPiece}
 use Rattle.c_api.specs.declared.recodings.NodyRecoder.{NodyRecoder}
@@ -217,10 +216,6 @@ sentence_at =
 
 abbrev pub sentence_of : ℕ → List ℕ
 sentence_of kind = get_or sentence_at kind []
-
--- the first fault of bytes of that form begins at the place n, or there is none, and n is their length
-abbrev pub IsFirstFaultIn : Form → List ℕ → ℕ → Type 0
-IsFirstFaultIn form = (text_form form).first_fault
 
 -- the place where the item with that number stands, or the length of all where there are no more
 abbrev pub IsOffsetOf : {E : Type 0} → List (Placed E) → ℕ → ℕ → ℕ → Type 0

@@ -1,8 +1,11 @@
 //! Pieces by their numbers.
-ghost use Rattle.std.specs.Prelude.{◌≡◌, ◌≤◌, length, slice_get, option_map};
+ghost use Rattle.std.specs.Prelude.{◌≡◌, ◌-◌, ◌<◌, ◌≤◌, ◌^◌, length, slice_get, option_map};
 ghost use Rattle.encode_unicode.specs.Pieces.{pieces, unit_pieces};
+ghost use Rattle.cuts.specs.FormPieces.{form_pieces};
 ghost use Rattle.cuts.specs.Tables.{IsSplitAt};
-ghost use Rattle.c_api.specs.Api.{IsOffsetOf};
+ghost use Rattle.c_api.specs.Api.{IfForm, IsForm, IsOffsetOf};
+
+use crate::recodings::form_of;
 
 /// Where the piece of the bytes with this number begins, counted from 0, or how many bytes there are where there are no more pieces.
 #[unsafe(no_mangle)]
@@ -34,4 +37,29 @@ pub extern "C" fn nody_utf16_number_of(units: &[u16], offset: usize) -> usize
     ensures { IsSplitAt (unit_pieces units.now) offset result }
 {
     cuts::unit_number_of(units, offset)
+}
+
+/// Where the piece of the bytes in that form with this number begins, or how many bytes there are where there are no more pieces; all
+/// ones where the form is none.
+#[unsafe(no_mangle)]
+pub extern "C" fn nody_offset_of(form: u8, bytes: &[u8], number: usize) -> usize
+    ensures offset { IfForm form (λ f. IsOffsetOf (form_pieces f bytes.now) (length bytes.now) number result) }
+    ensures none { ¬ IsForm form → result ≡ 2 ^ 64 - 1 }
+{
+    if 3 <= form {
+        return usize::MAX;
+    }
+    cuts::forms::offset_of(form_of(form), bytes, number).unwrap_or(bytes.len())
+}
+
+/// How many pieces of the bytes in that form begin before this offset, or all ones where the form is none.
+#[unsafe(no_mangle)]
+pub extern "C" fn nody_number_of(form: u8, bytes: &[u8], offset: usize) -> usize
+    ensures number { IfForm form (λ f. IsSplitAt (form_pieces f bytes.now) offset result) }
+    ensures none { ¬ IsForm form → result ≡ 2 ^ 64 - 1 }
+{
+    if 3 <= form {
+        return usize::MAX;
+    }
+    cuts::forms::number_of(form_of(form), bytes, offset)
 }

@@ -1,11 +1,10 @@
 //! How far bytes and units are well-formed.
 ghost use Rattle.std.specs.Prelude.{◌≡◌, ◌-◌, ◌<◌, ◌^◌};
 ghost use Rattle.utf_base.specs.Code.{utf8, utf16};
-ghost use Rattle.cuts.specs.WellFormed.{IsFirstFault};
-ghost use Rattle.c_api.specs.Api.{IfForm, IsFirstFaultIn, IsForm};
+ghost use Rattle.cuts.specs.WellFormed.{IsFirstFault, IsFirstFaultIn};
+ghost use Rattle.c_api.specs.Api.{IfForm, IsForm};
 
 use crate::recodings::form_of;
-use cuts::{BigEndian, Form, LittleEndian};
 
 /// The offset of the first invalid byte, or how many bytes there are where none is invalid.
 #[unsafe(no_mangle)]
@@ -33,9 +32,5 @@ pub extern "C" fn nody_utf16_bytes_valid_up_to(form: u8, bytes: &[u8]) -> usize
     if 3 <= form {
         return usize::MAX;
     }
-    match form_of(form) {
-        Form::Utf8 => cuts::valid_up_to(bytes),
-        Form::Utf16Le => cuts::unit_bytes_valid_up_to::<LittleEndian>(bytes),
-        Form::Utf16Be => cuts::unit_bytes_valid_up_to::<BigEndian>(bytes),
-    }
+    cuts::forms::valid_up_to(form_of(form), bytes)
 }

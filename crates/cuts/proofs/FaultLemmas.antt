@@ -33,7 +33,7 @@ module _ {E : Type 0} (answer : List ℕ → Result (ℕ × ℕ) E) (some : (xs 
       ap (λ ps. (place, x.0, x.1) ∷ ps) (same_by n m (place + x.1) (drop x.1 (b ∷ w)) (omega arith) (omega arith))
 
   -- one piece, and then those of what it leaves
-  pieces_first : (place : ℕ) (w : List ℕ) → 0 < length w
+  pub pieces_first : (place : ℕ) (w : List ℕ) → 0 < length w
       → pieces_by answer (length w) place w ≡ (place, (as_piece (answer w)).0, (as_piece (answer w)).1) ∷ pieces_by answer (length (drop (as_piece (answer w)).1 w)) (place + (as_piece (answer w)).1) (drop (as_piece (answer w)).1 w)
   unfolding pieces_by
   pieces_first place [] h = absurd (omega arith)

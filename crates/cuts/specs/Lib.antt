@@ -30,6 +30,7 @@ pub mod Layouts
 pub mod Listings
 pub mod Located
 pub mod LocatedLaws
+pub mod FormPieces
 pub mod UndecidedEnds
 pub mod ChangedRanges
 pub mod PieceSteps

@@ -4,6 +4,8 @@ use Rattle.utf_base.specs.Code.{utf16}
 use Rattle.utf_base.specs.Front.{BeginsWith, NoneBegins}
 use Rattle.utf_lanes.specs.BytePairs.{units_of}
 use Rattle.encode_unicode.specs.Window.{Placed}
+use Rattle.recoding.specs.declared.form.Form.{Form}
+use Rattle.recoding.specs.TextForms.{text_form}
 pub use Rattle.recoding.specs.FirstFaults.{IsFirstFault, IsFirstFaultOf, IsFirstUnitFault}
 
 -- how many elements stand before the first fault of some pieces, which are all where none is a fault
@@ -22,3 +24,7 @@ pub record BeginsUnits (high_first : Bool) (bytes : List ℕ) (n : ℕ) : Type 0
 -- where they are a unit or more, no character begins them
 abbrev pub NoUnitsBegin : Bool → List ℕ → Type 0
 NoUnitsBegin high_first bytes = 2 ≤ length bytes → NoneBegins utf16 (units_of high_first bytes)
+
+-- the first fault of bytes of that form begins at the place n, or there is none, and n is their length
+abbrev pub IsFirstFaultIn : Form → List ℕ → ℕ → Type 0
+IsFirstFaultIn form = (text_form form).first_fault

@@ -61,6 +61,7 @@ pub use recoding::shards::shard_end;
 pub use runs::collected::{forward_utf16, merge_utf8, merge_utf16};
 pub use runs::counts::{char_count, fault_count, unit_char_count};
 pub use runs::fault_lists::{faults_into, unit_faults_into};
+pub use runs::forms;
 pub use runs::items::{End, Item, UnitItem};
 pub use runs::numbers::{number_of, offset_of, unit_number_of, unit_offset_of};
 pub use runs::unit_bytes::unit_bytes_valid_up_to;

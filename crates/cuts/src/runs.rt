@@ -3,6 +3,7 @@
 pub mod collected;
 pub mod counts;
 pub mod fault_lists;
+pub mod forms;
 pub mod items;
 pub mod numbers;
 pub(crate) mod piece_counts;

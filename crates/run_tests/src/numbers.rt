@@ -1,7 +1,7 @@
 //! Pieces by their numbers, and what an edit changes.
 use cuts::{
-    ChangedRange, Form, changed_range, number_of, offset_of, unit_char_count, unit_number_of,
-    unit_offset_of,
+    ChangedRange, Form, changed_range, forms, number_of, offset_of, unit_char_count,
+    unit_number_of, unit_offset_of,
 };
 
 #[test]
@@ -39,6 +39,25 @@ fn units_have_numbers_over_the_ends_of_blocks(rt: HostRuntime) {
     );
     assert!(rt; unit_offset_of(&units, 128) == None && unit_number_of(&units, 65) == 65);
     assert!(rt; unit_number_of(&units, 127) == 126 && unit_number_of(&units, 128) == 127);
+}
+
+// (the expected values are Python's: how many characters `decode("utf-16-be", "surrogatepass")` gives of the even bytes, and one)
+#[test]
+fn pieces_of_a_form_have_numbers(rt: HostRuntime) {
+    let bytes = b"\0A\xd8\x3d\xde\0\xdc\0\0B!";
+    assert!(rt; forms::char_count(Form::Utf16Be, bytes) == 5);
+    assert!(rt; forms::char_count(Form::Utf16Le, &bytes[1..]) == 4);
+    assert!(rt; forms::char_count(Form::Utf8, b"h\xc3\xa9\xe2\x82A") == 5);
+    assert!(rt; forms::offset_of(Form::Utf16Be, bytes, 2) == Some(6));
+    assert!(rt; forms::offset_of(Form::Utf16Be, bytes, 4) == Some(10));
+    assert!(rt; forms::offset_of(Form::Utf16Be, bytes, 5) == None);
+    assert!(rt; forms::offset_of(Form::Utf16Be, &bytes[..10], 4) == None);
+    assert!(rt; forms::number_of(Form::Utf16Be, bytes, 4) == 2);
+    assert!(rt; forms::number_of(Form::Utf16Be, bytes, 6) == 2);
+    assert!(rt; forms::number_of(Form::Utf16Be, bytes, 10) == 4);
+    assert!(rt; forms::number_of(Form::Utf16Be, bytes, 99) == 5);
+    assert!(rt; forms::valid_up_to(Form::Utf16Be, bytes) == 6);
+    assert!(rt; forms::valid_up_to(Form::Utf16Be, &bytes[..6]) == 6);
 }
 
 #[test]

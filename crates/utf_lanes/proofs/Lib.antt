@@ -15,6 +15,7 @@ pub mod StartLemmas
 pub mod SwappedBytes
 pub mod TextFollows
 pub mod TextUnits
+pub mod UnitBytePairs
 pub mod UnitBytes
 pub mod UnitLanes
 pub mod UnitPairs

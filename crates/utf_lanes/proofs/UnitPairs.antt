@@ -46,7 +46,7 @@ none_left false false e = refl
 none_left true false e = cc
 none_left false true e = cc
 
-place_below : (h : Bool) → high_place h < 2
+pub place_below : (h : Bool) → high_place h < 2
 place_below true = lit< tt
 place_below false = lit< tt
 

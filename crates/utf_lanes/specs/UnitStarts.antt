@@ -1,5 +1,5 @@
 -- Units that begin a piece: all but those that end a pair.
-use Rattle.std.specs.Prelude.{◌≡◌, ℕ, ◌-◌, ◌<◌, Bool, true, not, ◌&&◌, List, count_by, length, slice_index}
+use Rattle.std.specs.Prelude.{◌≡◌, ℕ, ◌-◌, ◌<◌, Bool, true, not, ◌&&◌, nat_eq, bit_and, List, count_by, length, slice_index}
 use Rattle.std.specs.List.{range_with_len}
 use Rattle.utf_base.specs.Units.{is_leading_surrogate, is_trailing_surrogate}
 
@@ -24,3 +24,7 @@ pub record IsUnitStartOf (us : List ℕ) (number place : ℕ) : Type 0 where
   pub within : place < length us
   pub start : is_unit_start us place ≡ true
   pub before : unit_start_count us place ≡ number
+
+-- two units are a pair, told by the high byte of each
+abbrev pub are_pair : ℕ → ℕ → Bool
+are_pair first second = nat_eq (bit_and first 0xFC) 0xD8 && nat_eq (bit_and second 0xFC) 0xDC

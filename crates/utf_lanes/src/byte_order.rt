@@ -1,7 +1,7 @@
 //! The two orders of the bytes of a unit, as types.
 
 /// Which of the two bytes of a unit comes first.
-pub trait ByteOrder {
+pub trait ByteOrder: Copy {
     ghost use Rattle.std.specs.Prelude.{Bool};
 
     ghost HIGH_FIRST: { Bool };
@@ -11,9 +11,11 @@ pub trait ByteOrder {
 }
 
 /// The low byte of a unit comes first.
+#[derive(Clone, Copy, Debug)]
 pub struct LittleEndian;
 
 /// The high byte of a unit comes first.
+#[derive(Clone, Copy, Debug)]
 pub struct BigEndian;
 
 impl ByteOrder for LittleEndian {

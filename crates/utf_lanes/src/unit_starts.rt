@@ -1,7 +1,11 @@
-//! Units that begin a piece, counted in blocks of 32: how many pieces units have, and where one of them begins.
-ghost use Rattle.std.specs.Prelude.{◌≡◌, ◌+◌, ◌<◌, ◌≤◌, MatchOption, length};
-ghost use Rattle.utf_lanes.specs.UnitStarts.{IsUnitStartOf, is_start_after, is_unit_start, unit_start_count};
+//! Units that begin a piece, counted in blocks of 32: how many pieces units have, in a slice or in bytes, and where one of them begins.
+ghost use Rattle.std.specs.Prelude.{◌≡◌, ◌+◌, ◌*◌, ◌<◌, ◌≤◌, MatchOption, length, slice_index};
+ghost use Rattle.utf_lanes.specs.BytePairs.{high_place, units_of};
+ghost use Rattle.utf_lanes.specs.UnitStarts.{IsUnitStartOf, are_pair, is_start_after, is_unit_start, unit_start_count};
 
+use crate::byte_order::ByteOrder;
+use crate::byte_pairs::unit;
+use std::marker::PhantomData;
 use utf_base::elements::is_trailing_surrogate;
 use utf_base::traits::U16UtfExt;
 
@@ -13,12 +17,15 @@ const BLOCK: usize = 32;
 pub fn unit_starts_in(units: &[u16]) -> usize
     ensures { result ≡ unit_start_count units.now (length units.now) }
 {
-    let counted = units_counted_up_to(units, usize::MAX);
-    let mut starts = counted.starts;
-    for place in counted.place..units.len() {
-        starts += is_start(units, place) as usize;
-    }
-    starts
+    starts_of(units)
+}
+
+/// The same of the units that bytes make.
+#[inline]
+pub fn unit_byte_starts_in<E: ByteOrder>(bytes: &[u8]) -> usize
+    ensures { result ≡ unit_start_count (units_of E.HIGH_FIRST bytes.now) (length (units_of E.HIGH_FIRST bytes.now)) }
+{
+    starts_of(in_bytes::<E>(bytes))
 }
 
 /// Where the unit with this number stands, counted from 0, of those that end no pair. `None` if there are no more.
@@ -26,9 +33,129 @@ pub fn unit_starts_in(units: &[u16]) -> usize
 pub fn nth_unit_start(units: &[u16], number: usize) -> Option<usize>
     ensures { MatchOption result (unit_start_count units.now (length units.now) ≤ number) (IsUnitStartOf units.now number) }
 {
+    nth_start_of(units, number)
+}
+
+/// The same of the units that bytes make: the number of a unit, and not of a byte.
+#[inline]
+pub fn nth_unit_byte_start<E: ByteOrder>(bytes: &[u8], number: usize) -> Option<usize>
+    ensures { MatchOption result
+        (unit_start_count (units_of E.HIGH_FIRST bytes.now) (length (units_of E.HIGH_FIRST bytes.now)) ≤ number)
+        (IsUnitStartOf (units_of E.HIGH_FIRST bytes.now) number) }
+{
+    nth_start_of(in_bytes::<E>(bytes), number)
+}
+
+// Units that are counted, in a slice or in bytes.
+trait UnitList: Copy {
+    ghost use Rattle.std.specs.Prelude.{ℕ, List, ◌≡◌, ◌+◌, ◌<◌, ◌≤◌, length, slice_index};
+    ghost use Rattle.utf_lanes.specs.UnitStarts.{unit_start_count};
+
+    // The units.
+    ghost list: { Self → List ℕ };
+
+    fn count(self) -> usize
+        ensures { result ≡ length (list self) };
+
+    // The unit at the place.
+    fn at(self, place: usize) -> u16
+        requires { place < length (list self) }
+        ensures { result ≡ slice_index (list self) place };
+
+    // How many of the 32 units from the place on end no pair.
+    fn block_starts(self, place: usize) -> usize
+        requires start { 1 ≤ place }
+        requires within { place + 32 ≤ length (list self) }
+        ensures starts { unit_start_count (list self) (place + 32) ≡ unit_start_count (list self) place + result }
+        ensures most { result ≤ 32 };
+}
+
+impl UnitList for &[u16] {
+    ghost list = { λ units. units.now };
+
+    #[inline(always)]
+    fn count(self) -> usize {
+        self.len()
+    }
+
+    #[inline(always)]
+    fn at(self, place: usize) -> u16 {
+        self[place]
+    }
+
+    #[inline(always)]
+    fn block_starts(self, place: usize) -> usize {
+        unit_block_starts(self, place)
+    }
+}
+
+// Units in bytes, two of which make each. An odd last byte makes none.
+#[derive(Clone, Copy)]
+struct UnitsInBytes<'a, E> {
+    order: PhantomData<E>,
+    bytes: &'a [u8],
+}
+
+#[inline(always)]
+fn in_bytes<E: ByteOrder>(bytes: &[u8]) -> UnitsInBytes<'_, E>
+    ensures { result.bytes.now ≡ bytes.now }
+{
+    UnitsInBytes {
+        order: PhantomData,
+        bytes,
+    }
+}
+
+impl<E: ByteOrder> UnitList for UnitsInBytes<'_, E> {
+    ghost list = { λ units. units_of E.HIGH_FIRST units.bytes.now };
+
+    #[inline(always)]
+    fn count(self) -> usize {
+        self.bytes.len() / 2
+    }
+
+    #[inline(always)]
+    fn at(self, place: usize) -> u16 {
+        unit_in_bytes::<E>(self.bytes, place)
+    }
+
+    #[inline(always)]
+    fn block_starts(self, place: usize) -> usize {
+        byte_block_starts::<E>(self.bytes, place)
+    }
+}
+
+// The unit with that number of those that bytes make.
+#[inline(always)]
+fn unit_in_bytes<E: ByteOrder>(bytes: &[u8], place: usize) -> u16
+    requires { 2 * place + 1 < length bytes.now }
+    ensures { result ≡ slice_index (units_of E.HIGH_FIRST bytes.now) place }
+{
+    unit::<E>(bytes[2 * place], bytes[2 * place + 1])
+}
+
+// How many of the units end no pair.
+#[inline(always)]
+fn starts_of<U: UnitList>(units: U) -> usize
+    ensures { result ≡ unit_start_count (U.list units) (length (U.list units)) }
+{
+    let counted = units_counted_up_to(units, usize::MAX);
+    let mut starts = counted.starts;
+    for place in counted.place..units.count() {
+        starts += is_start(units, place) as usize;
+    }
+    starts
+}
+
+// Where the one with this number stands.
+#[inline(always)]
+fn nth_start_of<U: UnitList>(units: U, number: usize) -> Option<usize>
+    ensures { MatchOption result (unit_start_count (U.list units) (length (U.list units)) ≤ number)
+        (IsUnitStartOf (U.list units) number) }
+{
     let counted = units_counted_up_to(units, number);
     let mut before = counted.starts;
-    for place in counted.place..units.len() {
+    for place in counted.place..units.count() {
         before += is_start(units, place) as usize;
         if number < before {
             return Some(place);
@@ -46,18 +173,18 @@ struct CountedUnits {
 
 // The first unit, and blocks from there on, as long as no more than so many of their units end no pair.
 #[inline(always)]
-fn units_counted_up_to(units: &[u16], most: usize) -> CountedUnits
-    ensures within { result.place ≤ length units.now }
-    ensures starts { result.starts ≡ unit_start_count units.now result.place }
+fn units_counted_up_to<U: UnitList>(units: U, most: usize) -> CountedUnits
+    ensures within { result.place ≤ length (U.list units) }
+    ensures starts { result.starts ≡ unit_start_count (U.list units) result.place }
     ensures most { result.starts ≤ most }
 {
-    let first = units.len().min(most).min(1);
+    let first = units.count().min(most).min(1);
     let mut counted = CountedUnits {
         place: first,
         starts: first,
     };
-    while 0 < counted.place && BLOCK <= units.len() - counted.place {
-        let more = unit_block_starts(units, counted.place);
+    while 0 < counted.place && BLOCK <= units.count() - counted.place {
+        let more = units.block_starts(counted.place);
         if most - counted.starts < more {
             return counted;
         }
@@ -82,13 +209,48 @@ fn unit_block_starts(units: &[u16], place: usize) -> usize
     starts as usize
 }
 
+// The same of units in bytes. It goes over all of their bytes, of which every other one is the high byte of a unit: so LLVM goes by
+// lanes here too, as it does not where it has to pick these bytes.
+#[inline(always)]
+fn byte_block_starts<E: ByteOrder>(bytes: &[u8], place: usize) -> usize
+    requires start { 1 ≤ place }
+    requires within { 2 * (place + 32) ≤ length bytes.now }
+    ensures starts { unit_start_count (units_of E.HIGH_FIRST bytes.now) (place + 32) ≡
+        unit_start_count (units_of E.HIGH_FIRST bytes.now) place + result }
+    ensures most { result ≤ 32 }
+{
+    let high = high_place::<E>();
+    let mut pairs: u8 = 0;
+    for i in 0..2 * BLOCK {
+        let here = 2 * place + i;
+        pairs += ((i % 2 == high) & are_pair(bytes[here - 2], bytes[here])) as u8;
+    }
+    BLOCK - pairs as usize
+}
+
+// Which byte of a unit is the high one.
+#[inline(always)]
+fn high_place<E: ByteOrder>() -> usize
+    ensures { result ≡ high_place E.HIGH_FIRST }
+{
+    if E::HIGH_FIRST { 0 } else { 1 }
+}
+
+// Whether two units are a pair, told by the high byte of each.
+#[inline(always)]
+fn are_pair(first: u8, second: u8) -> bool
+    ensures { result ≡ are_pair first second }
+{
+    (first & 0xfc == 0xd8) & (second & 0xfc == 0xdc)
+}
+
 // Whether the unit at the place ends no pair.
 #[inline(always)]
-fn is_start(units: &[u16], place: usize) -> bool
-    requires { place < length units.now }
-    ensures { result ≡ is_unit_start units.now place }
+fn is_start<U: UnitList>(units: U, place: usize) -> bool
+    requires { place < length (U.list units) }
+    ensures { result ≡ is_unit_start (U.list units) place }
 {
-    place == 0 || is_start_after(units[place - 1], units[place])
+    place == 0 || is_start_after(units.at(place - 1), units.at(place))
 }
 
 // Whether a unit after another ends no pair with it.

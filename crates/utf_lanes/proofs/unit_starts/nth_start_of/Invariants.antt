@@ -1,0 +1,6 @@
+use Rattle.std.proofs.Common.{◌≡◌, ◌≤◌}
+use Rattle.utf_lanes.specs.UnitStarts.{unit_start_count}
+use Rattle.utf_lanes.proofs.unit_starts.nth_start_of.Given as goal
+
+abbrev pub invariant-loop-place : goal.invariant-loop-place
+invariant-loop-place g l = (l.before ≡ unit_start_count (g.U.UnitList.list l.units) l.place) × (l.before ≤ l.number)

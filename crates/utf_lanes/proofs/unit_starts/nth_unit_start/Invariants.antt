@@ -1,6 +1,0 @@
-use Rattle.std.proofs.Common.{◌≡◌, ◌≤◌}
-use Rattle.utf_lanes.specs.UnitStarts.{unit_start_count}
-use Rattle.utf_lanes.proofs.unit_starts.nth_unit_start.Given as goal
-
-abbrev pub invariant-loop-place : goal.invariant-loop-place
-invariant-loop-place l = (l.before ≡ unit_start_count l.units l.place) × (l.before ≤ l.number)
