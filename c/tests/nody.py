@@ -853,6 +853,45 @@ def check_completion():
         expect(got == (0, f"{want}\n".encode(), b""), f"completion of {words!r}: {got}, not {want}")
 
 
+OFFERED = {"check": "--from --quiet --max --json --follow --jobs --help", "list": "--from --quiet --json --help", "count": "--from --quiet --json --jobs --help",
+           "at": "--from --json --help", "recode": "--from --to --errors --quiet --jobs --output --in-place --help"}
+
+
+def check_completion_of_zsh():
+    """Each command has its options. (zsh itself shows them: here its functions say what they were given)"""
+    if not shutil.which("zsh"):
+        print("nody.py: left out: zsh is not there")
+        return
+    script = '_arguments() { print -rl -- "$@"; }; _describe() { print -rl -- ${(P)4}; }; service=$1; shift; words=("$@"); CURRENT=$#; . $0'
+    path = f"{os.path.dirname(C)}/packaging/completions/_nody"
+    for command, want in OFFERED.items():
+        status, out, err = run(["zsh", "-f", "-c", script, path, "nody", "nody", command, ""])
+        offered = set(re.findall(rb"^(?:\([^)]*\))?(--[a-z-]+)", out, re.M))
+        expect(status == 0 and not err and offered == set(want.encode().split()), f"completion of zsh for {command}: {status}, {out}, {err}")
+    for words, want in (("nody nody", ["check:", "list:", "count:", "at:", "recode:", "(-)--version"]), ("nody-pieces nody-pieces", ["(--ends)--merge", "(--merge)--ends"]), ("nody-recode nody-recode", ["utf16be"])):
+        status, out, err = run(["zsh", "-f", "-c", script, path, *words.split(), ""])
+        expect(status == 0 and not err and all(it.encode() in out for it in want), f"completion of zsh for {words}: {status}, {out}, {err}")
+
+
+def check_completion_of_fish():
+    """What fish offers."""
+    if not shutil.which("fish"):
+        print("nody.py: left out: fish is not there")
+        return
+    folder = f"{os.path.dirname(C)}/packaging/completions"
+    asked = [("nody c", "check count"), ("nody check nody --q", "--quiet"), ("nody recode --errors m", "maximal"), ("nody check --from=utf-16l", "--from=utf-16le"), ("nody at --from b", "bom"),
+             ("nody --v", "--version"), ("nody list --m", ""), ("nody recode --t", "--to"), ("nody-pieces --m", "--merge"), ("nody-recode utf16", "utf16be utf16le")]
+    script = f"for it in {folder}/*.fish; source $it; end; for it in $argv; complete -C $it | string replace -r '\\t.*' '' | sort | string join ' '; echo; end"
+    status, out, err = run(["fish", "--no-config", "-c", script, *[words for words, _ in asked]])
+    got = [it for it in out.decode().split("\n")]
+    lines, at = [], 0
+    for words, want in asked:
+        line = got[at] if at < len(got) else None
+        lines.append((words, line, want))
+        at += 2 if line else 1
+    expect(status == 0 and not err and all(line == want for _, line, want in lines), f"completion of fish: {status}, {lines}, {err}")
+
+
 def compiles(compiler, program, block, build, flags):
     words = [compiler, "-std=c99", *WARNINGS, f"-DBLOCK={block}", f"-I{C}", *flags, *SOURCES, f"{build}/libnoddychest.a", "-pthread", "-o", program]
     ran = subprocess.run(words, capture_output=True, text=True)
@@ -893,6 +932,8 @@ def main():
             check_progress_of_file(folder, built)
             check_far(folder, built)
             check_completion()
+            check_completion_of_zsh()
+            check_completion_of_fish()
     print(f"{passed} passed, {failed} failed")
     return int(failed > 0)
 

@@ -17,6 +17,8 @@ const AT_ONCE = 1 << 18;
 const PART = 4 << 20;
 const IN_TEXT = 1 << 20;
 const ANSWERS = 200;
+// Files that came together and have a button each.
+const MOST_FILES = 20;
 // How far before the end of a part a character is looked for after which it may end.
 const EDGE = 64;
 
@@ -343,6 +345,22 @@ async function showPart(file, place, keepList = true, form = codec.form) {
     }
 }
 
+// Shows one of some files that came together, with a button for each of the others.
+function openOne(files, which) {
+    open(files[which]);
+    $("together").hidden = files.length < 2;
+    if (files.length < 2) return;
+    const offered = files.slice(0, MOST_FILES).map((file, i) => {
+        const button = element("button", "file", { type: "button", "aria-pressed": String(i === which) }, file.name);
+        button.addEventListener("click", () => openOne(files, i));
+        return button;
+    });
+    const more = files.length - offered.length;
+    const told = element("span", "note", {}, `${counted(files.length, "file")} were dropped, and one at a time is shown:`);
+    const all = [told, ...offered, ...(more ? [element("span", "note", {}, `and ${more} more, which you can drop by themselves`)] : [])];
+    $("together").replaceChildren(...all.flatMap((it) => [it, " "]));
+}
+
 function tellUnread(file) {
     $("reading").hidden = true;
     $("file-note").textContent = `${file.name} could not be read.`;
@@ -354,7 +372,7 @@ function dropped(event) {
     const given = event.dataTransfer;
     if (given.files.length) {
         event.preventDefault();
-        open(given.files[0]);
+        openOne([...given.files], 0);
     } else if (!event.target.closest?.("textarea, input")) {
         event.preventDefault();
         const text = given.getData("text/plain");
@@ -525,6 +543,7 @@ function clear() {
     const bytes = codec.bytes.slice();
     const undo = !large && bytes.length && bytes.length <= IN_BOXES ? [...undoable, bytes] : [];
     take(new Uint8Array(0), { undo });
+    $("together").hidden = true;
     $("text").focus();
 }
 
@@ -784,7 +803,10 @@ function listen() {
     });
     on("hex", "input", typeHex);
     on("reader", "change", typeHex);
-    on("file", "change", () => open($("file").files[0]).then(() => ($("file").value = "")));
+    on("file", "change", () => {
+        $("together").hidden = true;
+        return open($("file").files[0]).then(() => ($("file").value = ""));
+    });
     on("clear", "click", clear);
     on("copy", "click", copyLink);
     on("form", "change", changeForm);

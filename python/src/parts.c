@@ -93,9 +93,9 @@ static nody_decoder_t after(nody_decoder_t decoder, const Py_buffer *view) {
     return decoder;
 }
 
-/* Makes the block: room for all pieces of a short part, and for some faults. */
-static int make_block(Part *self, enum Asked asked) {
-    size_t all = HELD + (size_t)self->view.len;
+/* Makes the block: room for all pieces of so many bytes, if these are few, and for some faults. */
+static int make_block(Part *self, enum Asked asked, size_t len) {
+    size_t all = HELD + len;
     self->room = asked == FAULTS ? FEW : all < BLOCK ? all : BLOCK;
     self->block = PyMem_Malloc(self->room * sizeof *self->block);
     if (self->block == NULL)
@@ -117,7 +117,7 @@ static PyObject *part_begin(PyObject *object, PyObject *args) {
         PyErr_SetString(PyExc_ValueError, "a part begins once, and is asked for something");
         return NULL;
     }
-    if (!take_state(&self->decoder, offset, held, len) || !make_block(self, (enum Asked)asked))
+    if (!take_state(&self->decoder, offset, held, len) || !make_block(self, (enum Asked)asked, (size_t)self->view.len))
         return NULL;
     left = after(self->decoder, &self->view);
     if (asked == FAULTS && !open_window(&self->window, &self->view))
@@ -133,7 +133,8 @@ static PyObject *part_begin(PyObject *object, PyObject *args) {
 static size_t next_pieces(Part *self) {
     uint8_t copy[4 * BLOCK];
     size_t left = (size_t)self->view.len - self->read, len = left < sizeof copy ? left : sizeof copy, read, count;
-    memcpy(copy, (const uint8_t *)self->view.buf + self->read, len);
+    if (len > 0)
+        memcpy(copy, (const uint8_t *)self->view.buf + self->read, len);
     count = fed(&self->decoder, copy, len, self->block, self->room, &read);
     self->read += read;
     if (count == 0 && self->asked == LAST)
@@ -197,80 +198,100 @@ static PyType_Slot part_slots[] = {{Py_tp_new, part_new},         {Py_tp_dealloc
                                    {Py_tp_methods, part_methods}, {Py_tp_traverse, reader_traverse}, {0, NULL}};
 PyType_Spec part_spec = {"noddychest._noddychest.Part", sizeof(Part), 0, Py_TPFLAGS_DEFAULT | Py_TPFLAGS_HAVE_GC, part_slots};
 
-/* The pieces of all parts. It asks for the next part when those of the one before are given, and that may run any code: one call goes at a
- * time. */
+/* The pieces of all parts, one after another. It asks for the next part when those of the one before are given, and that may run any code:
+ * one call goes at a time. */
 typedef struct {
-    PyObject_HEAD
-    PyObject *parts; /* an iterator over iterables of pieces; NULL at the end, and after an error */
-    PyObject *part;  /* an iterator over the pieces of one; NULL before it */
-    char busy;
+    Part part; /* the one at hand: its decoder goes on from part to part */
+    enum Asked each; /* what each part is asked for */
+    PyObject *parts; /* an iterator over bytes-like objects; NULL at the end, and after an error */
 } Stream;
 
 static void stream_dealloc(PyObject *object) {
-    Stream *self = (Stream *)object;
     PyObject_GC_UnTrack(object);
-    Py_XDECREF(self->parts);
-    Py_XDECREF(self->part);
-    plain_dealloc(object);
+    Py_XDECREF(((Stream *)object)->parts);
+    part_dealloc(object);
 }
 
 static int stream_traverse(PyObject *object, visitproc visit, void *arg) {
-    Stream *self = (Stream *)object;
-    Py_VISIT(Py_TYPE(object));
-    Py_VISIT(self->parts);
-    Py_VISIT(self->part);
-    return 0;
+    Py_VISIT(((Stream *)object)->parts);
+    return reader_traverse(object, visit, arg);
 }
 
-/* Stream(parts) */
+/* Stream(form, parts, asked, type, errors) */
 static PyObject *stream_new(PyTypeObject *type, PyObject *args, PyObject *names) {
-    PyObject *parts;
+    PyObject *parts, *pieces, *errors;
+    nody_form_t form;
+    int asked;
     Stream *self;
     (void)names;
-    if (!PyArg_ParseTuple(args, "O:Stream", &parts))
+    if (!PyArg_ParseTuple(args, "O&OiOO:Stream", take_form, &form, &parts, &asked, &pieces, &errors))
         return NULL;
     self = (Stream *)PyType_GenericAlloc(type, 0);
     if (self == NULL)
         return NULL;
+    self->part.decoder = nody_decoder(form);
+    self->each = asked == FAULTS ? FAULTS : PIECES;
     self->parts = PyObject_GetIter(parts);
-    if (self->parts == NULL) {
+    if (self->parts == NULL || !maker_begin(&self->part.maker, pieces, errors) || !make_block(&self->part, self->each, BLOCK)) {
         Py_DECREF(self);
         return NULL;
     }
     return (PyObject *)self;
 }
 
-/* Goes to the next part. Answers 0 where there is none, or with an error. */
-static int next_part(Stream *self) {
-    PyObject *part = self->parts == NULL ? NULL : PyIter_Next(self->parts);
-    if (part == NULL) {
-        Py_CLEAR(self->parts);
+/* Takes a part, of which nothing is read yet. Answers 0 with an error. */
+static int take_part(Stream *self, PyObject *data) {
+    Part *part = &self->part;
+    if (!take_bytes(data, &part->view))
         return 0;
+    part->read = part->seen = 0;
+    part->asked = self->each;
+    if (self->each != FAULTS)
+        return 1;
+    close_window(&part->window);
+    memset(&part->window, 0, sizeof part->window);
+    if (!open_window(&part->window, &part->view))
+        return 0;
+    part->window.most = SKIPPED;
+    return 1;
+}
+
+/* Goes to the next part, or after the last one to what is held then. Answers 0 where nothing is left, or with an error. */
+static int next_part(Stream *self) {
+    Part *part = &self->part;
+    PyObject *data;
+    part->asked = NOTHING;
+    PyBuffer_Release(&part->view); /* (so that a buffer may be filled anew) */
+    part->view.len = 0, part->read = 0;
+    data = self->parts == NULL ? NULL : PyIter_Next(self->parts);
+    if (data != NULL && take_part(self, data)) {
+        Py_DECREF(data);
+        return 1;
     }
-    self->part = PyObject_GetIter(part);
-    Py_DECREF(part);
-    return self->part != NULL;
+    Py_XDECREF(data);
+    part->asked = self->parts != NULL && !PyErr_Occurred() ? LAST : NOTHING;
+    Py_CLEAR(self->parts);
+    return part->asked == LAST;
 }
 
 static PyObject *next_of_all(Stream *self) {
-    while (self->part != NULL || next_part(self)) {
-        PyObject *made = PyIter_Next(self->part);
+    do {
+        PyObject *made = next_made(&self->part);
         if (made != NULL || PyErr_Occurred())
             return made;
-        Py_CLEAR(self->part);
-    }
+    } while (next_part(self));
     return NULL;
 }
 
 static PyObject *stream_next(PyObject *object) {
     Stream *self = (Stream *)object;
     PyObject *made;
-    if (__atomic_exchange_n(&self->busy, 1, __ATOMIC_ACQUIRE)) {
+    if (__atomic_exchange_n(&self->part.busy, 1, __ATOMIC_ACQUIRE)) {
         PyErr_SetString(PyExc_RuntimeError, "this iterator is in use by another call: give each thread its own");
         return NULL;
     }
     made = next_of_all(self);
-    __atomic_store_n(&self->busy, 0, __ATOMIC_RELEASE);
+    __atomic_store_n(&self->part.busy, 0, __ATOMIC_RELEASE);
     return made;
 }
 

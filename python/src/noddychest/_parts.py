@@ -2,7 +2,6 @@
 from __future__ import annotations
 
 import functools
-import itertools
 import operator
 import threading
 from collections.abc import Callable, Iterable, Iterator
@@ -25,7 +24,7 @@ class Decoder:
     how the input is divided into parts.
 
     encoding: the encoding of the input. offset: that of its first byte, for input that begins inside a file.
-    Errors: LookupError for an unknown encoding, ValueError for an offset below 0 or above 2**64 - 1.
+    Errors: LookupError for an unknown encoding, ValueError for an offset below 0 or above 2**64 - 1. (After that one offsets go on from 0.)
 
     The pieces are those of `pieces(data)` for the whole input, and so are the reasons, but for one case. A Decoder names a byte that
     breaks a character as soon as it sees that: so of F0 41 at the end of the input the first byte is an INTERRUPTED_SEQUENCE, and not
@@ -136,11 +135,11 @@ class _Readable(Protocol):
 Parts = Union["Iterable[ReadableBuffer]", _Readable]
 
 
-def _stream(decoder: Decoder, fed: Callable[[ReadableBuffer], Iterator[Piece]], parts: Parts) -> Iterator[Piece]:
+def _stream(asked: int, parts: Parts, encoding: str) -> Iterator[Piece]:
+    form = form_of(encoding)
     read = getattr(parts, "read1", None) or getattr(parts, "read", None)
     each = iter(functools.partial(read, _BLOCK), b"") if read is not None else iter(parts)  # type: ignore[arg-type]
-    last = (decoder.finish() for _ in range(1))  # (once all parts were fed)
-    return _noddychest.Stream(itertools.chain(map(fed, each), last))
+    return _noddychest.Stream(form, each, asked, Piece, ERRORS)
 
 
 def stream_pieces(parts: Parts, encoding: str = "utf8") -> Iterator[Piece]:
@@ -154,8 +153,7 @@ def stream_pieces(parts: Parts, encoding: str = "utf8") -> Iterator[Piece]:
     >>> [(piece.offset, piece.char) for piece in stream_pieces([b"n\\xc3", b"\\xa9!"])]
     [(0, 'n'), (1, 'é'), (3, '!')]
     """
-    decoder = Decoder(encoding)
-    return _stream(decoder, decoder.feed, parts)
+    return _stream(_PIECES, parts, encoding)
 
 
 def stream_faults(parts: Parts, encoding: str = "utf8") -> Iterator[Piece]:
@@ -165,5 +163,4 @@ def stream_faults(parts: Parts, encoding: str = "utf8") -> Iterator[Piece]:
     >>> [(piece.offset, piece.error.name) for piece in stream_faults(io.BytesIO(b"ab\\xff"))]
     [(2, 'NON_UTF8_BYTE')]
     """
-    decoder = Decoder(encoding)
-    return _stream(decoder, decoder.feed_faults, parts)
+    return _stream(_FAULTS, parts, encoding)
