@@ -1,12 +1,12 @@
 -- Pairs of units in bytes, counted byte by byte: those that are high bytes tell them.
-use Rattle.std.proofs.Common.{◌≡◌, ℕ, ◌+◌, ◌-◌, ◌*◌, ◌/◌, ◌%◌, ◌<◌, ◌≤◌, Bool, true, false, not, eqb, eqb-true, cond, List, [], ◌∷◌, length, get_or, arith, refl, ap, ap₂, sym, ◌∙◌, w8, Fits}
+use Rattle.std.proofs.Common.{◌≡◌, ℕ, ◌+◌, ◌-◌, ◌*◌, ◌/◌, ◌%◌, ◌<◌, ◌≤◌, Bool, true, false, bit_and, not, eqb, eqb-true, cond, List, [], ◌∷◌, length, get_or, arith, refl, ap, ap₂, sym, ◌∙◌, w8, Fits}
 use Rattle.std.proofs.lemmas.Bool.{eqb-false}
 use Rattle.std.specs.Prelude.{◌&&◌}
 use mir.Val.{bool_byte}
 use Rattle.utf_base.specs.Units.{is_leading_surrogate, is_trailing_surrogate}
 use Rattle.utf_lanes.specs.BytePairs.{high_place, units_of}
 use Rattle.utf_lanes.specs.UnitStarts.{are_pair, is_unit_start, unit_start_count}
-use Rattle.utf_lanes.proofs.UnitPairs.{leads_at, place_below, trails_at}
+use Rattle.utf_lanes.proofs.UnitPairs.{leads, place_below, trails, unit_at}
 use Rattle.utf_lanes.proofs.UnitStartLemmas.{places_more}
 
 -- bytes make half as many units
@@ -14,6 +14,20 @@ pub count_in_bytes : (high : Bool) (bytes : List ℕ) → length bytes / 2 ≡ l
 count_in_bytes high [] = refl
 count_in_bytes high (a ∷ []) = refl
 count_in_bytes high (a ∷ b ∷ bytes) = let rest = count_in_bytes high bytes in omega arith
+
+-- A unit is a surrogate by its high byte alone.
+module _ (bytes : List ℕ) (fits : (k : ℕ) → Fits w8 (get_or bytes k 0)) where
+  leads_at : (h : Bool) (j m : ℕ) → m ≡ 2 * j + high_place h → 2 * j + 1 < length bytes → eqb (bit_and (get_or bytes m 0) 0xFC) 0xD8 ≡ is_leading_surrogate (get_or (units_of h bytes) j 0)
+  leads_at true j m at lt =
+      let first : m ≡ 2 * j = omega arith in
+      rw (first, unit_at true bytes j lt) (leads (get_or bytes (2 * j) 0) (get_or bytes (2 * j + 1) 0) (fits (2 * j)).fits (fits (2 * j + 1)).fits)
+  leads_at false j m at lt = rw (at, unit_at false bytes j lt) (leads (get_or bytes (2 * j + 1) 0) (get_or bytes (2 * j) 0) (fits (2 * j + 1)).fits (fits (2 * j)).fits)
+
+  trails_at : (h : Bool) (j m : ℕ) → m ≡ 2 * j + high_place h → 2 * j + 1 < length bytes → eqb (bit_and (get_or bytes m 0) 0xFC) 0xDC ≡ is_trailing_surrogate (get_or (units_of h bytes) j 0)
+  trails_at true j m at lt =
+      let first : m ≡ 2 * j = omega arith in
+      rw (first, unit_at true bytes j lt) (trails (get_or bytes (2 * j) 0) (get_or bytes (2 * j + 1) 0) (fits (2 * j)).fits (fits (2 * j + 1)).fits)
+  trails_at false j m at lt = rw (at, unit_at false bytes j lt) (trails (get_or bytes (2 * j + 1) 0) (get_or bytes (2 * j) 0) (fits (2 * j + 1)).fits (fits (2 * j)).fits)
 
 -- how many units of a block have their high byte among its first i bytes
 abbrev pub passed : Bool → ℕ → ℕ
@@ -53,7 +67,7 @@ module _ (high : Bool) (bytes : List ℕ) (fits : (k : ℕ) → Fits w8 (get_or 
       let is = eqb-true (i % 2) (high_place high) e in
       let at : 2 * place + i ≡ 2 * k + high_place high = omega arith in
       let before : 2 * place + i - 2 ≡ 2 * (k - 1) + high_place high = omega arith in
-      ap₂ (λ a b. a && b) (leads_at high bytes fits high (k - 1) (2 * place + i - 2) before (omega arith)) (trails_at high bytes fits high k (2 * place + i) at (omega arith))
+      ap₂ (λ a b. a && b) (leads_at bytes fits high (k - 1) (2 * place + i - 2) before (omega arith)) (trails_at bytes fits high k (2 * place + i) at (omega arith))
 
   high_on : eqb (i % 2) (high_place high) ≡ true → (told : Bool) → told ≡ pair → HavePairs high bytes place (i + 1) (pairs + bool_byte told)
   high_on e told is =

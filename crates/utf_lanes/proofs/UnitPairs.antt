@@ -27,10 +27,10 @@ unit_at high (a ∷ b ∷ bytes) (suc k) lt =
 upper : (h : ℕ) → h < 256 → bit_and h 0xFC ≡ h / 4 * 4
 upper h lt = eqb-true _ _ (at_each (λ n. eqb (bit_and n 0xFC) (n / 4 * 4)) 256 refl h lt)
 
-leads : (h l : ℕ) → h < 256 → l < 256 → eqb (bit_and h 0xFC) 0xD8 ≡ is_leading_surrogate (h * 256 + l)
+pub leads : (h l : ℕ) → h < 256 → l < 256 → eqb (bit_and h 0xFC) 0xD8 ≡ is_leading_surrogate (h * 256 + l)
 leads h l H L = rw (upper h H) (grind (arith, common_steps))
 
-trails : (h l : ℕ) → h < 256 → l < 256 → eqb (bit_and h 0xFC) 0xDC ≡ is_trailing_surrogate (h * 256 + l)
+pub trails : (h l : ℕ) → h < 256 → l < 256 → eqb (bit_and h 0xFC) 0xDC ≡ is_trailing_surrogate (h * 256 + l)
 trails h l H L = rw (upper h H) (grind (arith, common_steps))
 
 -- two tests that agree

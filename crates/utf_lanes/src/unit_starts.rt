@@ -25,7 +25,10 @@ pub fn unit_starts_in(units: &[u16]) -> usize
 pub fn unit_byte_starts_in<E: ByteOrder>(bytes: &[u8]) -> usize
     ensures { result ≡ unit_start_count (units_of E.HIGH_FIRST bytes.now) (length (units_of E.HIGH_FIRST bytes.now)) }
 {
-    starts_of(in_bytes::<E>(bytes))
+    starts_of(UnitsInBytes::<E> {
+        order: PhantomData,
+        bytes,
+    })
 }
 
 /// Where the unit with this number stands, counted from 0, of those that end no pair. `None` if there are no more.
@@ -43,7 +46,11 @@ pub fn nth_unit_byte_start<E: ByteOrder>(bytes: &[u8], number: usize) -> Option<
         (unit_start_count (units_of E.HIGH_FIRST bytes.now) (length (units_of E.HIGH_FIRST bytes.now)) ≤ number)
         (IsUnitStartOf (units_of E.HIGH_FIRST bytes.now) number) }
 {
-    nth_start_of(in_bytes::<E>(bytes), number)
+    let units = UnitsInBytes::<E> {
+        order: PhantomData,
+        bytes,
+    };
+    nth_start_of(units, number)
 }
 
 // Units that are counted, in a slice or in bytes.
@@ -94,16 +101,6 @@ impl UnitList for &[u16] {
 struct UnitsInBytes<'a, E> {
     order: PhantomData<E>,
     bytes: &'a [u8],
-}
-
-#[inline(always)]
-fn in_bytes<E: ByteOrder>(bytes: &[u8]) -> UnitsInBytes<'_, E>
-    ensures { result.bytes.now ≡ bytes.now }
-{
-    UnitsInBytes {
-        order: PhantomData,
-        bytes,
-    }
 }
 
 impl<E: ByteOrder> UnitList for UnitsInBytes<'_, E> {
