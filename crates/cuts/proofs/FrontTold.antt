@@ -1,9 +1,7 @@
 -- The piece that begins some bytes, from what a decoding of them answers.
-use Rattle.std.proofs.Common.{◌≡◌, ◌≢◌, ℕ, ◌*◌, ◌-◌, ◌<◌, ◌≤◌, Bool, eqb, true, false, List, [], ◌∷◌, ◌++◌, get_or, length, drop, min, Option, Some, None, Result, Ok, Err, arith, refl, ap, sym, ◌∙◌, append_assoc, length-append}
+use Rattle.std.proofs.Common.{◌≡◌, ◌≢◌, ℕ, ◌*◌, ◌<◌, ◌≤◌, Bool, eqb, true, false, List, [], ◌∷◌, ◌++◌, length, drop, min, Option, Some, None, Result, Ok, Err, arith, refl, ap, sym, ◌∙◌, append_assoc, length-append}
 use Rattle.std.proofs.lemmas.Grind.{common_steps}
 use Rattle.std.proofs.lemmas.List.{append-nil}
-use Rattle.std.proofs.Math.Seq.{take-append_seam}
-use Rattle.std.specs.Prelude.{slice_range}
 use Rattle.std.specs.Option.{option_map}
 use Rattle.utf_base.specs.Code.{utf8, utf16}
 use Rattle.utf_base.specs.Decoded.{decoded_pairs}
@@ -15,7 +13,6 @@ use Rattle.utf_base.specs.declared.errors.Utf8ErrorKind.{Utf8ErrorKind}
 use Rattle.utf_base.specs.declared.errors.Utf8ErrorKind.TheVariants.{TooFewBytes, InterruptedSequence}
 use Rattle.utf_base.specs.declared.errors.units.Utf16PairError.{Utf16PairError}
 use Rattle.utf_base.specs.declared.errors.units.Utf16PairError.TheVariants.{Incomplete}
-use Rattle.utf_base.proofs.Standing.{stands_in_part}
 use Rattle.utf_base.proofs.Utf8Code.{length_utf8, utf8_is_code}
 use Rattle.utf_lanes.specs.BytePairs.{units_of}
 use Rattle.encode_unicode.proofs.ForCallers.{decoded_pairs_code, decoded_pairs_kind, some_units, stands_first}
@@ -63,21 +60,6 @@ char_begins w s n (h, e) =
       within = omega arith;
       first = λ later. char_told (w ++ later) s (length (utf8 s)) (code_later w later s h) ∙ ap (λ m. (Ok s, m)) (sym e);
     }
-
--- what begins a list, and ends in its front, begins that
-front_begins : (w more : List ℕ) (s n : ℕ) → BeginsWith utf8 (w ++ more) s n → n ≤ length w → BeginsWith utf8 w s n
-front_begins w more s n (h, e) fits =
-    let span : length w - 0 ≡ length w = omega arith in
-    let front : slice_range (w ++ more) 0 (length w) ≡ w = rw span (take-append_seam w more) in
-    (rw front at (stands_in_part utf8 (w ++ more) 0 (length w) 0 0 s (omega arith) (omega (arith, length-append w more)) h (omega arith)), e)
-
--- what begins at most three bytes and zeros after them, and has no more bytes than those, begins them
-pub few_begin : (w : List ℕ) (s n : ℕ) → length w < 4 → BeginsWith utf8 (get_or w 0 0 ∷ get_or w 1 0 ∷ get_or w 2 0 ∷ 0 ∷ []) s n → n ≤ length w → BeginsWith utf8 w s n
-few_begin [] s n few h fits = front_begins [] (0 ∷ 0 ∷ 0 ∷ 0 ∷ []) s n h fits
-few_begin (a ∷ []) s n few h fits = front_begins (a ∷ []) (0 ∷ 0 ∷ 0 ∷ []) s n h fits
-few_begin (a ∷ b ∷ []) s n few h fits = front_begins (a ∷ b ∷ []) (0 ∷ 0 ∷ []) s n h fits
-few_begin (a ∷ b ∷ c ∷ []) s n few h fits = front_begins (a ∷ b ∷ c ∷ []) (0 ∷ []) s n h fits
-few_begin (a ∷ b ∷ c ∷ d ∷ w) s n few h fits = absurd (omega arith)
 
 pub kind_begins : (w : List ℕ) (k : Utf8ErrorKind) → fault_kind w ≡ Some k → k ≢ TooFewBytes → Begins Utf8 w (Err (kind.Utf8 k), 1)
 kind_begins w k h other = record {

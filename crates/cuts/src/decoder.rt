@@ -4,7 +4,7 @@ ghost use Rattle.std.specs.Prelude.{◌≡◌, ◌<◌, ◌≤◌, ◌+◌, ◌-
 ghost use Rattle.recoding.specs.Recoded.{most_held};
 ghost use Rattle.cuts.specs.Located.{BeginsKept, Decoding, FeedsFaults, FeedsKept, FeedsPieces, FeedsRest, FinishesFaults, FinishesKept, FinishesPieces, HasNoPlace, HasNoPlaceFor, HasNoPlaceForFault, IsOpen, IsWithin, wrapped};
 
-use crate::first_pieces::{byte_or_zero, front_of, last_front};
+use crate::first_pieces::{front_of, last_front};
 use crate::located::{FromPiece, Spot};
 use crate::piece_runs::{AllPieces, FaultsAlone, Kept, put_run, write_piece};
 use recoding::form::Form;
@@ -398,4 +398,12 @@ fn three_of(bytes: &[u8]) -> [u8; 3]
         byte_or_zero(bytes, 1),
         byte_or_zero(bytes, 2),
     ]
+}
+
+// The byte at a place, or zero where there is none.
+#[inline(always)]
+fn byte_or_zero(bytes: &[u8], place: usize) -> u8
+    ensures { result ≡ get_or bytes.now place 0 }
+{
+    if place < bytes.len() { bytes[place] } else { 0 }
 }

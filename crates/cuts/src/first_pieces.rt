@@ -1,5 +1,5 @@
 //! The piece that begins some bytes, as a merger names it, where what follows them does not matter.
-ghost use Rattle.std.specs.Prelude.{◌≡◌, ◌<◌, ◌≤◌, get_or, length, min, IfSome, IfNone, Some};
+ghost use Rattle.std.specs.Prelude.{◌≡◌, ◌<◌, ◌≤◌, length, min, IfSome, IfNone, Some};
 ghost use Rattle.utf_base.specs.Kinds.{breaks_at, fault_kind, is_broken};
 ghost use Rattle.utf_base.specs.declared.errors.Utf8ErrorKind.TheVariants.{TooFewBytes};
 ghost use Rattle.recoding.specs.declared.form.Form.TheVariants.{Utf8};
@@ -98,40 +98,7 @@ fn other_front(bytes: &[u8]) -> Option<Front>
     if 0 < bytes.len() && bytes[0] < 0x80 {
         return Some(Front::Char(char::from(bytes[0]), 1));
     }
-    if bytes.len() < 4 {
-        return front_of_last(bytes);
-    }
     front_with_care(bytes)
-}
-
-// The same of fewer than four bytes. They are judged with zeros after them: a character that ends before the zeros is one of the bytes.
-// It stands apart, so that the loops which ask keep all that they use in registers.
-#[inline(never)]
-fn front_of_last(bytes: &[u8]) -> Option<Front>
-    requires { length bytes.now < 4 }
-    ensures begins { IfSome result (λ x. Begins Utf8 bytes.now (told_of x)) }
-    ensures waits { IfNone result (0 < length bytes.now → IsOpen Utf8 bytes.now) }
-    ensures last { IfNone result (0 < length bytes.now → first_told Utf8 bytes.now ≡ lacking_told Utf8 (length bytes.now)) }
-    ensures few { IfNone result (length bytes.now ≤ 3) }
-{
-    let padded = [
-        byte_or_zero(bytes, 0),
-        byte_or_zero(bytes, 1),
-        byte_or_zero(bytes, 2),
-        0,
-    ];
-    match front_of_text(&padded) {
-        Some((c, len)) if len <= bytes.len() => Some(Front::Char(c, len)),
-        _ => front_with_care(bytes),
-    }
-}
-
-// The byte at a place, or zero where there is none.
-#[inline(always)]
-pub(crate) fn byte_or_zero(bytes: &[u8], place: usize) -> u8
-    ensures { result ≡ get_or bytes.now place 0 }
-{
-    if place < bytes.len() { bytes[place] } else { 0 }
 }
 
 // The same of bytes that may be anything.
