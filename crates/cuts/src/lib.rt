@@ -2,7 +2,8 @@
 //!
 //! - Runs: `walk_utf8` and `walk_utf16` ask from both ends, `forward_utf16` from the front; `merge_utf8` and
 //!   `merge_utf16` collect what a merger answers; `valid_up_to` and `units_valid_up_to` find the first fault, and
-//!   `unit_bytes_valid_up_to` that of units in bytes; `faults_into` and `unit_faults_into` give the faults, with their offsets.
+//!   `unit_bytes_valid_up_to` that of units in bytes; `faults_into` and `unit_faults_into` give the faults, with their offsets;
+//!   `forms` has the calls that take bytes in any form.
 //! - Boundaries: `boundaries` finds the character boundaries next to any byte, and `changed_range` where pieces may change in an edit.
 //! - Parts: `split_ascii` gives the parts between ASCII separators, `lines` the lines, each with its offset; `fault_count` and
 //!   `char_count` count.

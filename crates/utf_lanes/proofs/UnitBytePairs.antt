@@ -1,13 +1,13 @@
 -- Pairs of units in bytes, counted byte by byte: those that are high bytes tell them.
-use Rattle.std.proofs.Common.{◌≡◌, ℕ, ◌+◌, ◌-◌, ◌*◌, ◌/◌, ◌%◌, ◌<◌, ◌≤◌, Bool, true, false, bit_and, not, eqb, eqb-true, cond, List, [], ◌∷◌, length, get_or, arith, refl, ap, ap₂, sym, ◌∙◌, w8, Fits}
+use Rattle.std.proofs.Common.{◌≡◌, ℕ, zero, suc, ◌+◌, ◌-◌, ◌*◌, ◌/◌, ◌%◌, ◌<◌, ◌≤◌, Bool, true, false, bit_and, not, eqb, eqb-true, cond, List, [], ◌∷◌, length, get_or, arith, refl, ap, ap₂, sym, ◌∙◌, w8, Fits}
 use Rattle.std.proofs.lemmas.Bool.{eqb-false}
 use Rattle.std.specs.Prelude.{◌&&◌}
 use mir.Val.{bool_byte}
 use Rattle.utf_base.specs.Units.{is_leading_surrogate, is_trailing_surrogate}
 use Rattle.utf_lanes.specs.BytePairs.{high_place, units_of}
-use Rattle.utf_lanes.specs.UnitStarts.{are_pair, is_unit_start, unit_start_count}
+use Rattle.utf_lanes.specs.UnitStarts.{are_pair, ends_pair, is_unit_start, place_count, unit_start_count}
 use Rattle.utf_lanes.proofs.UnitPairs.{leads, place_below, trails, unit_at}
-use Rattle.utf_lanes.proofs.UnitStartLemmas.{places_more}
+use Rattle.utf_lanes.proofs.UnitStartLemmas.{places_more, places_told}
 
 -- bytes make half as many units
 pub count_in_bytes : (high : Bool) (bytes : List ℕ) → length bytes / 2 ≡ length (units_of high bytes)
@@ -95,3 +95,27 @@ module _ (high : Bool) (bytes : List ℕ) (fits : (k : ℕ) → Fits w8 (get_or 
       by : (b : Bool) → eqb (i % 2) (high_place high) ≡ b → told ≡ (b && pair) → HavePairs high bytes place (i + 1) (pairs + bool_byte told)
       by true e is = high_on e told is
       by false e is = rw (is, none) (low e)
+
+-- So the bytes tell of all units of a block.
+module _ (high : Bool) (bytes : List ℕ) (fits : (k : ℕ) → Fits w8 (get_or bytes k 0)) (place : ℕ) (start : 1 ≤ place) (within : 2 * (place + 32) ≤ length bytes) where
+  pub have_pairs : (i : ℕ) → i ≤ 64 → HavePairs high bytes place i (place_count (ends_pair (high_place high) bytes (2 * place)) i)
+  have_pairs zero le = HavePairs-none high bytes place
+  have_pairs (suc i) le =
+      let test = ends_pair (high_place high) bytes (2 * place) in
+      let on : i + 1 ≡ suc i = omega arith in
+      let more : place_count test (i + 1) ≡ place_count test i + bool_byte (test i) = places_told test i (test i) refl in
+      let step : HavePairs high bytes place (i + 1) (place_count test (i + 1))
+      = rw more (HavePairs-on high bytes fits place i (place_count test i) start within (omega arith) (have_pairs i (omega arith)) (test i) refl) in
+      rw on at step
+
+  pub block_told : (pairs : ℕ) → pairs ≡ place_count (ends_pair (high_place high) bytes (2 * place)) 64
+      → (pairs ≤ 32) × (unit_start_count (units_of high bytes) (place + 32) ≡ unit_start_count (units_of high bytes) place + (32 - pairs))
+  block_told pairs is =
+      let below = place_below high in
+      let h = have_pairs 64 (omega arith) in
+      let few = h.few in
+      let all : passed high 64 ≡ 32 = omega arith in
+      let at : place + passed high 64 ≡ place + 32 = omega arith in
+      let count = ap (unit_start_count (units_of high bytes)) at in
+      let counted = h.counted in
+      (omega arith, omega arith)

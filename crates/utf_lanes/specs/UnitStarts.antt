@@ -1,5 +1,5 @@
 -- Units that begin a piece: all but those that end a pair.
-use Rattle.std.specs.Prelude.{◌≡◌, ℕ, ◌-◌, ◌<◌, Bool, true, not, ◌&&◌, nat_eq, bit_and, List, count_by, length, slice_index}
+use Rattle.std.specs.Prelude.{◌≡◌, ℕ, ◌+◌, ◌-◌, ◌%◌, ◌<◌, Bool, true, not, ◌&&◌, nat_eq, bit_and, List, count_by, length, slice_index}
 use Rattle.std.specs.List.{range_with_len}
 use Rattle.utf_base.specs.Units.{is_leading_surrogate, is_trailing_surrogate}
 
@@ -28,3 +28,7 @@ pub record IsUnitStartOf (us : List ℕ) (number place : ℕ) : Type 0 where
 -- two units are a pair, told by the high byte of each
 abbrev pub are_pair : ℕ → ℕ → Bool
 are_pair first second = nat_eq (bit_and first 0xFC) 0xD8 && nat_eq (bit_and second 0xFC) 0xDC
+
+-- the byte so far after a place is the high byte of a unit that ends a pair, where each unit has its high byte so far from its first
+abbrev pub ends_pair : ℕ → List ℕ → ℕ → ℕ → Bool
+ends_pair high bytes place i = nat_eq (i % 2) high && are_pair (slice_index bytes (place + i - 2)) (slice_index bytes (place + i))

@@ -1,7 +1,7 @@
 //! Units that begin a piece, counted in blocks of 32: how many pieces units have, in a slice or in bytes, and where one of them begins.
 ghost use Rattle.std.specs.Prelude.{◌≡◌, ◌+◌, ◌*◌, ◌<◌, ◌≤◌, MatchOption, length, slice_index};
 ghost use Rattle.utf_lanes.specs.BytePairs.{high_place, units_of};
-ghost use Rattle.utf_lanes.specs.UnitStarts.{IsUnitStartOf, are_pair, is_start_after, is_unit_start, unit_start_count};
+ghost use Rattle.utf_lanes.specs.UnitStarts.{IsUnitStartOf, are_pair, ends_pair, is_start_after, is_unit_start, place_count, unit_start_count};
 
 use crate::byte_order::ByteOrder;
 use crate::byte_pairs::unit;
@@ -206,8 +206,7 @@ fn unit_block_starts(units: &[u16], place: usize) -> usize
     starts as usize
 }
 
-// The same of units in bytes. It goes over all of their bytes, of which every other one is the high byte of a unit: so LLVM goes by
-// lanes here too, as it does not where it has to pick these bytes.
+// The same of units in bytes.
 #[inline(always)]
 fn byte_block_starts<E: ByteOrder>(bytes: &[u8], place: usize) -> usize
     requires start { 1 ≤ place }
@@ -216,13 +215,23 @@ fn byte_block_starts<E: ByteOrder>(bytes: &[u8], place: usize) -> usize
         unit_start_count (units_of E.HIGH_FIRST bytes.now) place + result }
     ensures most { result ≤ 32 }
 {
-    let high = high_place::<E>();
-    let mut pairs: u8 = 0;
+    BLOCK - block_pairs(high_place::<E>(), bytes, 2 * place) as usize
+}
+
+// How many pairs end in the 64 bytes from the place on. It goes over all of these, and every other one is the high byte of a unit: so
+// LLVM goes by lanes here too, as it does not where it has to pick those.
+#[inline(always)]
+fn block_pairs(high: usize, bytes: &[u8], place: usize) -> u8
+    requires start { 2 ≤ place }
+    requires within { place + 64 ≤ length bytes.now }
+    ensures pairs { result ≡ place_count (ends_pair high bytes.now place) 64 }
+    ensures most { result ≤ 64 }
+{
+    let mut pairs = 0;
     for i in 0..2 * BLOCK {
-        let here = 2 * place + i;
-        pairs += ((i % 2 == high) & are_pair(bytes[here - 2], bytes[here])) as u8;
+        pairs += ((i % 2 == high) & are_pair(bytes[place + i - 2], bytes[place + i])) as u8;
     }
-    BLOCK - pairs as usize
+    pairs
 }
 
 // Which byte of a unit is the high one.
