@@ -434,20 +434,23 @@ class Eraser(Text):
 
     def of_std(self, module):
         """`std` is src/support there, which has of std's names those that are known."""
-        group = range(module, self.closing(module)) if self.text(module) == "{" else [module]
+        group = self.of_group(module)
         if any(self.text(k) == "*" for k in group):
             self.stop(module, "std::* is not known")
         self.uses.add("support as std")
         after = self.next(self.next(module))
-        names = {self.text(k) for k in range(module, self.closing(module) if self.text(module) == "{" else module + 1) if self.kind(k) == "word"}
-        for name in names - rules.CORE - set(rules.SUPPORT) - set(rules.GATED):
+        for name in {self.text(k) for k in group if self.kind(k) == "word"} - rules.CORE - set(rules.SUPPORT) - set(rules.GATED):
             self.stop(module, f"std::{name} is not known")
         known = rules.SUPPORT.get(self.text(module)) or rules.GATED.get(self.text(module))
         if known is None or self.text(self.next(module)) != "::":
             return
-        for k in range(after, self.closing(after) if self.text(after) == "{" else after + 1):
+        for k in self.of_group(after):
             if self.kind(k) == "word" and self.text(k) not in known | {"self"}:
                 self.stop(k, f"std::{self.text(module)}::{self.text(k)} is not known")
+
+    def of_group(self, i):
+        """What stands in the braces at i, or that alone."""
+        return range(i, self.closing(i)) if self.text(i) == "{" else [i]
 
     # The trusted text: what a proof rules out is not tested.
 

@@ -11,13 +11,18 @@ class Text:
     def __init__(self, text, name):
         self.name, self.t = name, tokens(text, name)
         self.gone = [False] * len(self.t)
-        self.said, self.front, self.back = {}, {}, {}
-        i = -1
-        while (i := self.next(i)) < len(self.t):
-            if self.kind(i) == "mark" and self.text(i) in OPEN:
-                i = self.closing(i)
-            elif self.kind(i) == "mark" and self.text(i) in OPEN.values():
-                self.stop(i, "a bracket closes none")
+        self.said, self.front, self.back, self.pair = {}, {}, {}, {}
+        opened = []
+        for i, x in enumerate(self.t):
+            if x.kind == "mark" and x.text in OPEN:
+                opened.append(i)
+            elif x.kind == "mark" and x.text in OPEN.values():
+                if not opened or OPEN[self.text(opened[-1])] != x.text:
+                    self.stop(i, "a bracket closes another" if opened else "a bracket closes none")
+                self.pair[i] = opened.pop()
+                self.pair[self.pair[i]] = i
+        if opened:
+            self.stop(opened[-1], "a bracket is not closed")
 
     def stop(self, i, why):
         raise Stop(f"{self.name}:{self.t[min(i, len(self.t) - 1)].line}: {why}")
@@ -49,29 +54,11 @@ class Text:
 
     def closing(self, i):
         """The bracket that closes the one at i. Clauses too hold pairs alone."""
-        stack, start = [], i
-        while i < len(self.t):
-            x = self.t[i]
-            if x.kind == "mark" and x.text in OPEN:
-                stack.append(OPEN[x.text])
-            elif x.kind == "mark" and x.text in OPEN.values():
-                if x.text != stack.pop():
-                    self.stop(i, "a bracket closes another")
-                if not stack:
-                    return i
-            i += 1
-        return self.stop(start, "a bracket is not closed")
+        return self.pair[i] if self.pair.get(i, -1) > i else self.stop(i, "no bracket opens here")
 
     def opening(self, i):
         """The bracket that the one at i closes."""
-        depth, k = 0, i
-        while k >= 0:
-            x = self.t[k]
-            depth += 0 if x.kind != "mark" else 1 if x.text in OPEN.values() else -1 if x.text in OPEN else 0
-            if depth == 0:
-                return k
-            k -= 1
-        return self.stop(i, "a bracket is not opened")
+        return self.pair[i] if self.pair.get(i, len(self.t)) < i else self.stop(i, "no bracket closes here")
 
     def around(self, i):
         """The bracket that the token at i stands in, or -1."""

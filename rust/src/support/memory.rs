@@ -81,11 +81,6 @@ impl<T, A: Allocator> Vec<T, A> {
     }
 
     #[inline(always)]
-    pub(crate) fn clear(&mut self) {
-        self.0.clear();
-    }
-
-    #[inline(always)]
     pub(crate) fn capacity(&self) -> usize {
         self.0.capacity()
     }

@@ -32,7 +32,6 @@ impl<T> Vec<T> {
     pub(crate) fn splice(&mut self, _: Range<usize>, _: Vec<T>) {}
     pub(crate) fn resize(&mut self, _: usize, _: T) {}
     pub(crate) fn truncate(&mut self, _: usize) {}
-    pub(crate) fn clear(&mut self) {}
 }
 
 impl<T> Deref for Vec<T> {
