@@ -15,7 +15,7 @@ proof, this goes by names, and takes more than it has to:
   what its attributes name.
 
 So what could make the refused function provable is in the sum: antt looks for no instances, and its tactics take the hypotheses, the
-lemmas that a call lists and the sets that it names. The rest is the kit, which counts by its name. A random part of the record is
+lemmas that a call lists and the sets that it names. The rest is the kit, which counts by its logic. A random part of the record is
 tried at each check all the same.
 """
 import functools

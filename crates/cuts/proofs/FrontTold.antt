@@ -104,7 +104,7 @@ unfolding first_told
 told_by_units true w = refl
 told_by_units false w = refl
 
-told_units : (high : Bool) (from : Form) (w : List ℕ) → HasByteOrder high from → first_told from w ≡ in_bytes w (told_as kind.Utf16 (as_piece (decoded_pairs (units_of high w))))
+pub told_units : (high : Bool) (from : Form) (w : List ℕ) → HasByteOrder high from → first_told from w ≡ in_bytes w (told_as kind.Utf16 (as_piece (decoded_pairs (units_of high w))))
 told_units high from w form = rw form (told_by_units high w)
 
 inner_kind : (x : Option Utf16PairError) (k : Utf16PairError) → option_map kind.Utf16 x ≡ Some (kind.Utf16 k) → x ≡ Some k
