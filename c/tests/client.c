@@ -591,6 +591,8 @@ static void decode_in_parts(uint8_t form, const uint8_t *in, size_t len) {
     nody_recoder_feed(&recoder, in, 1, made, nody_recoded_len_max(form, form, 1), &read, &written);
     nody_recoder_held(&recoder, made, sizeof made);
     nody_boundary_before(form, in, len, len / 2);
+    nody_char_count(form, in, len);
+    nody_offset_of(form, in, len, nody_number_of(form, in, len, len / 2));
 }
 
 static void recode_each_way(uint8_t from, uint8_t to, const uint8_t *in, size_t len) {
