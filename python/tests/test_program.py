@@ -217,12 +217,14 @@ class Program(unittest.TestCase):
 
     def test_what_comes_in_time_is_told_of_in_time(self):
         """Each part of a pipe is told of before the next one is waited for; an interrupt ends it as a signal does."""
-        with subprocess.Popen([sys.executable, "-m", "noddychest", "check"], stdin=subprocess.PIPE, stdout=subprocess.PIPE, stderr=subprocess.PIPE) as it:
+        # (what a script starts in the background passes over an interrupt, and so does what that starts)
+        how = {"stdin": subprocess.PIPE, "stdout": subprocess.PIPE, "stderr": subprocess.PIPE, "preexec_fn": lambda: signal.signal(signal.SIGINT, signal.SIG_DFL)}
+        with subprocess.Popen([sys.executable, "-m", "noddychest", "check"], **how) as it:
             it.stdin.write(b"a\xffbcdefgh")
             it.stdin.flush()
             self.assertEqual(it.stdout.readline(), f"-:1:2: offset 1: {ErrorKind.NON_UTF8_BYTE.reason}\n".encode())
             it.send_signal(signal.SIGINT)
-            self.assertEqual((it.wait(), it.stderr.read()), (-signal.SIGINT, b""))
+            self.assertEqual((it.wait(60), it.stderr.read()), (-signal.SIGINT, b""))
 
     @unittest.skipUnless(os.path.exists("/dev/full"), "there is no /dev/full")
     def test_writes_that_fail(self):
