@@ -3,7 +3,8 @@
 
 # The newest folder of a crate's source, or nothing.
 source_of() {
-    find /usr/share/cargo/registry -maxdepth 1 -name "$1-[0-9]*" 2>/dev/null | sort -V | tail -n 1
+    # (there may be no such folder, and then no source)
+    { find /usr/share/cargo/registry -maxdepth 1 -name "$1-[0-9]*" 2>/dev/null || true; } | sort -V | tail -n 1
 }
 
 # build_rust LOG ARGUMENTS: rustc, for the fastest code.
