@@ -177,7 +177,7 @@ def files_of_forms():
     files = {part: [f"{at}/{it}" for at, _, names in os.walk(f"{TOP}/crates/recoding/{part}") for it in names
                     if it.endswith((".rt", ".antt")) and it not in ("Lib.antt", "Answers.antt", "Invariants.antt", "Proof.antt")] for part in ("src", "specs", "proofs")}
     naming = lambda word, part: str(sum(word in "\n".join(lines_of(os.path.relpath(it, TOP))) for it in files[part]))
-    return str(len(files["src"])), naming("Utf16Be", "specs"), str(len(files["specs"])), naming("= by_form", "proofs"), str(len(files["proofs"]))
+    return str(len(files["src"])), naming("Utf16Be", "specs"), str(len(files["specs"])), naming("by_form _", "proofs"), str(len(files["proofs"]))
 
 
 def lines_of_python():
