@@ -2,10 +2,10 @@
  * inline functions of this header are only tested.
  *
  * LANGUAGES AND PLATFORMS. C99 and later, C++98 and later. Linux on x86-64 (with x86-64-v2) and on 64-bit ARM, with glibc or
- * musl; README.md has other platforms. No call allocates memory, reads a locale, keeps anything, or takes more than 5 KiB of the stack. (On x86-64 the library has
- * one byte of its own, which says what the processor has. It is written when the library is loaded, and never again.) What lasts
- * from call to call is in structs of yours, which you may copy. Calls on different structs may run in different threads at the same
- * time.
+ * musl; README.md has other platforms. No call allocates memory, reads a locale, keeps anything, or takes more than 5 KiB of the
+ * stack. (On x86-64 the library has one byte of its own, which says what the processor has. It is written when the library is
+ * loaded, and never again.) What lasts from call to call is in structs of yours, which you may copy. Calls on different structs may
+ * run in different threads at the same time.
  *
  * CALLS. A call that begins with nody_utf8_ has a twin for units that begins with nody_utf16_; nody_utf8_streamed_at,
  * nody_utf8_first_inline and nody_utf8_next_inline have none.
