@@ -30,6 +30,9 @@
 # BUILD is the folder of what is made. RUN stands before each program that `make check` runs, as `make check RUN=qemu-aarch64-static`; LANES is what nody_lanes()
 # has to answer there, 16 or 32.
 
+# A step that fails leaves no half file, which the next `make` would take.
+.DELETE_ON_ERROR:
+
 BUILD ?= build
 # `make install` takes what was built: the compiler and the flags that it is not told are those of the last make.
 ifneq ($(filter install,$(MAKECMDGOALS)),)

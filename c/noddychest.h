@@ -4,8 +4,8 @@
  * LANGUAGES AND PLATFORMS. C99 and later, C++98 and later. Linux on x86-64 (with x86-64-v2) and on 64-bit ARM, with glibc or
  * musl; README.md has other platforms. No call allocates memory, reads a locale, keeps anything, or takes more than 5 KiB of the
  * stack. (On x86-64 the library has one byte of its own, which says what the processor has. It is written when the library is
- * loaded, and never again.) What lasts from call to call is in structs of yours, which you may copy. Calls on different structs may
- * run in different threads at the same time.
+ * loaded, and never again.) What lasts from call to call is in structs of yours, which you may copy: each copy then goes on by
+ * itself. Calls on different structs may run in different threads at the same time, and in the handler of a signal.
  *
  * CALLS. A call that begins with nody_utf8_ has a twin for units that begins with nody_utf16_; nody_utf8_streamed_at,
  * nody_utf8_first_inline and nody_utf8_next_inline have none.
@@ -50,8 +50,10 @@
  * INTERRUPTED_SEQUENCE. ED A0 at the end is TOO_FEW_BYTES, although no third byte would make it a character.
  *
  * POINTERS. A pointer and the number after it belong together: the number is a length to read, or a room to write into. If the
- * number is 0, the pointer may be NULL. Else it must be valid for that many bytes, units or pieces. What a call writes must not
- * overlap what it reads. Any other pointer that a call takes must not be NULL. No call writes out of bounds.
+ * number is 0, the pointer may be NULL, or point anywhere. Else it must be valid for that many bytes, units or pieces. A pointer to
+ * bytes may have any address; one to units, pieces or a struct has to be aligned as its type asks. What a call writes must not overlap
+ * what it reads, nor what else it writes: `read` and `written` are two variables. Any other pointer that a call takes must not be NULL,
+ * and this is not checked. No call reads or writes out of bounds. An offset or a number may be above the length, up to SIZE_MAX.
  *
  * STRUCTS. Make a cursor (nody_bytes_t, nody_units_t) by nody_bytes or nody_units, a recoder (nody_recoder_t) by nody_recoder, and
  * a decoder (nody_decoder_t) by nody_decoder. If you fill a cursor yourself, its pointer must not be NULL, even if `len` is 0, and

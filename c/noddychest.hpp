@@ -17,11 +17,12 @@
 //
 // BYTES. Text in bytes is taken as nody::bytes, which is made of a std::string_view, a std::string or std::pmr::string, a literal, and in
 // C++20 of a std::u8string, a std::u8string_view and a std::span of std::byte, of char or of unsigned char. Like a view it holds nothing: what it shows has to live as
-// long as it is used.
+// long as it is used. So a text must be no view of the string to which a call adds what comes of it.
 //
 // ERRORS. Invalid input throws no exception: std::optional and enums tell of it. Calls that make a std::string throw what that
-// throws (std::bad_alloc, std::length_error); the others are noexcept. Offsets and lengths count bytes, or units where the text is in
-// units.
+// throws (std::bad_alloc, std::length_error), and std::length_error where a form is none of enum form; the others are noexcept. Where a
+// compiler has no exceptions (-fno-exceptions), std::abort is called in place of std::length_error. Offsets and lengths count bytes, or
+// units where the text is in units.
 #ifndef NODDYCHEST_HPP
 #define NODDYCHEST_HPP
 
@@ -29,6 +30,7 @@
 
 #include <cstddef>
 #include <cstdint>
+#include <cstdlib>
 #include <iterator>
 #include <optional>
 #include <stdexcept>
@@ -256,10 +258,9 @@ private:
     typename Code::view text_;
 };
 
-// Calls that would keep a view of a temporary string are refused, of whatever letters and memory it is.
-template <class Text> struct is_string : std::false_type {};
-template <class Char, class Traits, class Allocator> struct is_string<std::basic_string<Char, Traits, Allocator>> : std::true_type {};
-template <class Text> using if_temporary = std::enable_if_t<is_string<std::remove_const_t<Text>>::value>;
+// Calls that would keep a view of a temporary string are refused, and so of any temporary that gives something back when it goes: a view
+// does not, and what does may own the text. (Text is a reference where it is no temporary)
+template <class Text> using if_temporary = std::enable_if_t<!std::is_trivially_destructible_v<Text>>;
 
 } // namespace detail
 
@@ -409,15 +410,23 @@ inline std::optional<std::size_t> recoded_len(form from, form to, bytes text) no
 
 namespace detail {
 
+[[noreturn]] inline void refuse_length() {
+#if defined(__cpp_exceptions) || defined(_CPPUNWIND)
+    throw std::length_error("nody: the text is too long, or in no form");
+#else
+    std::abort();
+#endif
+}
+
 inline std::size_t most_of(form from, form to, std::size_t len) {
     std::size_t most = nody_recoded_len_max(c(from), c(to), len);
-    if (most == SIZE_MAX) throw std::length_error("nody: the text is too long");
+    if (most == SIZE_MAX) refuse_length();
     return most;
 }
 
 inline std::size_t len_of(form from, form to, bytes text) {
     std::optional<std::size_t> len = recoded_len(from, to, text);
-    if (!len) throw std::length_error("nody: the text is too long");
+    if (!len) refuse_length();
     return *len;
 }
 
@@ -579,7 +588,7 @@ private:
 
     // (three bytes may be held. The string is made before anything is read, so that nothing is lost where there is no memory)
     template <class Write> void append(std::size_t len, std::string &out, Write write) {
-        if (len > SIZE_MAX - sizeof state_.held) throw std::length_error("nody: the part is too long");
+        if (len > SIZE_MAX - sizeof state_.held) detail::refuse_length();
         detail::append(out, detail::most_of(static_cast<form>(state_.from), static_cast<form>(state_.to), len + sizeof state_.held), write);
     }
 

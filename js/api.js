@@ -6,8 +6,9 @@ const BLOCK = 4096;
 const MEGABYTE = 1 << 20;
 let codec;
 
-export function use(instance) {
-    codec = new Codec(instance.exports);
+// An instance, and its module, where another is to take its place once it is broken.
+export function use(instance, module) {
+    codec = new Codec(instance.exports, module && (() => new WebAssembly.Instance(module).exports));
 }
 
 // What the language itself says of an object, also of one of another realm, and so that no code of the caller runs.
@@ -112,7 +113,7 @@ function wholeOf(at) {
 }
 
 // A piece of the codec, which began at the offset `base`, as callers see it.
-function shown({ place, len, scalar, kind }, base) {
+function shown({ place, len, scalar, kind }, base = 0) {
     const isValid = kind === OK;
     return { offset: base + place, length: len, char: isValid ? String.fromCodePoint(scalar) : null, error: isValid ? null : codec.names[kind] };
 }
@@ -211,9 +212,10 @@ export class Ends {
         const left = { front: 0, back: codec.len };
         const piece = codec.step(letter, left);
         if (piece.kind === NONE) return null;
+        const made = shown(piece, from);
         if (letter === "F") this.#front += piece.len;
         else this.#back -= piece.len;
-        return shown(piece, from);
+        return made;
     }
 
     next() {
@@ -256,7 +258,7 @@ function summed(bytes, form, call) {
     let sum = 0;
     for (let at = 0; at < bytes.length; ) {
         const end = windowEnd(bytes, at, MEGABYTE, form);
-        sum += call(bytes.subarray(at, at + end), end);
+        sum += call(bytes.subarray(at, at + end), end, at);
         at += end;
     }
     return sum;
@@ -304,10 +306,10 @@ export function offsetOf(data, number, encoding = "utf-8") {
     return null;
 }
 
+// (what is far after an offset does not change what begins before it)
 export function numberOf(data, offset, encoding = "utf-8") {
-    const [bytes, form] = textOfForm(data, encoding);
-    const front = bytes.subarray(0, boundaryOf(bytes, offset, FORMS[form], true));
-    return summed(front, form, (_, end) => codec.countBetween(0, end));
+    const [[bytes, form], place] = [textOfForm(data, encoding), wholeOf(offset)];
+    return summed(bytes.subarray(0, place + 2 * SEEN), form, (_, end, at) => codec.numberOf(Math.max(Math.min(place - at, end), 0)));
 }
 
 // (the bytes near each end decide)
@@ -494,13 +496,15 @@ export class Decoder {
 
     // Reads a part up to its first pieces, and keeps the rest. (So what has no invalid bytes is not copied, where they are looked for.)
     #put(part, isFaults) {
-        const [{ length }, before] = [part.bytes, [this.#state, this.#row, this.#most]];
+        const [{ length }, state, row, most] = [part.bytes, this.#state, this.#row, this.#most];
         if (length > Number.MAX_SAFE_INTEGER - this.#end) throw new RangeError(`noddychest: offsets go up to ${Number.MAX_SAFE_INTEGER}, and this part ends beyond`);
-        if (!this.#front) this.#readUntilSome(part, isFaults);
         try {
+            if (!this.#front) this.#readUntilSome(part, isFaults);
             if (!part.isOver) part.keep();
         } catch (error) {
-            [this.#state, this.#row, this.#most] = before;
+            this.#state = state;
+            this.#row = row;
+            this.#most = most;
             throw error;
         }
         if (!part.isOver) this.#add(part);
@@ -515,13 +519,13 @@ export class Decoder {
     }
 
     *#taken(isFaults) {
-        for (let it; (it = this.#next(isFaults)); ) yield shown(it, 0);
+        for (let it; (it = this.#next(isFaults)); ) yield it;
     }
 
     #next(isFaults) {
         for (;;) {
             if (isFaults) this.#row.passText();
-            if (!this.#row.isTaken) return this.#row.take();
+            if (!this.#row.isTaken) return this.#row.take(shown);
             if (!this.#front) return null;
             this.#readUntilSome(this.#front, isFaults);
             if (this.#front.isOver) this.#front = this.#front.next;
@@ -536,7 +540,8 @@ export class Decoder {
     #read(part, isFaults) {
         if (isFaults && this.#most === FEW && !this.#state.held && !part.isEnd) this.#skip(part);
         const told = part.isEnd ? codec.decodeLast(this.#state) : codec.decode(this.#state, part.stand(isFaults ? MEGABYTE : BLOCK), isFaults ? this.#most : ROOM);
-        [this.#state, this.#row] = [told.state, told.row];
+        this.#state = told.state;
+        this.#row = told.row;
         part.at += told.read;
         part.isOver = part.at === part.bytes.length && !told.isFull;
         if (isFaults) this.#passText();
@@ -552,16 +557,18 @@ export class Decoder {
     // Passes valid text over: a decoder that holds nothing may as well begin after it.
     #skip(part) {
         const len = codec.validFrom(this.#form, part.stand(MEGABYTE));
+        if (!len) return;
+        this.#state = codec.newDecoder(this.#form, this.#state.offset + len);
         part.at += len;
-        if (len) this.#state = codec.newDecoder(this.#form, this.#state.offset + len);
     }
 }
 
 // The text of whole pieces, in one way or another.
 function textOf(bytes, form, way) {
     const units = joined(codec.recode(form, UTF16LE, bytes, { mode: way }));
+    const decoder = new TextDecoder("utf-16le", own({ ignoreBOM: true }));
     try {
-        return new TextDecoder("utf-16le", own({ ignoreBOM: true })).decode(units, own({ stream: false }));
+        return decoder.decode(units, own({ stream: false }));
     } catch {
         // (these units are valid: V8 says of those that fit in no string that they are not)
         throw new RangeError(`noddychest: a text of ${units.length / 2} units of UTF-16 is too long for a string here: take streamText, or recode`);

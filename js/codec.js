@@ -47,8 +47,21 @@ const PROBE = [0, 97, 115, 109, 1, 0, 0, 0, 1, 5, 1, 96, 0, 1, 123, 3, 2, 1, 0, 
 export const hasVectors = () => WebAssembly.validate(Uint8Array.from(PROBE));
 
 export class Codec {
-    constructor(calls) {
-        this.calls = calls;
+    filled = 0;
+
+    // `another` gives the calls of a new instance of the same module.
+    constructor(calls, another = null) {
+        this.another = another;
+        this.use(calls);
+        this.fill(new Uint8Array(0));
+        this.names = this.textsOfKinds(this.calls.nody_put_kind_name);
+        this.sentences = this.textsOfKinds(this.calls.nody_put_kind_sentence);
+    }
+
+    use(calls) {
+        this.calls = this.watched(calls);
+        this.isBroken = false;
+        this.filled++;
         this.memory = new Uint8Array(calls.memory.buffer);
         this.view = new DataView(calls.memory.buffer);
         const end = calls.__heap_base.value;
@@ -63,14 +76,30 @@ export class Codec {
         this.part = this.room + ROOM * PIECE;
         this.start = this.part + PART;
         this.made = this.start + MOST;
-        this.filled = 0;
-        this.fill(new Uint8Array(0));
-        this.names = this.textsOfKinds(calls.nody_put_kind_name);
-        this.sentences = this.textsOfKinds(calls.nody_put_kind_sentence);
+    }
+
+    // The calls, each of which tells if it did not return: where the caller's stack is full, it throws on its way, and the module has lost
+    // for good what it then had of its own stack. Once that has come to its end, no call returns any more.
+    watched(calls) {
+        const watch = (call) => (...given) => {
+            try {
+                return call(...given);
+            } catch (error) {
+                this.isBroken = true;
+                throw error;
+            }
+        };
+        return Object.fromEntries(Object.entries(calls).map(([name, it]) => [name, typeof it === "function" ? watch(it) : it]));
+    }
+
+    // Takes a new instance where a call did not return. What stood in the memory is gone.
+    mend() {
+        if (this.isBroken && this.another) this.use(this.another());
     }
 
     // Takes these bytes in place of those before. Returns a number that `holds` knows until others are taken.
     fill(bytes, form = UTF8) {
+        this.mend();
         this.memory.set(bytes, this.start);
         this.len = bytes.length;
         this.form = form;
@@ -82,7 +111,7 @@ export class Codec {
 
     // Whether the bytes of that call of `fill` still stand here.
     holds(filled) {
-        return this.filled === filled;
+        return this.filled === filled && !this.isBroken;
     }
 
     // The bytes as they came.
@@ -263,16 +292,17 @@ export class Codec {
 
     // How many pieces there are from one boundary on and before another.
     countBetween(front, back) {
-        this.turn();
-        const call = this.form === UTF8 ? this.calls.nody_utf8_char_count : this.calls.nody_utf16_char_count;
-        const whole = Math.max(Math.min(back, this.whole) - front, 0);
-        return Number(call(this.address(this.start + front), BigInt(whole / this.unit))) + (back - front - whole);
+        return Number(this.calls.nody_char_count(this.standing, this.address(this.start + front), BigInt(back - front)));
     }
 
     // Where the piece with a number begins, of those that are there.
     offsetOf(number) {
-        const call = this.form === UTF8 ? this.calls.nody_utf8_offset_of : this.calls.nody_utf16_offset_of;
-        return this.unit * Number(call(this.address(this.start), BigInt(this.whole / this.unit), BigInt(number)));
+        return Number(this.calls.nody_offset_of(this.standing, this.address(this.start), BigInt(this.len), BigInt(number)));
+    }
+
+    // How many pieces begin before an offset.
+    numberOf(offset) {
+        return Number(this.calls.nody_number_of(this.standing, this.address(this.start), BigInt(this.len), BigInt(offset)));
     }
 
     // The part outside of which no piece changes if something is inserted at an offset.
@@ -307,6 +337,7 @@ export class Codec {
 
     // A recoder that holds nothing, as the bytes of its struct.
     newRecoder(from, to) {
+        this.mend();
         this.calls.nody_recoder(this.address(this.state), from, to);
         return this.memory.slice(this.state, this.state + STATE);
     }
@@ -321,6 +352,7 @@ export class Codec {
     // (Calls that are not strict take one argument less: the last is passed over.)
     feed(state, source, chunks, settings) {
         const { most = Infinity, mode = REPLACE, isLast = false } = own(settings);
+        this.mend();
         const call = this.calls[`nody_recoder_feed${MODES[mode]}`];
         const [recoder, part, read, written, fault] = [this.state, this.part, this.numbers, this.numbers + 8, this.fault].map(this.address);
         this.memory.set(state, this.state);
@@ -357,6 +389,7 @@ export class Codec {
 
     // A decoder that holds nothing, and counts from an offset.
     newDecoder(form, offset) {
+        this.mend();
         this.calls.nody_decoder(this.address(this.state), form);
         this.view.setBigUint64(this.state + OFFSET, BigInt(offset), true);
         return this.decoder();
@@ -379,6 +412,7 @@ export class Codec {
 
     // The same of what a decoder holds, as its input has ended.
     decodeLast({ bytes }) {
+        this.mend();
         const [decoder, room, written] = [this.state, this.room, this.numbers + 8].map(this.address);
         this.memory.set(bytes, this.state);
         this.calls.nody_decoder_finish(decoder, room, BigInt(ROOM), written);
@@ -459,10 +493,12 @@ class Row {
         return faults;
     }
 
-    take() {
+    // Takes the next one, once it is made as the caller wants it: where that throws, it is not lost.
+    take(made) {
         const { view, at } = this;
-        this.at += PIECE;
-        return { place: wide(view, at), len: view.getUint8(at + 12), scalar: view.getUint32(at + 8, true), kind: view.getUint8(at + 13) };
+        const it = made({ place: wide(view, at), len: view.getUint8(at + 12), scalar: view.getUint32(at + 8, true), kind: view.getUint8(at + 13) });
+        this.at = at + PIECE;
+        return it;
     }
 
     // Takes those before the next invalid byte.

@@ -142,9 +142,9 @@ export interface RecodeOptions {
      * What to do with invalid bytes. `"replace"`, the default, puts one U+FFFD, the replacement character, for each. `"maximal"` puts one for
      * each maximal subpart, as `TextDecoder` does. `"strict"` throws a `FaultError` at the first one.
      */
-    errors?: "replace" | "maximal" | "strict";
+    errors?: "replace" | "maximal" | "strict" | undefined;
     /** The same as `errors: "strict"`, by the name that `TextDecoder` has for it; false by default. */
-    fatal?: boolean;
+    fatal?: boolean | undefined;
 }
 
 /** That text which had to be valid is not. */
@@ -204,7 +204,7 @@ export class Recoder {
  */
 export class Decoder {
     /** `offset` is the offset of the first byte, 0 by default: a whole number from 0 on, or a `RangeError` is thrown. */
-    constructor(encoding?: Encoding, options?: { offset?: number });
+    constructor(encoding?: Encoding, options?: { offset?: number | undefined });
     /** The pieces that are decided with this part. Bytes that may still become a character wait for the next one, at most three. O(n). */
     feed(part: Bytes): Generator<Piece, void, undefined>;
     /** The same, of which it gives the invalid bytes alone: text is passed over as fast as `isValid` goes through it. O(n). */
@@ -221,11 +221,21 @@ export class Decoder {
     readonly encoding: "utf-8" | "utf-16le" | "utf-16be";
 }
 
+declare global {
+    /** The stream of browsers and Node, for programs whose `lib` has none. */
+    interface TransformStream<I = any, O = any> {}
+}
+
 /** A `Recoder` as a stream, for `body.pipeThrough(..)`. It needs Node 18 or a browser. */
 export function recoderStream(from: Encoding, to: Encoding, options?: RecodeOptions): TransformStream<Bytes, Uint8Array>;
 
 /** Bytes in parts: a `ReadableStream`, as `response.body` and `file.stream()` are, a stream of Node, or any other iterable of bytes. */
-export type Parts = ReadableStream<Bytes> | AsyncIterable<Bytes> | Iterable<Bytes>;
+export type Parts = Stream | AsyncIterable<Bytes> | Iterable<Bytes>;
+
+/** What is asked of a `ReadableStream`. */
+interface Stream {
+    getReader(): { read(): Promise<{ done: boolean; value?: Bytes | undefined }>; cancel(): Promise<void>; releaseLock(): void };
+}
 
 /**
  * The pieces of input in parts, for `for await`: those that `pieces` gives for the whole, with offsets from its first byte, however it

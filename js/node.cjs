@@ -49,8 +49,21 @@ const PROBE = [0, 97, 115, 109, 1, 0, 0, 0, 1, 5, 1, 96, 0, 1, 123, 3, 2, 1, 0, 
 const hasVectors = () => WebAssembly.validate(Uint8Array.from(PROBE));
 
 class Codec {
-    constructor(calls) {
-        this.calls = calls;
+    filled = 0;
+
+    // `another` gives the calls of a new instance of the same module.
+    constructor(calls, another = null) {
+        this.another = another;
+        this.use(calls);
+        this.fill(new Uint8Array(0));
+        this.names = this.textsOfKinds(this.calls.nody_put_kind_name);
+        this.sentences = this.textsOfKinds(this.calls.nody_put_kind_sentence);
+    }
+
+    use(calls) {
+        this.calls = this.watched(calls);
+        this.isBroken = false;
+        this.filled++;
         this.memory = new Uint8Array(calls.memory.buffer);
         this.view = new DataView(calls.memory.buffer);
         const end = calls.__heap_base.value;
@@ -65,14 +78,30 @@ class Codec {
         this.part = this.room + ROOM * PIECE;
         this.start = this.part + PART;
         this.made = this.start + MOST;
-        this.filled = 0;
-        this.fill(new Uint8Array(0));
-        this.names = this.textsOfKinds(calls.nody_put_kind_name);
-        this.sentences = this.textsOfKinds(calls.nody_put_kind_sentence);
+    }
+
+    // The calls, each of which tells if it did not return: where the caller's stack is full, it throws on its way, and the module has lost
+    // for good what it then had of its own stack. Once that has come to its end, no call returns any more.
+    watched(calls) {
+        const watch = (call) => (...given) => {
+            try {
+                return call(...given);
+            } catch (error) {
+                this.isBroken = true;
+                throw error;
+            }
+        };
+        return Object.fromEntries(Object.entries(calls).map(([name, it]) => [name, typeof it === "function" ? watch(it) : it]));
+    }
+
+    // Takes a new instance where a call did not return. What stood in the memory is gone.
+    mend() {
+        if (this.isBroken && this.another) this.use(this.another());
     }
 
     // Takes these bytes in place of those before. Returns a number that `holds` knows until others are taken.
     fill(bytes, form = UTF8) {
+        this.mend();
         this.memory.set(bytes, this.start);
         this.len = bytes.length;
         this.form = form;
@@ -84,7 +113,7 @@ class Codec {
 
     // Whether the bytes of that call of `fill` still stand here.
     holds(filled) {
-        return this.filled === filled;
+        return this.filled === filled && !this.isBroken;
     }
 
     // The bytes as they came.
@@ -265,16 +294,17 @@ class Codec {
 
     // How many pieces there are from one boundary on and before another.
     countBetween(front, back) {
-        this.turn();
-        const call = this.form === UTF8 ? this.calls.nody_utf8_char_count : this.calls.nody_utf16_char_count;
-        const whole = Math.max(Math.min(back, this.whole) - front, 0);
-        return Number(call(this.address(this.start + front), BigInt(whole / this.unit))) + (back - front - whole);
+        return Number(this.calls.nody_char_count(this.standing, this.address(this.start + front), BigInt(back - front)));
     }
 
     // Where the piece with a number begins, of those that are there.
     offsetOf(number) {
-        const call = this.form === UTF8 ? this.calls.nody_utf8_offset_of : this.calls.nody_utf16_offset_of;
-        return this.unit * Number(call(this.address(this.start), BigInt(this.whole / this.unit), BigInt(number)));
+        return Number(this.calls.nody_offset_of(this.standing, this.address(this.start), BigInt(this.len), BigInt(number)));
+    }
+
+    // How many pieces begin before an offset.
+    numberOf(offset) {
+        return Number(this.calls.nody_number_of(this.standing, this.address(this.start), BigInt(this.len), BigInt(offset)));
     }
 
     // The part outside of which no piece changes if something is inserted at an offset.
@@ -309,6 +339,7 @@ class Codec {
 
     // A recoder that holds nothing, as the bytes of its struct.
     newRecoder(from, to) {
+        this.mend();
         this.calls.nody_recoder(this.address(this.state), from, to);
         return this.memory.slice(this.state, this.state + STATE);
     }
@@ -323,6 +354,7 @@ class Codec {
     // (Calls that are not strict take one argument less: the last is passed over.)
     feed(state, source, chunks, settings) {
         const { most = Infinity, mode = REPLACE, isLast = false } = own(settings);
+        this.mend();
         const call = this.calls[`nody_recoder_feed${MODES[mode]}`];
         const [recoder, part, read, written, fault] = [this.state, this.part, this.numbers, this.numbers + 8, this.fault].map(this.address);
         this.memory.set(state, this.state);
@@ -359,6 +391,7 @@ class Codec {
 
     // A decoder that holds nothing, and counts from an offset.
     newDecoder(form, offset) {
+        this.mend();
         this.calls.nody_decoder(this.address(this.state), form);
         this.view.setBigUint64(this.state + OFFSET, BigInt(offset), true);
         return this.decoder();
@@ -381,6 +414,7 @@ class Codec {
 
     // The same of what a decoder holds, as its input has ended.
     decodeLast({ bytes }) {
+        this.mend();
         const [decoder, room, written] = [this.state, this.room, this.numbers + 8].map(this.address);
         this.memory.set(bytes, this.state);
         this.calls.nody_decoder_finish(decoder, room, BigInt(ROOM), written);
@@ -461,10 +495,12 @@ class Row {
         return faults;
     }
 
-    take() {
+    // Takes the next one, once it is made as the caller wants it: where that throws, it is not lost.
+    take(made) {
         const { view, at } = this;
-        this.at += PIECE;
-        return { place: wide(view, at), len: view.getUint8(at + 12), scalar: view.getUint32(at + 8, true), kind: view.getUint8(at + 13) };
+        const it = made({ place: wide(view, at), len: view.getUint8(at + 12), scalar: view.getUint32(at + 8, true), kind: view.getUint8(at + 13) });
+        this.at = at + PIECE;
+        return it;
     }
 
     // Takes those before the next invalid byte.
@@ -502,8 +538,9 @@ const BLOCK = 4096;
 const MEGABYTE = 1 << 20;
 let codec;
 
-function use(instance) {
-    codec = new Codec(instance.exports);
+// An instance, and its module, where another is to take its place once it is broken.
+function use(instance, module) {
+    codec = new Codec(instance.exports, module && (() => new WebAssembly.Instance(module).exports));
 }
 
 // What the language itself says of an object, also of one of another realm, and so that no code of the caller runs.
@@ -608,7 +645,7 @@ function wholeOf(at) {
 }
 
 // A piece of the codec, which began at the offset `base`, as callers see it.
-function shown({ place, len, scalar, kind }, base) {
+function shown({ place, len, scalar, kind }, base = 0) {
     const isValid = kind === OK;
     return { offset: base + place, length: len, char: isValid ? String.fromCodePoint(scalar) : null, error: isValid ? null : codec.names[kind] };
 }
@@ -707,9 +744,10 @@ class Ends {
         const left = { front: 0, back: codec.len };
         const piece = codec.step(letter, left);
         if (piece.kind === NONE) return null;
+        const made = shown(piece, from);
         if (letter === "F") this.#front += piece.len;
         else this.#back -= piece.len;
-        return shown(piece, from);
+        return made;
     }
 
     next() {
@@ -752,7 +790,7 @@ function summed(bytes, form, call) {
     let sum = 0;
     for (let at = 0; at < bytes.length; ) {
         const end = windowEnd(bytes, at, MEGABYTE, form);
-        sum += call(bytes.subarray(at, at + end), end);
+        sum += call(bytes.subarray(at, at + end), end, at);
         at += end;
     }
     return sum;
@@ -800,10 +838,10 @@ function offsetOf(data, number, encoding = "utf-8") {
     return null;
 }
 
+// (what is far after an offset does not change what begins before it)
 function numberOf(data, offset, encoding = "utf-8") {
-    const [bytes, form] = textOfForm(data, encoding);
-    const front = bytes.subarray(0, boundaryOf(bytes, offset, FORMS[form], true));
-    return summed(front, form, (_, end) => codec.countBetween(0, end));
+    const [[bytes, form], place] = [textOfForm(data, encoding), wholeOf(offset)];
+    return summed(bytes.subarray(0, place + 2 * SEEN), form, (_, end, at) => codec.numberOf(Math.max(Math.min(place - at, end), 0)));
 }
 
 // (the bytes near each end decide)
@@ -990,13 +1028,15 @@ class Decoder {
 
     // Reads a part up to its first pieces, and keeps the rest. (So what has no invalid bytes is not copied, where they are looked for.)
     #put(part, isFaults) {
-        const [{ length }, before] = [part.bytes, [this.#state, this.#row, this.#most]];
+        const [{ length }, state, row, most] = [part.bytes, this.#state, this.#row, this.#most];
         if (length > Number.MAX_SAFE_INTEGER - this.#end) throw new RangeError(`noddychest: offsets go up to ${Number.MAX_SAFE_INTEGER}, and this part ends beyond`);
-        if (!this.#front) this.#readUntilSome(part, isFaults);
         try {
+            if (!this.#front) this.#readUntilSome(part, isFaults);
             if (!part.isOver) part.keep();
         } catch (error) {
-            [this.#state, this.#row, this.#most] = before;
+            this.#state = state;
+            this.#row = row;
+            this.#most = most;
             throw error;
         }
         if (!part.isOver) this.#add(part);
@@ -1011,13 +1051,13 @@ class Decoder {
     }
 
     *#taken(isFaults) {
-        for (let it; (it = this.#next(isFaults)); ) yield shown(it, 0);
+        for (let it; (it = this.#next(isFaults)); ) yield it;
     }
 
     #next(isFaults) {
         for (;;) {
             if (isFaults) this.#row.passText();
-            if (!this.#row.isTaken) return this.#row.take();
+            if (!this.#row.isTaken) return this.#row.take(shown);
             if (!this.#front) return null;
             this.#readUntilSome(this.#front, isFaults);
             if (this.#front.isOver) this.#front = this.#front.next;
@@ -1032,7 +1072,8 @@ class Decoder {
     #read(part, isFaults) {
         if (isFaults && this.#most === FEW && !this.#state.held && !part.isEnd) this.#skip(part);
         const told = part.isEnd ? codec.decodeLast(this.#state) : codec.decode(this.#state, part.stand(isFaults ? MEGABYTE : BLOCK), isFaults ? this.#most : ROOM);
-        [this.#state, this.#row] = [told.state, told.row];
+        this.#state = told.state;
+        this.#row = told.row;
         part.at += told.read;
         part.isOver = part.at === part.bytes.length && !told.isFull;
         if (isFaults) this.#passText();
@@ -1048,16 +1089,18 @@ class Decoder {
     // Passes valid text over: a decoder that holds nothing may as well begin after it.
     #skip(part) {
         const len = codec.validFrom(this.#form, part.stand(MEGABYTE));
+        if (!len) return;
+        this.#state = codec.newDecoder(this.#form, this.#state.offset + len);
         part.at += len;
-        if (len) this.#state = codec.newDecoder(this.#form, this.#state.offset + len);
     }
 }
 
 // The text of whole pieces, in one way or another.
 function textOf(bytes, form, way) {
     const units = joined(codec.recode(form, UTF16LE, bytes, { mode: way }));
+    const decoder = new TextDecoder("utf-16le", own({ ignoreBOM: true }));
     try {
-        return new TextDecoder("utf-16le", own({ ignoreBOM: true })).decode(units, own({ stream: false }));
+        return decoder.decode(units, own({ stream: false }));
     } catch {
         // (these units are valid: V8 says of those that fit in no string that they are not)
         throw new RangeError(`noddychest: a text of ${units.length / 2} units of UTF-16 is too long for a string here: take streamText, or recode`);
@@ -1136,6 +1179,7 @@ async function* streamText(stream, encoding = "utf-8", options) {
 }
 
 const file = require("node:path").join(__dirname, hasVectors() ? "noddychest-simd.wasm" : "noddychest.wasm");
-use(new WebAssembly.Instance(new WebAssembly.Module(require("node:fs").readFileSync(file))));
+const made = new WebAssembly.Module(require("node:fs").readFileSync(file));
+use(new WebAssembly.Instance(made), made);
 
 module.exports = { Decoder, Ends, FaultError, Recoder, boundaryAfter, boundaryBefore, changedRange, charCount, decode, encodingOfBom, faults, firstFault, isValid, numberOf, offsetOf, pieces, piecesBack, recode, recodedLength, recoderStream, sentence, streamFaults, streamPieces, streamText, undecidedLength };

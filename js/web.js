@@ -5,7 +5,7 @@ import { hasVectors } from "./codec.js";
 const address = hasVectors() ? new URL("noddychest-simd.wasm", import.meta.url) : new URL("noddychest.wasm", import.meta.url);
 const answer = await fetch(address);
 if (!answer.ok) throw new Error(`noddychest: ${address} did not load (${answer.status})`);
-const { instance } = await WebAssembly.instantiate(await answer.arrayBuffer());
-use(instance);
+const { instance, module } = await WebAssembly.instantiate(await answer.arrayBuffer());
+use(instance, module);
 
 export { Decoder, Ends, FaultError, Recoder, boundaryAfter, boundaryBefore, changedRange, charCount, decode, encodingOfBom, faults, firstFault, isValid, numberOf, offsetOf, pieces, piecesBack, recode, recodedLength, recoderStream, sentence, streamFaults, streamPieces, streamText, undecidedLength } from "./api.js";

@@ -28,23 +28,26 @@ static const struct {
 };
 enum { COMMANDS = sizeof commands / sizeof *commands };
 
+/* Options that are no single letters; these are -o, -q and -h. */
+enum { FROM = 256, TO, ERRORS, MAX, JSON, FOLLOW, JOBS, IN_PLACE, VERSION };
+
 static const struct option options[] = {
-    {"from", required_argument, NULL, 'f'},  {"to", required_argument, NULL, 't'},   {"errors", required_argument, NULL, 'e'},
-    {"quiet", no_argument, NULL, 'q'},       {"max", required_argument, NULL, 'm'},  {"json", no_argument, NULL, 'J'},
-    {"follow", no_argument, NULL, 'F'},      {"jobs", required_argument, NULL, 'j'}, {"output", required_argument, NULL, 'o'},
-    {"in-place", no_argument, NULL, 'i'},    {"help", no_argument, NULL, 'h'},       {"version", no_argument, NULL, 'V'},
+    {"from", required_argument, NULL, FROM}, {"to", required_argument, NULL, TO},     {"errors", required_argument, NULL, ERRORS},
+    {"quiet", no_argument, NULL, 'q'},       {"max", required_argument, NULL, MAX},   {"json", no_argument, NULL, JSON},
+    {"follow", no_argument, NULL, FOLLOW},   {"jobs", required_argument, NULL, JOBS}, {"output", required_argument, NULL, 'o'},
+    {"in-place", no_argument, NULL, IN_PLACE}, {"help", no_argument, NULL, 'h'},      {"version", no_argument, NULL, VERSION},
     {NULL, 0, NULL, 0},
 };
 
 /* The commands that take an option. */
 static int takers_of(int option) {
     switch (option) {
-    case 'f': case 'h': case 'V': return CHECK | LIST | COUNT | AT | RECODE;
+    case FROM: case 'h': case VERSION: return CHECK | LIST | COUNT | AT | RECODE;
     case 'q': return CHECK | LIST | COUNT | RECODE;
-    case 'J': return CHECK | LIST | COUNT | AT;
-    case 'j': return CHECK | COUNT | RECODE;
-    case 'm': case 'F': return CHECK;
-    case 't': case 'e': case 'o': case 'i': return RECODE;
+    case JSON: return CHECK | LIST | COUNT | AT;
+    case JOBS: return CHECK | COUNT | RECODE;
+    case MAX: case FOLLOW: return CHECK;
+    case TO: case ERRORS: case 'o': case IN_PLACE: return RECODE;
     default: return 0;
     }
 }
@@ -130,13 +133,13 @@ static bool is_errors(const char *word, enum errors *errors) {
 static bool takes_value(struct request *request, int option, const char *value) {
     uint64_t number;
     switch (option) {
-    case 'f':
+    case FROM:
         request->is_by_bom = strcmp(value, "bom") == 0;
         return form_of_label(request->is_by_bom ? "utf-8" : value, &request->from);
-    case 't': return form_of_label(value, &request->to);
-    case 'e': return is_errors(value, &request->errors);
-    case 'm': return is_number(value, 1, &request->most);
-    case 'j':
+    case TO: return form_of_label(value, &request->to);
+    case ERRORS: return is_errors(value, &request->errors);
+    case MAX: return is_number(value, 1, &request->most);
+    case JOBS:
         if (!is_number(value, 1, &number)) return false;
         request->jobs = number < 1000 ? (size_t)number : 1000;
         return true;
@@ -151,9 +154,9 @@ static bool takes_value(struct request *request, int option, const char *value) 
 static void take_flag(struct request *request, int option) {
     switch (option) {
     case 'q': request->is_quiet = true; break;
-    case 'J': request->is_json = true; break;
-    case 'F': request->is_followed = true; break;
-    case 'i': request->is_in_place = true; break;
+    case JSON: request->is_json = true; break;
+    case FOLLOW: request->is_followed = true; break;
+    case IN_PLACE: request->is_in_place = true; break;
     }
 }
 
@@ -163,17 +166,33 @@ static const char *name_of_option(int option) {
     return options[i].name;
 }
 
-/* Takes the options; false where one is wrong, which is then said: by getopt_long, where there is no such option, or a value is missing. */
+/* Says what getopt_long found wrong: no such option, whose word it took last or whose letter is `optopt`; or a value that lacks, or is too
+ * many. (its own messages have the word as it is, which may be the name of a file that commands a terminal) */
+static void complain_of_option(int answer, const char *last) {
+    const char letter[] = {'-', (char)optopt, 0};
+    bool is_known = optopt > 255 || (optopt && strchr("oqh", optopt));
+    put_text(&err, "nody: ");
+    put_text(&err, is_known ? "--" : "there is no option '");
+    put_name(&err, is_known ? name_of_option(optopt) : optopt ? letter : last);
+    put_text(&err, !is_known ? "'\n" : answer == ':' ? " needs a value\n" : " takes no value\n");
+    flush_output(&err);
+}
+
+/* Takes the options; false where one is wrong, which is then said. */
 static bool takes_options(struct request *request, int which, int argc, char **argv) {
-    for (int option; (option = getopt_long(argc, argv, "o:qh", options, NULL)) != -1;) {
-        if (option == '?') return false;
+    opterr = 0;
+    for (int option; (option = getopt_long(argc, argv, ":o:qh", options, NULL)) != -1;) {
+        if (option == '?' || option == ':') {
+            complain_of_option(option, argv[optind - 1]);
+            return false;
+        }
         if (!(takers_of(option) & commands[which].bit)) {
             fprintf(stderr, "nody: %s does not take --%s\n", commands[which].name, name_of_option(option));
             return false;
         }
         if (option == 'h') show_help(which);
-        if (option == 'V') show_version();
-        if (option == 'h' || option == 'V') exit(fflush(stdout) == 0 ? IS_VALID : HAS_FAILED);
+        if (option == VERSION) show_version();
+        if (option == 'h' || option == VERSION) exit(fflush(stdout) == 0 ? IS_VALID : HAS_FAILED);
         if (!optarg) take_flag(request, option);
         else if (!takes_value(request, option, optarg)) {
             complain_of_value(name_of_option(option), optarg);

@@ -102,7 +102,7 @@ struct source {
     bool is_apart; /* blocks are read apart, at the same time */
     int error;     /* of a read, or 0 */
     nody_form_t form;
-    struct stat about; /* when it was opened */
+    struct stat about; /* when it was opened or, where it is followed, last read */
     off_t origin;      /* where the input begins in the file */
     uint64_t at;       /* the offset of the next block */
     size_t held, mark;

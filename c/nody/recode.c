@@ -123,7 +123,7 @@ static enum status recode_into(struct run *run, const char *into) {
     enum status status = open_output(&out, new.file) ? recode_to(run, &out) : fails(into);
     if (out.error) {
         errno = out.error;
-        status = fails(into);
+        status = errno == EPIPE ? HAS_FAILED : fails(into);
     }
     if (status == IS_VALID) status = keep(run, &new, into);
     close_output(&out);

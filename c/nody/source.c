@@ -23,7 +23,9 @@ bool open_source(struct source *source, const char *name, const struct request *
     source->form = request->from;
     source->is_by_bom = request->is_by_bom;
     source->is_followed = request->is_followed;
-    source->file = strcmp(name, "-") == 0 ? STDIN_FILENO : open(name, O_RDONLY | O_CLOEXEC);
+    /* (of what is replaced no pipe is waited for, which is refused then) */
+    int flags = O_RDONLY | O_CLOEXEC | (request->is_in_place ? O_NONBLOCK : 0);
+    source->file = strcmp(name, "-") == 0 ? STDIN_FILENO : open(name, flags);
     if (source->file >= 0 && fstat(source->file, &source->about) == 0) return true;
     source->error = errno;
     return false;
@@ -40,11 +42,11 @@ uint64_t size_of_source(const struct source *source) {
     return S_ISREG(source->about.st_mode) ? (uint64_t)source->about.st_size : 0;
 }
 
-/* Whether a file has fewer bytes now than it had, or ends before what is to be read next. */
+/* Whether a file has fewer bytes now than it had. (no size is compared with what was read: files of the kernel, as /proc/version, are said to
+ * have no bytes) */
 static bool is_shorter_now(const struct source *source) {
     struct stat now;
-    if (!S_ISREG(source->about.st_mode) || fstat(source->file, &now) != 0) return false;
-    return now.st_size < (source->is_followed ? lseek(source->file, 0, SEEK_CUR) : source->about.st_size);
+    return S_ISREG(source->about.st_mode) && fstat(source->file, &now) == 0 && now.st_size < source->about.st_size;
 }
 
 /* At the end of what is there: whether more may come, for which it then waits. */
@@ -60,6 +62,7 @@ static bool waits_for_more(struct source *source) {
 static size_t read_some(struct source *source, uint8_t *bytes, size_t room) {
     for (;;) {
         ssize_t count = read(source->file, bytes, room);
+        if (count > 0 && source->is_followed) fstat(source->file, &source->about);
         if (count > 0) return (size_t)count;
         if (count < 0 && has_waited(source->file, POLLIN) && !is_at_end) continue;
         if (count == 0 && waits_for_more(source)) continue;

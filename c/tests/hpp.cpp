@@ -44,6 +44,13 @@ template <class Text> struct lists<Text, std::void_t<decltype(nody::faults(std::
 static_assert(takes<std::string &>::value && takes<std::string_view>::value && takes<const char *>::value && takes<std::u16string &>::value);
 static_assert(!takes<std::string>::value && !takes<std::u16string>::value && !lists<std::string>::value && !lists<std::u16string>::value);
 static_assert(takes<std::pmr::string &>::value && !takes<std::pmr::string>::value && !takes<const std::pmr::u16string>::value && !lists<std::pmr::string>::value);
+// (a type of the user that owns its text, and gives a view of it)
+struct owner : std::string {};
+struct keeper {
+    std::string text;
+    operator std::string_view() const { return text; }
+};
+static_assert(takes<owner &>::value && takes<const keeper &>::value && !takes<owner>::value && !takes<keeper>::value && !lists<const owner>::value && !lists<keeper>::value);
 static_assert(!takes<const std::string>::value && !takes<const std::u16string>::value && !lists<const std::string>::value && !lists<const std::u16string>::value);
 
 // Whether a decoder, which is no temporary or is one, gives ranges over a part of that type.
@@ -55,6 +62,7 @@ static_assert(feeds<nody::decoder &, std::string &>::value && feeds<nody::decode
 static_assert(!feeds<nody::decoder &, std::string>::value && !feeds_faults<nody::decoder &, std::string>::value);
 static_assert(!feeds<nody::decoder &, const std::string>::value && !feeds_faults<nody::decoder &, const std::string>::value);
 static_assert(feeds<nody::decoder &, std::pmr::string &>::value && !feeds<nody::decoder &, std::pmr::string>::value && !feeds_faults<nody::decoder &, std::pmr::string>::value);
+static_assert(feeds<nody::decoder &, owner &>::value && !feeds<nody::decoder &, owner>::value && !feeds_faults<nody::decoder &, owner>::value);
 static_assert(!feeds<nody::decoder, std::string_view>::value && !feeds_faults<nody::decoder, std::string_view>::value);
 
 #if __cplusplus >= 202002L
@@ -187,6 +195,13 @@ static void try_recode() {
     expect(nody::recode(form::utf8, form::utf8, "").empty() && nody::recoded_len(form::utf8, form::utf16le, "abc") == 6U, "recode of nothing, and its length");
     expect(nody::to_utf16("h\xC3\xA9\xF0\x9F\x98\x80\xFF") == u"h\u00E9\U0001F600\uFFFD" && nody::to_utf8(u"h\u00E9\U0001F600") == "h\xC3\xA9\xF0\x9F\x98\x80", "to_utf16, to_utf8");
     expect(nody::to_utf8(std::u16string(1, 0xD800)) == "\xEF\xBF\xBD" && nody::to_utf16("").empty() && nody::to_utf8(u"").empty(), "to_utf8 of a surrogate");
+    bool is_refused = false;
+    try {
+        nody::recode(static_cast<form>(3), form::utf8, "a");
+    } catch (const std::length_error &) {
+        is_refused = true;
+    }
+    expect(is_refused, "recode from no form");
     std::string out = "before ";
     auto fault = nody::recode_strict(form::utf8, form::utf8, "caf\xE9 au", out);
     expect(fault && fault->offset == 3 && fault->kind == nody::kind::interrupted_sequence && out == "before caf", "recode_strict");

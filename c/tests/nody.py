@@ -358,9 +358,12 @@ def check_words(program, name):
                   ["recode", "--errors", "ignore"], ["recode", "--in-place"], ["recode", "--in-place", "-"], ["recode", "--in-place", "-o", "x", name],
                   ["recode", name, name], ["at", name], ["at", name, "0", "0"], ["check", "--follow", name, name], ["check", "-x"], ["check", "--jobs", "0"], ["recode", "--json"]):
         says([program, *words], 2, b"", b"usage: nody ")
-    for words, want in ((["-zq"], b"'?z'?"), (["--none"], b"--none"), (["--quiet=3"], b"quiet"), (["--max"], b"max")):
-        told = run([program, "check", *words])
-        expect(told[0] == 2 and re.search(want, told[2].split(b"\n")[0]), f"{words}: {told}")
+    for word, want in (("-zq", b"there is no option '-z'"), ("-f", b"there is no option '-f'"), ("--none", b"there is no option '--none'"), ("--j", b"there is no option '--j'"),
+                       ("--quiet=3", b"--quiet takes no value"), ("--max", b"--max needs a value"), ("-q\033", b"there is no option '-\\033'"),
+                       ("--\033[2J\n", b"there is no option '--\\033[2J\\012'"), ("--json=\033[2J", b"--json takes no value")):
+        told = run([program, "check", word])
+        expect(told[0] == 2 and told[2].split(b"\n")[0] == b"nody: " + want, f"{word!r}: {told}")
+    says([program, "recode", "-o"], 2, b"", b"nody: --output needs a value\n")
     for words in ([], ["chek"], ["-q"]):
         says([program, *words], 2, b"", b"usage: nody check|list")
     for offset in ("", "x", "1x", "0x", "-1", "99999999999999999999"):
@@ -476,6 +479,12 @@ def check_replaced(folder, program):
     os.remove(f"{place}/dangling")
     says([program, "recode", "--to", "utf-16be", "-o", out, out], 0, b"", b"")
     expect(contents(out) == recoded(data, "utf-8", "utf-16be", "replace"), "-o on the input itself")
+    os.mkfifo(f"{place}/pipe")
+    says([program, "recode", "--in-place", f"{place}/pipe"], 3, b"", f"nody: {place}/pipe: it is no regular file\n".encode())
+    reader = subprocess.Popen(["head", "-c", "1", f"{place}/pipe"], stdout=subprocess.DEVNULL)
+    says([program, "recode", "/dev/zero", "-o", f"{place}/pipe"], 3, b"", b"")
+    reader.wait()
+    os.remove(f"{place}/pipe")
     says([program, "recode", "--in-place", place, f"{place}/none", name, "--from", "utf-16"], 3, b"", b"Is a directory")
     expect(contents(name) == recoded(data, "utf-8", "utf-8", "replace"), "in place, after files that cannot be")
     expect(sorted(os.listdir(place)) == ["link", "new", "out", "text"], f"what is left: {os.listdir(place)}")
@@ -711,6 +720,31 @@ def check_passed_over(folder, program):
     expect(ran.returncode == 1, f"SIGTERM then ends it: {ran.returncode}")
 
 
+def check_follow_kernel(program):
+    """A file of the kernel, which is said to have no bytes, becomes no shorter by being read."""
+    ran = subprocess.Popen([program, "check", "--follow", "/proc/version"], stdout=subprocess.PIPE, stderr=subprocess.PIPE)
+    time.sleep(0.5)
+    ran.send_signal(signal.SIGINT)
+    told = ran.communicate(timeout=10)
+    expect(ran.returncode == 0 and told == (b"/proc/version: valid UTF-8\n", b""), f"--follow of /proc/version: {ran.returncode} {told[0][:99]} {told[1][:99]}")
+
+
+def check_follow_renamed(folder, program):
+    """A file that is renamed is followed on, as by tail -f, and not the one that gets its name."""
+    name = f"{folder}/renamed"
+    with open(name, "wb") as file:
+        file.write(b"a\n")
+    ran = subprocess.Popen([program, "check", "--follow", name], stdout=subprocess.PIPE)
+    time.sleep(0.3)
+    os.rename(name, f"{name}.1")
+    for it, more in ((name, b"\xfe"), (f"{name}.1", b"\xff")):
+        with open(it, "ab") as file:
+            file.write(more)
+    expect(reads(ran.stdout, 1).startswith(f"{name}:2:1: offset 2: ".encode()), "--follow of a file that is renamed")
+    ran.send_signal(signal.SIGINT)
+    ran.communicate(timeout=10)
+
+
 def check_follow_input(folder, program):
     """Standard input that is a file of which the front was read already, and which becomes shorter."""
     name = f"{folder}/input"
@@ -925,6 +959,8 @@ def main():
             check_races(folder, compiler, build)
             check_follow(folder, built, reasons)
             check_passed_over(folder, built)
+            check_follow_kernel(built)
+            check_follow_renamed(folder, built)
             check_follow_input(folder, built)
             check_slow(built)
             check_unblocked(built)

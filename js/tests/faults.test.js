@@ -145,6 +145,11 @@ test("pieces by their numbers", () => {
             assert.equal(offsetOf(long, number, encoding), starts[number], encoding);
             assert.deepEqual([numberOf(long, starts[number], encoding), numberOf(long, starts[number] + 1, encoding)], [number, number + 1], encoding);
         }
+        // (near the end of a window)
+        for (let at = (1 << 20) - 20; at < (1 << 20) + 8; at++) {
+            const number = starts.filter((it) => it < at).length;
+            assert.deepEqual([numberOf(long, at, encoding), offsetOf(long, number, encoding)], [number, starts[number]], `${encoding} ${at}`);
+        }
         assert.deepEqual([offsetOf(long, starts.length, encoding), offsetOf(long, 2 ** 53 - 1, encoding), numberOf(long, 2 ** 53 - 1, encoding)], [null, null, starts.length]);
     }
     assert.deepEqual([offsetOf(ofHex("68c3a9e28241"), 2), numberOf(ofHex("68c3a9e28241"), 3), offsetOf(new ArrayBuffer(0), 0)], [3, 2, null]);

@@ -1,11 +1,13 @@
 // What callers do that nobody should: bytes that go away, of other realms, or that lie; options that run code.
 import assert from "node:assert/strict";
 import { spawnSync } from "node:child_process";
+import { readFileSync } from "node:fs";
 import { createRequire } from "node:module";
 import test from "node:test";
 import vm from "node:vm";
 import { MessageChannel, receiveMessageOnPort } from "node:worker_threads";
 import { Decoder, Ends, FaultError, Recoder, boundaryAfter, boundaryBefore, changedRange, charCount, decode, encodingOfBom, faults, firstFault, isValid, numberOf, offsetOf, pieces, piecesBack, recode, recodedLength, recoderStream, streamFaults, streamPieces, streamText, undecidedLength } from "noddychest";
+import * as api from "../api.js";
 import { chances, damaged, hexOf, ofHex } from "./help.js";
 
 const GONE = { name: "TypeError", message: /^noddychest: the bytes are gone: their buffer was detached, or made smaller$/ };
@@ -344,4 +346,97 @@ test("text that is longer than the module's memory, and offsets in it", () => {
     assert.deepEqual([charCount(bytes), recodedLength(bytes, "utf8", "utf8"), boundaryBefore(bytes, 39_999_999)], [40_000_000, 40_000_002, 39_999_999]);
     const { text, faults: wrong } = decode(bytes);
     assert.deepEqual([text.length, text[text.length - 1], wrong.length], [40_000_000, "a", 1]);
+});
+
+// Calls something from so many calls deep, of which the first has some arguments more.
+const deep = (depth, call) => (depth > 0 ? (deep(depth - 1, call), 0) : (call(), 0));
+const wide = (depth, call, ..._) => deep(depth, call) + 1;
+
+test("where the stack is full a call throws, and those after it answer as before", () => {
+    const module = new WebAssembly.Module(readFileSync(new URL("../noddychest.wasm", import.meta.url)));
+    api.use(new WebAssembly.Instance(module), module);
+    const bytes = damaged(chances(31), 200);
+    const want = recode(bytes, "utf-16be", "utf-8", { errors: "maximal" });
+    const [decoder, recoder, found] = [new api.Decoder(), new api.Recoder("utf-8", "utf-16le"), api.faults(damaged(chances(32), 9000))];
+    const [held, made] = [[...decoder.feed(ofHex("41e282"))], [...recoder.feed(ofHex("41e282"))]];
+    const first = found.next().value;
+    const call = () => api.recode(bytes, "utf-16be", "utf-8", { errors: "maximal" });
+    let thrown = 0;
+    const fits = (depth, more) => {
+        try {
+            return wide(depth, call, ...Array(more)) > 0;
+        } catch (it) {
+            thrown++;
+            assert.equal(it.message, "Maximum call stack size exceeded");
+            return false;
+        }
+    };
+    for (let i = 0; i < 20000; i++) wide(20, call);
+    for (let more = 0; more < 3; more++) {
+        let [some, much] = [10, 40000];
+        while (some + 1 < much) fits((some + much) >> 1, more) ? (some = (some + much) >> 1) : (much = (some + much) >> 1);
+        for (let depth = much; depth < much + 16; depth++) fits(depth, more);
+    }
+    assert.ok(thrown > 20);
+    assert.deepEqual(call(), want);
+    assert.deepEqual([...held, ...decoder.feed(ofHex("ac"))].map((it) => it.char), ["A", "€"]);
+    assert.deepEqual([...made, ...recoder.feed(ofHex("ac"))], [0x41, 0, 0xac, 0x20]);
+    assert.deepEqual([first, ...found], [...faults(damaged(chances(32), 9000))]);
+});
+
+test("a piece that could not be made is not lost", () => {
+    const { fromCodePoint } = String;
+    const once = (call) => {
+        String.fromCodePoint = () => {
+            throw new RangeError("no room");
+        };
+        try {
+            assert.throws(call, { message: "no room" });
+        } finally {
+            String.fromCodePoint = fromCodePoint;
+        }
+    };
+    const bytes = ofHex("41c3a9ff42");
+    const [decoder, ends] = [new Decoder(), new Ends(bytes)];
+    once(() => decoder.feed(bytes).next());
+    const given = decoder.feed(ofHex("43"));
+    assert.equal(given.next().value.char, "A");
+    once(() => given.next());
+    assert.deepEqual([...decoder.feed(ofHex("44"))].map((it) => it.char ?? it.error), ["é", "NonUtf8Byte", "B", "C", "D"]);
+    once(() => ends.next());
+    once(() => ends.nextBack());
+    assert.deepEqual([ends.next().char, ends.nextBack().char, ends.next().char, ends.nextBack().error, ends.next()], ["A", "B", "é", "NonUtf8Byte", null]);
+});
+
+test("a decoder is as it was, where the module fails on the way", () => {
+    const { setBigUint64 } = DataView.prototype;
+    const failing = (call) => {
+        DataView.prototype.setBigUint64 = () => {
+            throw new RangeError("no room");
+        };
+        try {
+            assert.throws(call, { message: "no room" });
+        } finally {
+            DataView.prototype.setBigUint64 = setBigUint64;
+        }
+    };
+    // (invalid bytes are rare: so text is passed over)
+    const rare = ofHex(`ff${"41".repeat(60)}`);
+    const decoder = new Decoder();
+    const first = [...decoder.feedFaults(rare)];
+    failing(() => decoder.feedFaults(ofHex("4242ff")));
+    assert.deepEqual([...first, ...decoder.feedFaults(ofHex("42ff"))].map((it) => it.offset), [0, 62]);
+    // (parts that wait, of which a generator begins to read)
+    const other = new Decoder();
+    for (const it of [rare, rare, ofHex("4242ff")]) other.feed(it);
+    const given = other.feedFaults(ofHex("42"));
+    assert.equal(given.next().value.offset, 0);
+    failing(() => [...given]); // (it gives one at 61 before)
+    assert.deepEqual([...other.feedFaults(ofHex("ff"))].map((it) => it.offset), [124, 126]);
+});
+
+test("a host without TextDecoder is told as that", () => {
+    const program = 'delete globalThis.TextDecoder; const { decode, faults } = require("noddychest"); console.log([...faults(Uint8Array.of(255))].length); try { decode(Uint8Array.of(65)); } catch (it) { console.log(it.message); }';
+    const ran = spawnSync(process.execPath, ["-e", program], { cwd: new URL("..", import.meta.url), encoding: "utf8" });
+    assert.equal(ran.stdout, "1\nTextDecoder is not defined\n", ran.stderr);
 });

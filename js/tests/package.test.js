@@ -79,8 +79,8 @@ test("packed, installed offline and imported", { skip: needs("npm") }, () => {
 });
 
 test("the types are those of the calls", { skip: needs("tsc") }, () => {
-    const ran = spawnSync("tsc", ["--noEmit", "--strict", "--target", "es2022", "--module", "node16", "--moduleResolution", "node16", at("types.ts")], { encoding: "utf8" });
-    assert.equal(ran.stdout, "");
+    const words = ["--noEmit", "--strict", "--exactOptionalPropertyTypes", "--target", "es2022", "--module", "node16", "--moduleResolution", "node16"];
+    for (const more of [[at("types.ts")], ["--lib", "es2022", at("without-dom.ts")]]) assert.equal(spawnSync("tsc", [...words, ...more], { encoding: "utf8" }).stdout, "");
 });
 
 test("what is exported is what the types declare", async () => {

@@ -45,6 +45,8 @@ try {
 } catch (error) {
     if (error instanceof FaultError) console.log(error.offset + error.length + error.cause.offset, error.error === "Incomplete", error.message);
 }
+// @ts-expect-error: a stream of strings is no bytes
+streamText(new ReadableStream<string>());
 // @ts-expect-error: no such way
 recode(bytes, "utf-8", "utf-8", { errors: "ignore" });
 // @ts-expect-error: no such option
