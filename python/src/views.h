@@ -126,6 +126,6 @@ PyObject *handled(PyObject *module, PyObject *args);
 
 /* ---- what parts.c has ---- */
 
-extern PyType_Spec part_spec, stream_spec;
+extern PyType_Spec part_spec, stream_spec, turn_spec;
 
 #endif
