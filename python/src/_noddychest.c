@@ -682,20 +682,46 @@ static PyObject *run_new(PyTypeObject *type, PyObject *args, PyObject *names) {
     return (PyObject *)self;
 }
 
+/* The piece that ends at a place of some bytes, with the error that the forward cut names. What is near is copied: so it is the same bytes
+ * that are asked twice. (Where others changed them, a character may lie over the place) */
+static nody_piece_t piece_before(nody_form_t form, const uint8_t *bytes, size_t len, size_t end) {
+    uint8_t near[2 * LONGEST];
+    size_t most = form == NODY_FORM_UTF8 ? LONGEST : LONGEST - end % 2, front = end < most ? end : most;
+    size_t back = len - end < LONGEST ? len - end : LONGEST;
+    nody_piece_t piece = {0, 0, NODY_KIND_NONE}, named;
+    if (front == 0)
+        return piece;
+    memcpy(near, bytes + end - front, front + back);
+    piece = last_piece(form, near, front);
+    if (piece.kind == NODY_KIND_OK)
+        return piece;
+    named = first_piece(form, near + front - piece.len, piece.len + back);
+    return named.kind == NODY_KIND_OK ? piece : named;
+}
+
 static PyObject *run_back(Run *self) {
-    const uint8_t *bytes = self->view.buf;
     size_t end = self->offset;
-    nody_piece_t piece = last_piece(self->form, bytes, end);
+    nody_piece_t piece = piece_before(self->form, self->view.buf, (size_t)self->view.len, end);
     PyObject *made;
     if (piece.kind == NODY_KIND_NONE)
         return NULL;
     self->offset -= piece.len;
-    if (piece.kind != NODY_KIND_OK)
-        piece = first_piece(self->form, bytes + self->offset, (size_t)self->view.len - self->offset);
     made = make_piece(&self->maker, self->offset, piece);
     if (made == NULL)
         self->offset = end;
     return made;
+}
+
+/* Fills the block from a copy: the bytes may be changed by others. (It has all that so many pieces have, and what decides the last one) */
+static void next_block(Run *self) {
+    uint8_t copy[LONGEST * (BLOCK + 1)];
+    size_t left = (size_t)self->view.len - self->read, len = left < sizeof copy ? left : sizeof copy;
+    if (len > 0)
+        memcpy(copy, (const uint8_t *)self->view.buf + self->read, len);
+    self->at = 0;
+    self->count = first_pieces(self->form, copy, len, self->block);
+    for (size_t i = 0; i < self->count; i++)
+        self->read += self->block[i].len;
 }
 
 static PyObject *run_next(PyObject *object) {
@@ -706,13 +732,9 @@ static PyObject *run_next(PyObject *object) {
     if (self->back)
         return run_back(self);
     if (self->at == self->count) {
-        const uint8_t *left = (const uint8_t *)self->view.buf + self->read;
-        self->at = 0;
-        self->count = first_pieces(self->form, left, (size_t)self->view.len - self->read, self->block);
+        next_block(self);
         if (self->count == 0)
             return NULL;
-        for (size_t i = 0; i < self->count; i++)
-            self->read += self->block[i].len;
     }
     piece = self->block[self->at++];
     self->offset += piece.len;
