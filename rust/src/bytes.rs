@@ -15,7 +15,6 @@ use crate::{Form, Piece};
 /// let text: String = noddychest::pieces(b"na\xC3\xAFve \xE2\x82").map(|piece| piece.result.unwrap_or('\u{FFFD}')).collect();
 /// assert_eq!(text, "naïve \u{FFFD}\u{FFFD}");
 /// ```
-#[must_use = "iterators do nothing unless consumed"]
 pub fn pieces(bytes: &[u8]) -> Pieces<'_> {
     Pieces::from(bytes)
 }
@@ -83,7 +82,6 @@ fn ascii_before_line(bytes: &[u8]) -> usize {
 /// let faults = noddychest::faults(b"ok\xFF, but \xE2\x82");
 /// assert_eq!(faults.map(|fault| fault.offset()).collect::<Vec<_>>(), [2, 9, 10]);
 /// ```
-#[must_use = "iterators do nothing unless consumed"]
 pub fn faults(bytes: &[u8]) -> Faults<'_> {
     Faults::from(bytes)
 }
