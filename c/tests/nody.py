@@ -9,6 +9,7 @@ pipes, signals, reads that are interrupted. It needs Linux; what needs root, or 
 last line is 'N passed, M failed'.
 """
 import codecs
+import contextlib
 import fcntl
 import json
 import os
@@ -682,6 +683,16 @@ def reads(file, count, seconds=10):
     return got
 
 
+def waits_for_open(ran, name, seconds=10):
+    """Until a program has opened a file: then its signals are set, and the name may go."""
+    end = time.time() + seconds
+    while time.time() < end:
+        with contextlib.suppress(OSError):
+            if any(os.readlink(f"/proc/{ran.pid}/fd/{it}") == name for it in os.listdir(f"/proc/{ran.pid}/fd")):
+                return
+        time.sleep(0.02)
+
+
 def check_follow(folder, program, reasons):
     name = f"{folder}/growing"
     with open(name, "wb") as file:
@@ -723,6 +734,7 @@ def check_passed_over(folder, program):
 def check_follow_kernel(program):
     """A file of the kernel, which is said to have no bytes, becomes no shorter by being read."""
     ran = subprocess.Popen([program, "check", "--follow", "/proc/version"], stdout=subprocess.PIPE, stderr=subprocess.PIPE)
+    waits_for_open(ran, "/proc/version")
     time.sleep(0.5)
     ran.send_signal(signal.SIGINT)
     told = ran.communicate(timeout=10)
@@ -735,7 +747,7 @@ def check_follow_renamed(folder, program):
     with open(name, "wb") as file:
         file.write(b"a\n")
     ran = subprocess.Popen([program, "check", "--follow", name], stdout=subprocess.PIPE)
-    time.sleep(0.3)
+    waits_for_open(ran, name)
     os.rename(name, f"{name}.1")
     for it, more in ((name, b"\xfe"), (f"{name}.1", b"\xff")):
         with open(it, "ab") as file:
