@@ -186,8 +186,8 @@ check-python:
 wheel:
 	@$(PYTHON) python/wheel "$(BUILD)/wheels"
 
-# (the paths go as they are, with their spaces)
-PATHS = PREFIX='$(PREFIX)' DESTDIR='$(DESTDIR)' BINDIR='$(BINDIR)' LIBDIR='$(LIBDIR)' INCLUDEDIR='$(INCLUDEDIR)' DATADIR='$(DATADIR)'
+# (the paths go as they are; c/install says which it does not take)
+PATHS = $(foreach it,PREFIX DESTDIR BINDIR LIBDIR INCLUDEDIR DATADIR,$(it)=$(call QUOTED,$($(it))))
 
 install: all
 	@$(PATHS) sh c/install install "$(BUILD)"

@@ -94,6 +94,8 @@ BY_BYTES = {"utf_chars/utf8_char.rt": ["from_str_start"], "encode_unicode/text_w
 
 # Methods of the crate alone that take a character by reference (windows.py).
 LENT = {"utf_chars/utf8_char.rt": ["scalar"]}
+# What is asked of the second unit of a code, and how it is asked of both at once (windows.py).
+OF_BOTH = {"utf_chars/utf16_char.rt": ("second == 0", "(first as u32 | (second as u32) << 16) < 0x1_0000")}
 
 # What goes by lanes: of these files there is a copy for processors with AVX2 (wide.py), over the types of all other files.
 WIDE = ("utf_lanes/",) + tuple(f"recoding/{it}.rt" for it in (

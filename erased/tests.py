@@ -177,6 +177,8 @@ CODES = [
     ("fn scalar(&self) {}\nlet (code, len) = last_code(x[1..].as_bytes());\nat -= len;\nSome((at, from_array_unchecked(code)))\n",
      "fn scalar(&self) {}\nlet ([a, b, c, d], len) = last_code(x[1..].as_bytes());\nat -= len;\nSome((at, from_array_unchecked([a, b, c, d])))\n"),
 ]
+# Of two units whether there is a second is asked of both.
+PAIR = "if second == 0 {\n", "if (first as u32 | (second as u32) << 16) < 0x1_0000 {\n"
 
 # And in the copy for AVX2: what is put in line stays, and of each other function there is one for that processor.
 FOR_AVX2 = '#[target_feature(enable = "avx2,bmi1,bmi2,lzcnt,popcnt")]\n'
@@ -232,11 +234,11 @@ def by(text, wanted, name="utf_chars/utf8_char.rt"):
     return None if have == (text if wanted is None else wanted) and text else f"it writes {have!r}"
 
 
-def takes_apart(text, wanted):
+def takes_apart(text, wanted, name="utf_chars/utf8_char.rt"):
     try:
-        have = apart(text, "utf_chars/utf8_char.rt" if "(self)" in text or not text else "utf_base/a.rt")
+        have = apart(text, "utf_base/a.rt" if "(&self)" in text else name)
     except Stop as stop:
-        return None if "no method is as rules.LENT names scalar" in str(stop) and not text else f"it says {stop}"
+        return None if re.search(r"no method is as rules.LENT names scalar|nothing is as rules.OF_BOTH names", str(stop)) and not text else f"it says {stop}"
     return None if have == wanted and text else f"it writes {have!r}"
 
 
@@ -283,6 +285,7 @@ def main():
     tried += [(text, writes(text, without_clauses(text), True)) for text, _ in IN_PART[1:3]]
     tried += [(text, by(text, wanted)) for text, wanted in OVER_BYTES]
     tried += [(text, takes_apart(text, wanted)) for text, wanted in CODES] + [("a method that borrows is missing", takes_apart("", ""))]
+    tried += [(PAIR[0], takes_apart(*PAIR, "utf_chars/utf16_char.rt")), ("a question of units is missing", takes_apart("", "", "utf_chars/utf16_char.rt"))]
     tried += [(PART, by(PART, OF_PART, "encode_unicode/text_window.rt"))]
     tried += [("a function over bytes is missing", by("", "", "encode_unicode/text_window.rt"))]
     tried += [("tokens are all of a text", None if "".join(it.text for it in tokens(text, "")) == text else "lost") for text, _ in WRITTEN]

@@ -137,10 +137,16 @@ def by_end(text):
 
 def apart(text, name):
     """An erased file of either mode. rustc hands the four bytes of a code on in one register, and LLVM no longer sees which of them tells its length.
-    So a method of `rules.LENT` borrows them, and where they are an answer each is named."""
+    So a method of `rules.LENT` borrows them, and where they are an answer each is named. Two units are one register too: whether there is a second is
+    asked of that (`rules.OF_BOTH`), and LLVM knows the answer of each length of a code."""
     for method in rules.LENT.get(name, ()):
         if text.count(f"fn {method}(self)") != 1:
             raise Stop(f"{name}: no method is as rules.LENT names {method}")
         text = text.replace(f"fn {method}(self)", f"fn {method}(&self)")
+    if name in rules.OF_BOTH:
+        asked, of_both = rules.OF_BOTH[name]
+        if asked not in text:
+            raise Stop(f"{name}: nothing is as rules.OF_BOTH names `{asked}`")
+        text = text.replace(asked, of_both)
     code = re.compile(r"let \((\w+), (\w+)\) = (last_code\(.*?\));(.*?)\bfrom_array_unchecked\(\1\)", re.S)
     return code.sub(r"let ([a, b, c, d], \2) = \3;\4from_array_unchecked([a, b, c, d])", text)

@@ -189,20 +189,6 @@ static PyObject *check(PyObject *module, PyObject *data) {
     return Py_NewRef(Py_None);
 }
 
-static size_t count_pieces(nody_form_t form, const uint8_t *bytes, size_t len) {
-    size_t count = 0;
-    for (size_t at = 0; at < len;) {
-        size_t valid = valid_up_to(form, bytes + at, len - at);
-        count += valid_chars(form, bytes + at, valid);
-        at += valid;
-        if (at < len) {
-            count++;
-            at += fault_len(form, len - at);
-        }
-    }
-    return count;
-}
-
 /* Counts all pieces of a view, and its line ends where these are asked for. Answers 0 with an error. */
 static int count_all(nody_form_t form, const Py_buffer *view, size_t *pieces, size_t *lines) {
     Window window;
@@ -214,7 +200,7 @@ static int count_all(nody_form_t form, const Py_buffer *view, size_t *pieces, si
     thread = let_lock_go(len);
     for (size_t at = 0; at < len; at += window.len) {
         next_window(&window, form, (const uint8_t *)view->buf + at, len - at);
-        *pieces += count_pieces(form, window.bytes, window.len);
+        *pieces += nody_char_count(form, window.bytes, window.len);
         if (lines != NULL)
             *lines += line_count(form, window.bytes, window.len);
     }
@@ -238,54 +224,49 @@ static PyObject *char_count(PyObject *module, PyObject *args) {
     return answer;
 }
 
+/* How many pieces begin before a place, window by window. */
+static size_t count_before(Window *window, nody_form_t form, const Py_buffer *view, size_t place) {
+    size_t count = 0;
+    window->most = COUNTED;
+    for (size_t at = 0; at < place; at += window->len) {
+        next_window(window, form, (const uint8_t *)view->buf + at, (size_t)view->len - at);
+        count += nody_number_of(form, window->bytes, window->len, place - at);
+    }
+    return count;
+}
+
 /* number_of(form, data, offset): how many pieces begin before an offset. */
 static PyObject *number_of(PyObject *module, PyObject *args) {
     Py_buffer view;
+    Window window;
     nody_form_t form;
-    size_t pieces = 0;
     PyObject *offset, *answer = NULL;
-    Py_ssize_t at;
+    Py_ssize_t place;
     (void)module;
     if (!PyArg_ParseTuple(args, "O&O&O:number_of", take_form, &form, take_bytes, &view, &offset))
         return NULL;
-    at = offset_within(offset, view.len);
-    if (at >= 0) {
-        Py_buffer front = view;
-        front.len = (Py_ssize_t)nody_boundary_after(form, view.buf, (size_t)view.len, (size_t)at);
-        if (count_all(form, &front, &pieces, NULL))
-            answer = PyLong_FromSize_t(pieces);
+    place = offset_within(offset, view.len);
+    if (place >= 0 && open_window(&window, &view)) {
+        PyThreadState *thread = let_lock_go((size_t)place);
+        size_t count = count_before(&window, form, &view, (size_t)place);
+        take_lock(thread);
+        close_window(&window);
+        answer = PyLong_FromSize_t(count);
     }
     PyBuffer_Release(&view);
     return answer;
 }
 
-/* Where the piece with a number begins in some bytes that have it. */
-static size_t offset_in(nody_form_t form, const uint8_t *bytes, size_t len, size_t number) {
-    nody_piece_t block[BLOCK];
-    size_t at = 0;
-    if (form == NODY_FORM_UTF8)
-        return nody_utf8_offset_of(bytes, len, number);
-    while (at < len) {
-        size_t here = first_pieces(form, bytes + at, len - at, block);
-        for (size_t i = 0; i < here; i++) {
-            if (number-- == 0)
-                return at;
-            at += block[i].len;
-        }
-    }
-    return at;
-}
-
-/* The same of all bytes, window by window, of which the first is short. Answers their number if there are no more pieces. */
+/* Where the piece with a number begins, window by window, of which the first is short; the length if there are no more pieces. */
 static size_t find_number(Window *window, nody_form_t form, const Py_buffer *view, size_t number) {
     size_t len = (size_t)view->len;
     window->most = FIRST_COUNTED;
     for (size_t at = 0; at < len; at += window->len) {
         size_t here;
         next_window(window, form, (const uint8_t *)view->buf + at, len - at);
-        here = count_pieces(form, window->bytes, window->len);
+        here = nody_char_count(form, window->bytes, window->len);
         if (number < here)
-            return at + offset_in(form, window->bytes, window->len, number);
+            return at + nody_offset_of(form, window->bytes, window->len, number);
         number -= here;
         window->most = 2 * window->most < COUNTED ? 2 * window->most : COUNTED;
     }
@@ -701,20 +682,46 @@ static PyObject *run_new(PyTypeObject *type, PyObject *args, PyObject *names) {
     return (PyObject *)self;
 }
 
+/* The piece that ends at a place of some bytes, with the error that the forward cut names. What is near is copied: so it is the same bytes
+ * that are asked twice. (Where others changed them, a character may lie over the place) */
+static nody_piece_t piece_before(nody_form_t form, const uint8_t *bytes, size_t len, size_t end) {
+    uint8_t near[2 * LONGEST];
+    size_t most = form == NODY_FORM_UTF8 ? LONGEST : LONGEST - end % 2, front = end < most ? end : most;
+    size_t back = len - end < LONGEST ? len - end : LONGEST;
+    nody_piece_t piece = {0, 0, NODY_KIND_NONE}, named;
+    if (front == 0)
+        return piece;
+    memcpy(near, bytes + end - front, front + back);
+    piece = last_piece(form, near, front);
+    if (piece.kind == NODY_KIND_OK)
+        return piece;
+    named = first_piece(form, near + front - piece.len, piece.len + back);
+    return named.kind == NODY_KIND_OK ? piece : named;
+}
+
 static PyObject *run_back(Run *self) {
-    const uint8_t *bytes = self->view.buf;
     size_t end = self->offset;
-    nody_piece_t piece = last_piece(self->form, bytes, end);
+    nody_piece_t piece = piece_before(self->form, self->view.buf, (size_t)self->view.len, end);
     PyObject *made;
     if (piece.kind == NODY_KIND_NONE)
         return NULL;
     self->offset -= piece.len;
-    if (piece.kind != NODY_KIND_OK)
-        piece = first_piece(self->form, bytes + self->offset, (size_t)self->view.len - self->offset);
     made = make_piece(&self->maker, self->offset, piece);
     if (made == NULL)
         self->offset = end;
     return made;
+}
+
+/* Fills the block from a copy: the bytes may be changed by others. (It has all that so many pieces have, and what decides the last one) */
+static void next_block(Run *self) {
+    uint8_t copy[LONGEST * (BLOCK + 1)];
+    size_t left = (size_t)self->view.len - self->read, len = left < sizeof copy ? left : sizeof copy;
+    if (len > 0)
+        memcpy(copy, (const uint8_t *)self->view.buf + self->read, len);
+    self->at = 0;
+    self->count = first_pieces(self->form, copy, len, self->block);
+    for (size_t i = 0; i < self->count; i++)
+        self->read += self->block[i].len;
 }
 
 static PyObject *run_next(PyObject *object) {
@@ -725,13 +732,9 @@ static PyObject *run_next(PyObject *object) {
     if (self->back)
         return run_back(self);
     if (self->at == self->count) {
-        const uint8_t *left = (const uint8_t *)self->view.buf + self->read;
-        self->at = 0;
-        self->count = first_pieces(self->form, left, (size_t)self->view.len - self->read, self->block);
+        next_block(self);
         if (self->count == 0)
             return NULL;
-        for (size_t i = 0; i < self->count; i++)
-            self->read += self->block[i].len;
     }
     piece = self->block[self->at++];
     self->offset += piece.len;
@@ -1017,9 +1020,9 @@ static PyMethodDef functions[] = {{"supported", supported, METH_NOARGS, NULL},
                                   {NULL, NULL, 0, NULL}};
 
 static int begin_module(PyObject *module) {
-    PyType_Spec *specs[] = {&run_spec, &ends_spec, &faults_spec, &part_spec, &stream_spec, &recoder_spec};
-    const char *names[] = {"Run", "Ends", "Faults", "Part", "Stream", "Recoder"};
-    for (int i = 0; i < 6; i++) {
+    PyType_Spec *specs[] = {&run_spec, &ends_spec, &faults_spec, &part_spec, &stream_spec, &recoder_spec, &turn_spec};
+    const char *names[] = {"Run", "Ends", "Faults", "Part", "Stream", "Recoder", "Turn"};
+    for (int i = 0; i < 7; i++) {
         PyObject *type = PyType_FromSpec(specs[i]);
         if (type == NULL || PyModule_AddObject(module, names[i], type) < 0) {
             Py_XDECREF(type);

@@ -32,11 +32,6 @@ static inline uint16_t unit_len(uint16_t unit) {
     return (uint16_t)(1 + (unit >= 0x80) + (unit >= 0x800) - ((unit & 0xF800) == 0xD800));
 }
 
-/* Whether a unit of valid text ends no pair. */
-static inline uint8_t is_first(uint16_t unit) {
-    return (unit & 0xFC00) != 0xDC00;
-}
-
 static inline uint16_t same(const uint8_t *bytes) {
     uint16_t unit;
     memcpy(&unit, bytes, sizeof unit);
@@ -54,8 +49,6 @@ static inline uint8_t is_line_end(const uint8_t *byte) {
 
 #define same_len(bytes) unit_len(same(bytes))
 #define swapped_len(bytes) unit_len(swapped(bytes))
-#define same_first(bytes) is_first(same(bytes))
-#define swapped_first(bytes) is_first(swapped(bytes))
 #define same_line_end(bytes) (same(bytes) == '\n')
 #define swapped_line_end(bytes) (swapped(bytes) == '\n')
 
@@ -64,8 +57,6 @@ static inline uint8_t is_line_end(const uint8_t *byte) {
     attribute static size_t line_ends##suffix(const uint8_t *in, size_t len) { COUNT(in, len, 1, uint8_t, is_line_end); }           \
     attribute static size_t same_lens##suffix(const uint8_t *in, size_t len) { COUNT(in, len, 2, uint16_t, same_len); }             \
     attribute static size_t swapped_lens##suffix(const uint8_t *in, size_t len) { COUNT(in, len, 2, uint16_t, swapped_len); }       \
-    attribute static size_t same_firsts##suffix(const uint8_t *in, size_t len) { COUNT(in, len, 2, uint8_t, same_first); }          \
-    attribute static size_t swapped_firsts##suffix(const uint8_t *in, size_t len) { COUNT(in, len, 2, uint8_t, swapped_first); }    \
     attribute static size_t same_line_ends##suffix(const uint8_t *in, size_t len) { COUNT(in, len, 2, uint8_t, same_line_end); }    \
     attribute static size_t swapped_line_ends##suffix(const uint8_t *in, size_t len) { COUNT(in, len, 2, uint8_t, swapped_line_end); }
 
@@ -76,12 +67,6 @@ COUNTS(_wide, WITH_AVX2)
 #else
 #define COUNTED_BY(name, in, len) name(in, len)
 #endif
-
-size_t valid_chars(nody_form_t form, const uint8_t *bytes, size_t len) {
-    if (form == NODY_FORM_UTF8)
-        return COUNTED_BY(fronts, bytes, len);
-    return form == NODY_FORM_UTF16_NATIVE ? COUNTED_BY(same_firsts, bytes, len) : COUNTED_BY(swapped_firsts, bytes, len);
-}
 
 size_t line_count(nody_form_t form, const uint8_t *bytes, size_t len) {
     if (form == NODY_FORM_UTF8)

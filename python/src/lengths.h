@@ -8,9 +8,6 @@
  * U+FFFF. Room for so many is asked for first. */
 size_t least_recoded(nody_form_t from, nody_form_t to, const uint8_t *in, size_t len);
 
-/* How many characters valid text has: as many as it has bytes or units that begin one. */
-size_t valid_chars(nody_form_t form, const uint8_t *bytes, size_t len);
-
 /* How many of the characters are U+000A, also in text that is not valid. */
 size_t line_count(nody_form_t form, const uint8_t *bytes, size_t len);
 

@@ -299,3 +299,41 @@ static PyType_Slot stream_slots[] = {{Py_tp_new, stream_new},         {Py_tp_dea
                                      {Py_tp_iter, PyObject_SelfIter}, {Py_tp_iternext, stream_next},
                                      {Py_tp_traverse, stream_traverse}, {0, NULL}};
 PyType_Spec stream_spec = {"noddychest._noddychest.Stream", sizeof(Stream), 0, Py_TPFLAGS_DEFAULT | Py_TPFLAGS_HAVE_GC, stream_slots};
+
+/* One call at a time. It is kept here since no signal handler runs in here: one that raises would come between a lock that is taken and the
+ * `try` that lets it go, and nobody could take that lock again. */
+typedef struct {
+    PyObject_HEAD
+    char busy;
+} Turn;
+
+static PyObject *turn_new(PyTypeObject *type, PyObject *args, PyObject *names) {
+    (void)names;
+    return PyArg_ParseTuple(args, ":Turn") ? PyType_GenericAlloc(type, 0) : NULL;
+}
+
+/* take(function, ..): what the function returns for what follows it. */
+static PyObject *turn_take(PyObject *object, PyObject *args) {
+    Turn *self = (Turn *)object;
+    PyObject *function, *rest, *made = NULL;
+    if (PyTuple_Size(args) < 1) {
+        PyErr_SetString(PyExc_TypeError, "a function is required");
+        return NULL;
+    }
+    function = PyTuple_GetItem(args, 0);
+    rest = PyTuple_GetSlice(args, 1, PyTuple_Size(args));
+    if (rest == NULL)
+        return NULL;
+    if (__atomic_exchange_n(&self->busy, 1, __ATOMIC_ACQUIRE)) {
+        PyErr_SetString(PyExc_RuntimeError, "this decoder is in use by another call: give each thread its own");
+    } else {
+        made = PyObject_CallObject(function, rest);
+        __atomic_store_n(&self->busy, 0, __ATOMIC_RELEASE);
+    }
+    Py_DECREF(rest);
+    return made;
+}
+
+static PyMethodDef turn_methods[] = {{"take", turn_take, METH_VARARGS, NULL}, {NULL, NULL, 0, NULL}};
+static PyType_Slot turn_slots[] = {{Py_tp_new, turn_new}, {Py_tp_dealloc, plain_dealloc}, {Py_tp_methods, turn_methods}, {0, NULL}};
+PyType_Spec turn_spec = {"noddychest._noddychest.Turn", sizeof(Turn), 0, Py_TPFLAGS_DEFAULT, turn_slots};

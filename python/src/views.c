@@ -118,19 +118,32 @@ static size_t two_units(nody_form_t form, const uint8_t *bytes, size_t len, uint
 
 static const nody_piece_t half = {1, 0, NODY_KIND_INCOMPLETE}; /* a single byte at the end of UTF-16 */
 
+/* What a piece depends on is copied: the library reads some bytes twice. (So many are one load) */
+static void copy_some(uint8_t *copy, const uint8_t *bytes, size_t count) {
+    if (count == LONGEST)
+        memcpy(copy, bytes, LONGEST);
+    else if (count > 0)
+        memcpy(copy, bytes, count);
+}
+
 nody_piece_t first_piece(nody_form_t form, const uint8_t *bytes, size_t len) {
     uint16_t units[2] = {0, 0};
-    if (form == NODY_FORM_UTF8)
-        return nody_utf8_first(bytes, len);
-    return len == 1 ? half : in_bytes(nody_utf16_first(units, two_units(form, bytes, len, units)));
+    uint8_t front[LONGEST];
+    size_t count = len < LONGEST ? len : LONGEST;
+    if (form != NODY_FORM_UTF8)
+        return len == 1 ? half : in_bytes(nody_utf16_first(units, two_units(form, bytes, len, units)));
+    copy_some(front, bytes, count);
+    return nody_utf8_first(front, count);
 }
 
 nody_piece_t last_piece(nody_form_t form, const uint8_t *bytes, size_t len) {
     uint16_t units[2] = {0, 0};
-    size_t tail = len < 4 ? len : 4;
-    if (form == NODY_FORM_UTF8)
-        return nody_utf8_last(bytes, len);
-    return len % 2 == 1 ? half : in_bytes(nody_utf16_last(units, two_units(form, bytes + len - tail, tail, units)));
+    uint8_t tail[LONGEST];
+    size_t count = len < LONGEST ? len : LONGEST;
+    if (form != NODY_FORM_UTF8)
+        return len % 2 == 1 ? half : in_bytes(nody_utf16_last(units, two_units(form, bytes + len - count, count, units)));
+    copy_some(tail, bytes + len - count, count);
+    return nody_utf8_last(tail, count);
 }
 
 size_t valid_up_to(nody_form_t form, const uint8_t *bytes, size_t len) {

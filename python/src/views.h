@@ -58,6 +58,8 @@ void next_window(Window *window, nody_form_t form, const uint8_t *left, size_t l
 
 /* ---- pieces and faults ---- */
 
+#define LONGEST 4 /* the bytes of the longest piece; what a piece is depends on no more, from its first on or up to its last */
+
 /* The first and the last piece of some bytes, with its length in bytes; NODY_KIND_NONE if there are none. */
 nody_piece_t first_piece(nody_form_t form, const uint8_t *bytes, size_t len);
 nody_piece_t last_piece(nody_form_t form, const uint8_t *bytes, size_t len);
@@ -126,6 +128,6 @@ PyObject *handled(PyObject *module, PyObject *args);
 
 /* ---- what parts.c has ---- */
 
-extern PyType_Spec part_spec, stream_spec;
+extern PyType_Spec part_spec, stream_spec, turn_spec;
 
 #endif

@@ -137,6 +137,20 @@ class Lifetime(unittest.TestCase):
             cut[999]
         self.assertLess(len(list(run)), 1000)
 
+    def test_changed_bytes_are_in_one_piece(self):
+        """Also where a character comes to lie over the place up to which a reader from the back came."""
+        for char in "\U0010ffff€é":
+            data, code = bytearray(b"a" * len(char.encode())), char.encode()
+            for taken in range(1, len(code)):
+                data[:] = b"a" * len(code)
+                run = reversed(pieces(data))
+                ends = [next(run).offset for _ in range(taken)]
+                data[:] = code
+                for it in run:
+                    self.assertEqual(it.offset + it.length, ends[-1])
+                    ends.append(it.offset)
+                self.assertEqual(ends[-1], 0)
+
 
 if __name__ == "__main__":
     unittest.main()

@@ -281,13 +281,15 @@ class Threads(unittest.TestCase):
     def test_one_call_at_a_time(self):
         decoder = Decoder()
         decoder.feed(b"a\xe2")
-        with decoder._lock:
-            for call in (lambda: decoder.feed(b"b"), lambda: decoder.feed_faults(b"b"), decoder.finish):
-                with self.assertRaisesRegex(RuntimeError, "in use by another call"):
-                    call()
-            self.assertEqual((decoder.offset, decoder.held), (1, b"\xe2"))
-            self.assertEqual(copy.copy(decoder).finish(), [(1, None, 1, ErrorKind.TOO_FEW_BYTES)])
+        decoder._turn.take(self.refuses, decoder)
         self.assertEqual([*decoder.feed(b"\x82\xac")], [(1, "€", 3, None)])
+
+    def refuses(self, decoder):
+        for call in (lambda: decoder.feed(b"b"), lambda: decoder.feed_faults(b"b"), decoder.finish):
+            with self.assertRaisesRegex(RuntimeError, "in use by another call"):
+                call()
+        self.assertEqual((decoder.offset, decoder.held), (1, b"\xe2"))
+        self.assertEqual(copy.copy(decoder).finish(), [(1, None, 1, ErrorKind.TOO_FEW_BYTES)])
 
     def test_threads_that_share_a_decoder(self):
         """Each call reads all of its part, at an offset that no other has, or raises RuntimeError and reads nothing."""

@@ -5,6 +5,7 @@ import itertools
 import mmap
 import pickle
 import random
+import signal
 import sys
 import threading
 import time
@@ -378,3 +379,62 @@ class ChangingBuffers(unittest.TestCase):
 if __name__ == "__main__":
     noddychest.is_valid(b"")
     unittest.main()
+
+
+class Stop(Exception):
+    """What a handler of signals raises."""
+
+
+@unittest.skipUnless(hasattr(signal, "setitimer") and threading.current_thread() is threading.main_thread(), "signals are handled in the main thread")
+class Signals(unittest.TestCase):
+    """A handler that raises ends a call at any place. The call was made then, or it was not, and others can be made."""
+
+    def setUp(self):
+        def stop(*_):
+            raise Stop
+
+        self.addCleanup(signal.signal, signal.SIGALRM, signal.signal(signal.SIGALRM, stop))
+        self.addCleanup(signal.setitimer, signal.ITIMER_REAL, 0)
+
+    def stopped(self, call, end, seconds=1e-4):
+        """Calls on until a signal comes. Whether one came."""
+        try:
+            signal.setitimer(signal.ITIMER_REAL, seconds)
+            while time.monotonic() < end:
+                call()
+        except Stop:
+            return True
+        return False
+
+    def hammer(self, call):
+        """So that many signals come, each at another place."""
+        came, end = 0, time.monotonic() + 20
+        while came < 300 and time.monotonic() < end:
+            came += self.stopped(call, end, 1e-4 + came % 97 * 1e-6)
+        self.assertEqual(came, 300)
+
+    def test_decoders_go_on(self):
+        decoder = Decoder()
+        for call in (lambda: decoder.feed(b"ab"), lambda: decoder.feed_faults(b"ab"), decoder.finish):
+            self.hammer(call)
+        self.assertEqual((decoder.held, decoder.offset % 2), (b"", 0))
+        first, = decoder.feed(b"c")
+        self.assertEqual(first[1:3], ("c", 1))
+
+    def test_recoders_go_on(self):
+        recoder = Recoder("utf8", "utf16be")
+        self.hammer(lambda: recoder.feed(b"ab"))
+        self.assertEqual(recoder.feed(b"c"), b"\0c")
+
+    def test_codecs_go_on_and_their_offsets_are_right(self):
+        for _ in range(20):
+            decoder = codecs.getincrementaldecoder("noddychest-utf8")()
+            self.check_offsets(decoder)
+
+    def check_offsets(self, decoder):
+        for _ in range(50):
+            self.stopped(lambda: decoder.decode(b"ab\xe2\x82\xac"), time.monotonic() + 5)
+        before = decoder.getstate()[0].before
+        with self.assertRaises(FaultError) as raised:
+            decoder.decode(b"abcde\xff")
+        self.assertEqual((raised.exception.offset, before % 5), (before + 5, 0))

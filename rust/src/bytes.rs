@@ -15,7 +15,6 @@ use crate::{Form, Piece};
 /// let text: String = noddychest::pieces(b"na\xC3\xAFve \xE2\x82").map(|piece| piece.result.unwrap_or('\u{FFFD}')).collect();
 /// assert_eq!(text, "naïve \u{FFFD}\u{FFFD}");
 /// ```
-#[must_use = "iterators do nothing unless consumed"]
 pub fn pieces(bytes: &[u8]) -> Pieces<'_> {
     Pieces::from(bytes)
 }
@@ -52,7 +51,29 @@ pub fn last(bytes: &[u8]) -> Option<Piece> {
 /// ```
 #[must_use]
 pub fn valid_up_to(bytes: &[u8]) -> usize {
-    cuts::valid_up_to(bytes)
+    let front = ascii_before_line(bytes);
+    front + cuts::valid_up_to(&bytes[front..])
+}
+
+/// The fewest bytes of which some at the front are passed, so that vectors lie within the lines of a processor's cache.
+const LONG: usize = 4096;
+/// How many bytes a line has, and from which of its bytes the proved text begins to go over vectors.
+const LINE: usize = 64;
+const BEFORE_VECTORS: usize = 32;
+
+/// How many bytes to pass at the front of a long text, fewer than a line has: none where one of these is no ASCII. (Each ASCII byte is a
+/// character by itself, so the first invalid byte of what is left is that of the whole.)
+#[inline(always)]
+fn ascii_before_line(bytes: &[u8]) -> usize {
+    if bytes.len() < LONG {
+        return 0;
+    }
+    let front = bytes.as_ptr().wrapping_add(BEFORE_VECTORS).align_offset(LINE);
+    if bytes.get(..front).is_some_and(<[u8]>::is_ascii) {
+        front
+    } else {
+        0
+    }
 }
 
 /// The invalid bytes alone, each as [`pieces`] gives it. What is text between them is passed as fast as it is validated.
@@ -61,7 +82,6 @@ pub fn valid_up_to(bytes: &[u8]) -> usize {
 /// let faults = noddychest::faults(b"ok\xFF, but \xE2\x82");
 /// assert_eq!(faults.map(|fault| fault.offset()).collect::<Vec<_>>(), [2, 9, 10]);
 /// ```
-#[must_use = "iterators do nothing unless consumed"]
 pub fn faults(bytes: &[u8]) -> Faults<'_> {
     Faults::from(bytes)
 }
@@ -165,7 +185,7 @@ impl Element for u8 {
 
     #[inline(always)]
     fn valid_up_to(left: &[u8]) -> usize {
-        cuts::valid_up_to(left)
+        valid_up_to(left)
     }
 }
 

@@ -86,6 +86,7 @@ impl FaultKind {
     /// use noddychest::FaultKind;
     /// assert!(FaultKind::Incomplete.is_of_utf16() && !FaultKind::TooFewBytes.is_of_utf16());
     /// ```
+    #[must_use]
     pub fn is_of_utf16(self) -> bool {
         use FaultKind::{Incomplete, UnexpectedTrailingSurrogate, UnmatchedLeadingSurrogate};
         matches!(self, UnexpectedTrailingSurrogate | UnmatchedLeadingSurrogate | Incomplete)
@@ -96,6 +97,7 @@ impl FaultKind {
     /// ```
     /// assert_eq!(noddychest::FaultKind::TooFewBytes.name(), "TooFewBytes");
     /// ```
+    #[must_use]
     pub fn name(self) -> &'static str {
         match self {
             FaultKind::TooFewBytes => "TooFewBytes",
@@ -189,6 +191,7 @@ impl<O: Copy> Fault<O> {
     /// let fault = first(b"\xFF").unwrap().result.unwrap_err();
     /// assert_eq!(fault.kind(), FaultKind::NonUtf8Byte);
     /// ```
+    #[must_use]
     pub fn kind(&self) -> FaultKind {
         self.kind
     }
@@ -199,6 +202,7 @@ impl<O: Copy> Fault<O> {
     /// let fault = noddychest::pieces(b"ab\xFF").find_map(|piece| piece.fault());
     /// assert_eq!(fault.unwrap().offset(), 2);
     /// ```
+    #[must_use]
     pub fn offset(&self) -> O {
         self.offset
     }
@@ -210,6 +214,7 @@ impl<O: Copy> Fault<O> {
     /// let fault = noddychest::pieces(bytes).find_map(|piece| piece.fault()).unwrap();
     /// assert_eq!(&bytes[fault.range()], b"\xFF");
     /// ```
+    #[must_use]
     pub fn range(&self) -> Range<O>
     where
         O: Add<Output = O> + From<u8>,

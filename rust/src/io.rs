@@ -23,6 +23,8 @@ pub use decoding::{faults, pieces, Faults, Pieces};
 const BLOCK: usize = 8192;
 /// No call of a recoder needs more room than this to go on, or to finish.
 const ENOUGH: usize = 16;
+/// Why the inner writer is there: only `into_inner` takes it, and that takes all.
+const THERE: &str = "nothing else takes it";
 
 /// Bytes of which those from `begin` to `end` are of use.
 struct Block {
@@ -91,9 +93,51 @@ impl<R> RecodingReader<R> {
     /// use noddychest::{io::RecodingReader, Form, Recoder};
     /// let reader = RecodingReader::new(std::io::stdin(), Recoder::new(Form::Utf16Be, Form::Utf8));
     /// ```
+    #[must_use]
     pub fn new(inner: R, recoder: Recoder) -> RecodingReader<R> {
         let (part, made) = (Block::new(), Block::new());
         RecodingReader { inner, recoder, part, made, fault: None, is_full: false, has_ended: false, has_finished: false }
+    }
+
+    /// The reader.
+    ///
+    /// ```
+    /// use noddychest::{io::RecodingReader, Form, Recoder};
+    /// let reader = RecodingReader::new(&b"a"[..], Recoder::new(Form::Utf8, Form::Utf8));
+    /// assert_eq!(reader.get_ref(), b"a");
+    /// ```
+    #[must_use]
+    pub fn get_ref(&self) -> &R {
+        &self.inner
+    }
+
+    /// The reader, to be changed. What is read of it here is missing in the text, and offsets do not count it.
+    ///
+    /// ```
+    /// use noddychest::{io::RecodingReader, Form, Recoder};
+    /// use std::io::Read;
+    /// let mut reader = RecodingReader::new(&b"\xFF\xFEa\0"[..], Recoder::new(Form::Utf16Le, Form::Utf8));
+    /// reader.get_mut().read_exact(&mut [0; 2])?; // past the byte order mark
+    /// assert_eq!(std::io::read_to_string(reader)?, "a");
+    /// # Ok::<(), std::io::Error>(())
+    /// ```
+    #[must_use]
+    pub fn get_mut(&mut self) -> &mut R {
+        &mut self.inner
+    }
+
+    /// The recoder: what it holds, and how many invalid bytes it has replaced of what was read.
+    ///
+    /// ```
+    /// use noddychest::{io::RecodingReader, Form, Recoder};
+    /// let mut reader = RecodingReader::new(&b"a\xFF"[..], Recoder::new(Form::Utf8, Form::Utf8));
+    /// std::io::copy(&mut reader, &mut std::io::sink())?;
+    /// assert_eq!(reader.recoder().replaced(), 1);
+    /// # Ok::<(), std::io::Error>(())
+    /// ```
+    #[must_use]
+    pub fn recoder(&self) -> &Recoder {
+        &self.recoder
     }
 
     /// The reader. What was read of it and not given yet is lost.
@@ -103,6 +147,7 @@ impl<R> RecodingReader<R> {
     /// let reader = RecodingReader::new(&b"a"[..], Recoder::new(Form::Utf8, Form::Utf8));
     /// assert_eq!(reader.into_inner(), b"a");
     /// ```
+    #[must_use]
     pub fn into_inner(self) -> R {
         self.inner
     }
@@ -190,6 +235,7 @@ impl<W: Write> RecodingWriter<W> {
     /// use noddychest::{io::RecodingWriter, Form, Recoder};
     /// let writer = RecodingWriter::new(std::io::stdout(), Recoder::new(Form::Utf8, Form::Utf16Be));
     /// ```
+    #[must_use]
     pub fn new(inner: W, recoder: Recoder) -> RecodingWriter<W> {
         RecodingWriter { inner: Some(inner), recoder, made: Block::new(), fault: None, is_writing: false }
     }
@@ -212,6 +258,52 @@ impl<W: Write> RecodingWriter<W> {
         self.flush_inner()
     }
 
+    /// The writer. It has been given what was written to it, and not yet what is gathered.
+    ///
+    /// ```
+    /// use noddychest::{io::RecodingWriter, Form, Recoder};
+    /// use std::io::Write;
+    /// let mut writer = RecodingWriter::new(Vec::new(), Recoder::new(Form::Utf8, Form::Utf8));
+    /// writer.write_all(b"a")?;
+    /// assert!(writer.get_ref().is_empty());
+    /// writer.flush()?;
+    /// assert_eq!(writer.get_ref(), b"a");
+    /// # Ok::<(), std::io::Error>(())
+    /// ```
+    #[must_use]
+    pub fn get_ref(&self) -> &W {
+        self.inner.as_ref().expect(THERE)
+    }
+
+    /// The writer, to be changed. What is written to it here comes before all that is gathered: call
+    /// [`flush`](std::io::Write::flush) first.
+    ///
+    /// ```
+    /// use noddychest::{io::RecodingWriter, Form, Recoder};
+    /// let mut writer = RecodingWriter::new(Vec::new(), Recoder::new(Form::Utf8, Form::Utf16Le));
+    /// writer.get_mut().extend(b"\xFF\xFE"); // a byte order mark
+    /// assert_eq!(writer.into_inner(), b"\xFF\xFE");
+    /// ```
+    #[must_use]
+    pub fn get_mut(&mut self) -> &mut W {
+        self.inner.as_mut().expect(THERE)
+    }
+
+    /// The recoder: what it holds, and how many invalid bytes it has replaced.
+    ///
+    /// ```
+    /// use noddychest::{io::RecodingWriter, Form, Recoder};
+    /// use std::io::Write;
+    /// let mut writer = RecodingWriter::new(std::io::sink(), Recoder::new(Form::Utf8, Form::Utf8));
+    /// writer.write_all(b"a\xFF\xE2")?;
+    /// assert_eq!((writer.recoder().replaced(), writer.recoder().held()), (1, &b"\xE2"[..]));
+    /// # Ok::<(), std::io::Error>(())
+    /// ```
+    #[must_use]
+    pub fn recoder(&self) -> &Recoder {
+        &self.recoder
+    }
+
     /// The writer. What is held or gathered is lost: call [`finish`](RecodingWriter::finish) before.
     ///
     /// ```
@@ -219,8 +311,9 @@ impl<W: Write> RecodingWriter<W> {
     /// let writer = RecodingWriter::new(Vec::new(), Recoder::new(Form::Utf8, Form::Utf8));
     /// assert!(writer.into_inner().is_empty());
     /// ```
+    #[must_use]
     pub fn into_inner(mut self) -> W {
-        self.inner.take().expect("nothing else takes it")
+        self.inner.take().expect(THERE)
     }
 
     /// Writes what was gathered, and then what the recoder holds.

@@ -62,3 +62,20 @@ pub use crate::proved::cuts::lines;
 
 impl FusedIterator for SplitAscii<'_> {}
 impl FusedIterator for SplitLines<'_> {}
+
+impl Copy for Span<'_> {}
+
+/// Equal where both are the same bytes at the same offset.
+///
+/// ```
+/// use noddychest::parts::lines;
+/// assert_eq!(lines(b"a\nb").next(), lines(b"a\r\n").next());
+/// assert_ne!(lines(b"a\na").next(), lines(b"a\na").last());
+/// ```
+impl PartialEq for Span<'_> {
+    fn eq(&self, other: &Self) -> bool {
+        (self.start(), self.as_bytes()) == (other.start(), other.as_bytes())
+    }
+}
+
+impl Eq for Span<'_> {}

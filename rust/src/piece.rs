@@ -42,6 +42,7 @@ impl Piece {
     /// let last = noddychest::last(bytes).unwrap();
     /// assert_eq!(&bytes[last.range()], b"\xC3\xA9");
     /// ```
+    #[must_use]
     pub fn range(&self) -> Range<usize> {
         self.offset..self.offset + self.len
     }
@@ -74,6 +75,7 @@ impl Piece<u64> {
     /// let did = Decoder::new(Form::Utf16Le).feed(b"a\0b\0c", &mut room);
     /// assert_eq!((did.written, room[1].range()), (2, 2..4));
     /// ```
+    #[must_use]
     pub fn range(&self) -> Range<u64> {
         self.offset..self.offset + self.len as u64
     }
@@ -86,6 +88,7 @@ impl<O: Copy> Piece<O> {
     /// let text: String = noddychest::pieces(b"a\xFFb").map(|piece| piece.char().unwrap_or('\u{FFFD}')).collect();
     /// assert_eq!(text, "a\u{FFFD}b");
     /// ```
+    #[must_use]
     pub fn char(&self) -> Option<char> {
         self.result.ok()
     }
@@ -96,6 +99,7 @@ impl<O: Copy> Piece<O> {
     /// let faults = noddychest::pieces(b"a\xFFb\xFE").filter_map(|piece| piece.fault());
     /// assert_eq!(faults.map(|fault| fault.offset()).collect::<Vec<_>>(), [1, 3]);
     /// ```
+    #[must_use]
     pub fn fault(&self) -> Option<Fault<O>> {
         self.result.err()
     }

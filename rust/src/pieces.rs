@@ -32,6 +32,7 @@ pub trait Element: Copy {
 /// assert_eq!(pieces.size_hint(), (1, Some(3)));
 /// ```
 #[derive(Clone, Debug)]
+#[must_use = "iterators do nothing unless consumed"]
 pub struct Pieces<'a, T = u8> {
     left: &'a [T],
     offset: usize,
@@ -123,6 +124,7 @@ const MANY: usize = 64;
 /// assert_eq!(faults.next(), None);
 /// ```
 #[derive(Clone, Debug)]
+#[must_use = "iterators do nothing unless consumed"]
 pub struct Faults<'a, T = u8> {
     pieces: Pieces<'a, T>,
     number: usize,

@@ -21,7 +21,6 @@ use crate::Piece;
 /// let fault = units::pieces(&[0xD83D, 0x41]).find_map(|piece| piece.fault()).unwrap();
 /// assert_eq!((fault.offset(), fault.kind()), (0, FaultKind::UnmatchedLeadingSurrogate));
 /// ```
-#[must_use = "iterators do nothing unless consumed"]
 pub fn pieces(units: &[u16]) -> Pieces<'_> {
     Pieces::from(units)
 }
@@ -66,7 +65,6 @@ pub fn valid_up_to(units: &[u16]) -> usize {
 /// let faults = noddychest::units::faults(&[0x6F, 0xDE00, 0x6B, 0xD83D]);
 /// assert_eq!(faults.map(|fault| fault.offset()).collect::<Vec<_>>(), [1, 3]);
 /// ```
-#[must_use = "iterators do nothing unless consumed"]
 pub fn faults(units: &[u16]) -> Faults<'_> {
     Faults::from(units)
 }

@@ -4,9 +4,9 @@ mod common;
 
 use common::Chance;
 use noddychest::io::{RecodingReader, RecodingWriter};
-use noddychest::{recode, recode_strict, Fault, Form, Recoder};
+use noddychest::{io, recode, recode_strict, Fault, Form, Recoder};
 use std::cell::RefCell;
-use std::io::{Error, ErrorKind, Read, Result, Write};
+use std::io::{BufReader, Cursor, Error, ErrorKind, Read, Result, Seek, SeekFrom, Write};
 use std::panic::{catch_unwind, AssertUnwindSafe};
 use std::rc::Rc;
 
@@ -278,4 +278,94 @@ fn what_is_shown_is_short() {
     assert!(pieces.next().is_some());
     let pieces = format!("{pieces:?}");
     assert!(pieces.len() < 300 && pieces.contains("gathered: 2"), "{pieces}");
+}
+
+/// Takes as many bytes of each call as its turn says, of turns that come again and again; 0 is none.
+struct Sparing<'a> {
+    bytes: Vec<u8>,
+    turns: std::iter::Cycle<std::slice::Iter<'a, usize>>,
+}
+
+impl Sparing<'_> {
+    fn new(turns: &[usize]) -> Sparing<'_> {
+        Sparing { bytes: Vec::new(), turns: turns.iter().cycle() }
+    }
+}
+
+impl Write for Sparing<'_> {
+    fn write(&mut self, part: &[u8]) -> Result<usize> {
+        let count = part.len().min(*self.turns.next().unwrap_or(&0));
+        self.bytes.extend_from_slice(&part[..count]);
+        Ok(count)
+    }
+
+    fn flush(&mut self) -> Result<()> {
+        Ok(())
+    }
+}
+
+/// A writer that takes a byte or none: what it refused is written when it is asked again.
+#[test]
+fn a_writer_that_takes_nothing_is_an_error_and_nothing_is_lost() {
+    let text = "aé€😀".repeat(3_000);
+    let want = recode(Form::Utf8, Form::Utf16Be, text.as_bytes());
+    for turns in [&[1][..], &[1, 0], &[0, 0, 7, 1], &[9_000, 0]] {
+        let mut writer = RecodingWriter::new(Sparing::new(turns), Recoder::new(Form::Utf8, Form::Utf16Be));
+        let mut rest = text.as_bytes();
+        while !rest.is_empty() {
+            match writer.write(rest) {
+                Ok(count) => rest = &rest[count..],
+                Err(error) => assert_eq!(error.kind(), ErrorKind::WriteZero),
+            }
+        }
+        while let Err(error) = writer.finish() {
+            assert_eq!(error.kind(), ErrorKind::WriteZero);
+        }
+        assert!(writer.get_ref().bytes == want, "{turns:?}");
+        assert_eq!(writer.recoder().held(), b"");
+    }
+}
+
+/// `io::copy` through both, in whatever parts they give and take.
+#[test]
+fn copied_through_both() {
+    let text = "naïve 😀 ".repeat(5_000).into_bytes();
+    let mut reader = RecodingReader::new(&text[..], Recoder::new(Form::Utf8, Form::Utf16Be));
+    let mut writer = RecodingWriter::new(Sparing::new(&[3, 4_096, 1]), Recoder::strict(Form::Utf16Be, Form::Utf8));
+    let count = std::io::copy(&mut reader, &mut writer).expect("no fault");
+    writer.finish().expect("no fault");
+    assert_eq!(count as usize, recode(Form::Utf8, Form::Utf16Be, &text).len());
+    assert!(writer.into_inner().bytes == text);
+}
+
+/// An empty buffer reads nothing of the reader, and an empty part writes nothing.
+#[test]
+fn nothing_is_asked_for_nothing() {
+    let mut reader = RecodingReader::new(Cursor::new(b"a\xFF"), Recoder::strict(Form::Utf8, Form::Utf8));
+    assert_eq!(reader.read(&mut []).expect("nothing"), 0);
+    assert_eq!(reader.get_ref().position(), 0);
+    assert_eq!(reader.read(&mut [0; 8]).expect("the front"), 1);
+    // (the fault waits for a call that asks for something)
+    assert_eq!(reader.read(&mut []).expect("nothing"), 0);
+    assert!(reader.read(&mut [0; 8]).is_err());
+    let mut writer = RecodingWriter::new(Sparing::new(&[0]), Recoder::new(Form::Utf8, Form::Utf8));
+    assert_eq!(writer.write(b"").expect("nothing"), 0);
+    writer.flush().expect("nothing");
+}
+
+/// The reader may be moved: what was read of it before still comes, and then what it gives from there.
+#[test]
+fn a_reader_that_was_moved() {
+    let mut reader = RecodingReader::new(Cursor::new(b"ab".to_vec()), Recoder::new(Form::Utf8, Form::Utf8));
+    let mut room = [0; 1];
+    assert_eq!(reader.read(&mut room).expect("a byte"), 1);
+    reader.get_mut().seek(SeekFrom::Start(0)).expect("its start");
+    let mut rest = String::new();
+    reader.read_to_string(&mut rest).expect("the rest");
+    assert_eq!((&room, &*rest), (b"a", "bab"));
+    let mut pieces = io::pieces(BufReader::new(Cursor::new(b"a\xE9b".to_vec())), Form::Utf8);
+    assert_eq!(pieces.next().expect("a piece").expect("no error").char(), Some('a'));
+    pieces.get_mut().seek(SeekFrom::Start(0)).expect("its start");
+    let rest: Vec<_> = pieces.map(|it| it.map(|it| (it.offset, it.char())).expect("no error")).collect();
+    assert_eq!(rest, [(1, None), (2, Some('b')), (3, Some('a')), (4, None), (5, Some('b'))]);
 }

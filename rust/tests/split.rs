@@ -129,6 +129,26 @@ fn numbers_of_long_text() {
     }
 }
 
+/// Where a long text lies in memory decides how many ASCII bytes are passed before it is gone over, and no answer.
+#[test]
+fn valid_up_to_wherever_a_text_lies() {
+    let room = "a text of ASCII, ".repeat(300).into_bytes();
+    for start in 0..64 {
+        assert_eq!(noddychest::valid_up_to(&room[start..]), room.len() - start);
+        for at in (0..100).chain(room.len() - start - 70..room.len() - start) {
+            for other in [&b"\xFF"[..], b"\xC3", b"\xC3\xA9", b"\xF0\x9F\x98\x80", b"\xE2\x82a\xFF"] {
+                let mut bytes = room.clone();
+                let end = bytes.len().min(start + at + other.len());
+                bytes.splice(start + at..end, other.iter().copied());
+                let bytes = &bytes[start..];
+                let valid = std::str::from_utf8(bytes).map_or_else(|error| error.valid_up_to(), str::len);
+                assert_eq!(noddychest::valid_up_to(bytes), valid, "{start} {at} {other:x?}");
+                assert_eq!(noddychest::faults(bytes).next().map(|it| it.offset()), Some(valid).filter(|it| *it < bytes.len()));
+            }
+        }
+    }
+}
+
 fn hold_bytes(bytes: &[u8], chance: &mut Chance) {
     let want = by_std(bytes);
     assert!(noddychest::pieces(bytes).map(seen).eq(want.iter().copied()), "{bytes:x?}");

@@ -1,7 +1,11 @@
 //! What the types are, and what they show.
 
 use noddychest::encode_unicode::{error, iterator, Utf8Char};
-use noddychest::{io, units, Decoder, Fault, FaultKind, Faults, Form, Piece, Pieces, Progress, Recoder, Status};
+use noddychest::parts::{Span, SplitAscii, SplitLines};
+use noddychest::{
+    io, units, AllocError, BufferBytes, Change, Counts, Decoder, Fault, FaultKind, Faults, Form, Piece, PieceTable, Pieces,
+    Progress, Recoder, Status, TablePieces, TextBuffer, UnknownForm,
+};
 use std::collections::HashSet;
 use std::error::Error;
 use std::fmt::Debug;
@@ -14,6 +18,9 @@ fn goes_both_ways<T: DoubleEndedIterator<Item = Piece> + FusedIterator>() {}
 fn goes_on<T: Iterator<Item = Fault> + FusedIterator>() {}
 fn ends<T: Iterator + FusedIterator>() {}
 fn is_error<T: Error + Send + Sync + 'static>() {}
+fn is_error_of_upstream<T: Error + Send + Sync + Copy + Eq + 'static>() {}
+fn is_counted<T: ExactSizeIterator + FusedIterator>() {}
+fn gives_spans<T: DoubleEndedIterator<Item = Span<'static>> + FusedIterator + Clone + Send + Sync + Debug>() {}
 fn is_sent<T: Send + Sync + Debug>() {}
 
 #[test]
@@ -48,7 +55,35 @@ fn types_have_their_traits() {
     ends::<iterator::Utf16Iterator>();
     is_error::<Fault>();
     is_error::<Fault<u64>>();
-    is_error::<noddychest::UnknownForm>();
+    is_error::<UnknownForm>();
+    is_error::<AllocError>();
+    is_error_of_upstream::<error::CodepointError>();
+    is_error_of_upstream::<error::EmptyStrError>();
+    is_error_of_upstream::<error::FromStrError>();
+    is_error_of_upstream::<error::NonAsciiError>();
+    is_error_of_upstream::<error::NonBmpError>();
+    is_error_of_upstream::<error::Utf16ArrayError>();
+    is_error_of_upstream::<error::Utf16FirstUnitError>();
+    is_error_of_upstream::<error::Utf16PairError>();
+    is_error_of_upstream::<error::Utf16SliceError>();
+    is_error_of_upstream::<error::Utf16TupleError>();
+    is_error_of_upstream::<error::Utf8Error>();
+    is_shared::<PieceTable>();
+    is_shared::<TextBuffer>();
+    is_shared::<Change>();
+    is_shared::<Counts>();
+    is_shared::<BufferBytes<'static>>();
+    is_shared::<Span<'static>>();
+    is_shared::<iterator::Utf8CharMerger<u8, std::vec::IntoIter<u8>>>();
+    is_shared::<iterator::Utf16CharMerger<u16, std::vec::IntoIter<u16>>>();
+    is_shared::<iterator::Utf8CharSplitter<Utf8Char, std::vec::IntoIter<Utf8Char>>>();
+    goes_both_ways::<TablePieces<'static>>();
+    is_counted::<TablePieces<'static>>();
+    is_counted::<iterator::Utf8Iterator>();
+    is_counted::<iterator::Utf16Iterator>();
+    ends::<BufferBytes<'static>>();
+    gives_spans::<SplitAscii<'static>>();
+    gives_spans::<SplitLines<'static>>();
     is_sent::<io::RecodingReader<std::io::Stdin>>();
     is_sent::<io::RecodingWriter<Vec<u8>>>();
     is_sent::<io::Pieces<std::io::BufReader<std::io::Stdin>>>();

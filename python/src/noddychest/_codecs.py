@@ -3,7 +3,6 @@ becomes bytes, by the interpreter's own codec."""
 from __future__ import annotations
 
 import codecs
-import threading
 import types
 from typing import TYPE_CHECKING, Any, Optional
 
@@ -73,20 +72,17 @@ class _Decoder(codecs.BufferedIncrementalDecoder):
     def __init__(self, errors: str = "strict") -> None:
         super().__init__(errors)
         self._before = 0
-        self._lock = threading.Lock()
+        self._turn = _noddychest.Turn()
 
     def decode(self, input: ReadableBuffer, final: bool = False) -> str:
-        if not self._lock.acquire(False):
-            raise RuntimeError("this decoder is in use by another call: give each thread its own")
-        try:
-            return super().decode(input, final)
-        finally:
-            self._lock.release()
+        return self._turn.take(self._decode_part, input, final)
 
-    def _buffer_decode(self, input: ReadableBuffer, errors: str, final: bool) -> tuple[str, int]:
-        text, read = _decode(self.form, input, errors, final, self._before)
-        self._before += read
-        return text, read
+    def _decode_part(self, input: ReadableBuffer, final: bool) -> str:
+        data = self.buffer + input
+        text, read = _decode(self.form, data, self.errors, final, self._before)
+        held, before = data[read:], self._before + read
+        self.buffer, self._before = held, before  # (both, or none where a signal handler raises)
+        return text
 
     def reset(self) -> None:
         super().reset()
@@ -102,10 +98,10 @@ class _Decoder(codecs.BufferedIncrementalDecoder):
         self._before = getattr(state[0], "before", 0)
 
     def __getstate__(self) -> dict[str, Any]:
-        return {name: it for name, it in self.__dict__.items() if name != "_lock"}
+        return {name: it for name, it in self.__dict__.items() if name != "_turn"}
 
     def __setstate__(self, state: dict[str, Any]) -> None:
-        self.__dict__.update(state, _lock=threading.Lock())
+        self.__dict__.update(state, _turn=_noddychest.Turn())
 
 
 class _Reader(codecs.StreamReader):

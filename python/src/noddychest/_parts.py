@@ -3,7 +3,6 @@ from __future__ import annotations
 
 import functools
 import operator
-import threading
 from collections.abc import Callable, Iterable, Iterator
 from typing import TYPE_CHECKING, Any, Protocol, TypeVar, Union
 
@@ -43,7 +42,7 @@ class Decoder:
     (5, b'\\xf0', [Piece(offset=5, char=None, length=1, error=<ErrorKind.TOO_FEW_BYTES: 1>)])
     """
 
-    __slots__ = ("_form", "_state", "_lock", "__weakref__")
+    __slots__ = ("_form", "_state", "_turn", "__weakref__")
 
     def __init__(self, encoding: str = "utf8", offset: int = 0) -> None:
         self._begin(form_of(encoding), operator.index(offset), b"")
@@ -51,7 +50,7 @@ class Decoder:
     def _begin(self, form: int, offset: int, held: bytes) -> None:
         if not 0 <= offset < 1 << 64:
             raise ValueError("the offset has to be from 0 to 2**64 - 1")
-        self._form, self._lock = form, threading.Lock()
+        self._form, self._turn = form, _noddychest.Turn()
         self._state = _noddychest.Part(form, b"", Piece, ERRORS).begin(_PIECES, offset, held)
 
     def __getstate__(self) -> tuple[Any, ...]:
@@ -100,14 +99,12 @@ class Decoder:
 
     def _step(self, data: ReadableBuffer, asked: int, given: Callable[[Iterator[Piece]], _Made]) -> _Made:
         part = _noddychest.Part(self._form, data, Piece, ERRORS)
-        if not self._lock.acquire(False):
-            raise RuntimeError("this Decoder is in use by another call: give each thread its own")
-        try:
-            state = part.begin(asked, *self._state)
-            made = given(part)
-            self._state = state  # (once nothing can fail any more)
-        finally:
-            self._lock.release()
+        return self._turn.take(self._begun, part, asked, given)
+
+    def _begun(self, part: _noddychest.Part, asked: int, given: Callable[[Iterator[Piece]], _Made]) -> _Made:
+        state = part.begin(asked, *self._state)
+        made = given(part)
+        self._state = state  # (once nothing can fail any more)
         return made
 
     @property

@@ -22,7 +22,6 @@ type Feed = fn(&mut Decoder, &[u8], &mut [Piece<u64>]) -> Progress;
 /// assert_eq!(offsets, [0, 1, 2, 4, 5, 6, 7]);
 /// # Ok::<(), std::io::Error>(())
 /// ```
-#[must_use = "iterators do nothing unless consumed"]
 pub fn pieces<R: BufRead>(reader: R, form: Form) -> Pieces<R> {
     Pieces { source: Source::new(reader, form) }
 }
@@ -38,7 +37,6 @@ pub fn pieces<R: BufRead>(reader: R, form: Form) -> Pieces<R> {
 /// }
 /// # Ok::<(), std::io::Error>(())
 /// ```
-#[must_use = "iterators do nothing unless consumed"]
 pub fn faults<R: BufRead>(reader: R, form: Form) -> Faults<R> {
     Faults { source: Source::new(reader, form) }
 }
@@ -115,6 +113,54 @@ impl<R: BufRead> Source<R> {
     }
 }
 
+/// What both iterators have: the reader that they stand over.
+macro_rules! over_reader {
+    ($name:ident, $make:literal) => {
+        impl<R> $name<R> {
+            /// The reader.
+            ///
+            /// ```
+            /// use noddychest::{io, Form};
+            #[doc = concat!("assert_eq!(io::", $make, "(&b\"a\"[..], Form::Utf8).get_ref(), &b\"a\");")]
+            /// ```
+            #[must_use]
+            pub fn get_ref(&self) -> &R {
+                &self.source.reader
+            }
+
+            /// The reader, to be changed. What is read of it here is missing among what comes, and offsets do not count it.
+            ///
+            /// ```
+            /// use noddychest::{io, Form};
+            /// use std::io::Read;
+            #[doc = concat!("let mut over = io::", $make, "(&b\"\\xEF\\xBB\\xBF\\xFF\"[..], Form::Utf8);")]
+            /// over.get_mut().read_exact(&mut [0; 3])?; // past the byte order mark
+            /// assert_eq!(over.next().unwrap()?.range(), 0..1);
+            /// # Ok::<(), std::io::Error>(())
+            /// ```
+            #[must_use]
+            pub fn get_mut(&mut self) -> &mut R {
+                &mut self.source.reader
+            }
+
+            /// The reader. What was read of it and not given yet is lost.
+            ///
+            /// ```
+            /// use noddychest::{io, Form};
+            #[doc = concat!("assert_eq!(io::", $make, "(&b\"a\"[..], Form::Utf8).into_inner(), b\"a\");")]
+            /// ```
+            #[must_use]
+            pub fn into_inner(self) -> R {
+                self.source.reader
+            }
+        }
+
+        impl<R: BufRead> FusedIterator for $name<R> {}
+    };
+}
+over_reader!(Pieces, "pieces");
+over_reader!(Faults, "faults");
+
 /// The pieces of what a reader gives. [`pieces`] makes it.
 ///
 /// An error of the reader is passed on, and nothing is lost by it: the next call reads on. (It reads on by itself where a call was
@@ -127,20 +173,9 @@ impl<R: BufRead> Source<R> {
 /// # Ok::<(), std::io::Error>(())
 /// ```
 #[derive(Debug)]
+#[must_use = "iterators do nothing unless consumed"]
 pub struct Pieces<R> {
     source: Source<R>,
-}
-
-impl<R> Pieces<R> {
-    /// The reader. What was read of it and not given yet is lost.
-    ///
-    /// ```
-    /// use noddychest::{io, Form};
-    /// assert_eq!(io::pieces(&b"a"[..], Form::Utf8).into_inner(), b"a");
-    /// ```
-    pub fn into_inner(self) -> R {
-        self.source.reader
-    }
 }
 
 impl<R: BufRead> Iterator for Pieces<R> {
@@ -152,8 +187,6 @@ impl<R: BufRead> Iterator for Pieces<R> {
     }
 }
 
-impl<R: BufRead> FusedIterator for Pieces<R> {}
-
 /// The invalid bytes of what a reader gives. [`faults`] makes it. Errors of the reader are passed on as [`Pieces`] does.
 ///
 /// ```
@@ -163,20 +196,9 @@ impl<R: BufRead> FusedIterator for Pieces<R> {}
 /// # Ok::<(), std::io::Error>(())
 /// ```
 #[derive(Debug)]
+#[must_use = "iterators do nothing unless consumed"]
 pub struct Faults<R> {
     source: Source<R>,
-}
-
-impl<R> Faults<R> {
-    /// The reader. What was read of it and not given yet is lost.
-    ///
-    /// ```
-    /// use noddychest::{io, Form};
-    /// assert_eq!(io::faults(&b"a"[..], Form::Utf8).into_inner(), b"a");
-    /// ```
-    pub fn into_inner(self) -> R {
-        self.source.reader
-    }
 }
 
 impl<R: BufRead> Iterator for Faults<R> {
@@ -187,5 +209,3 @@ impl<R: BufRead> Iterator for Faults<R> {
         Some(piece.map(|piece| piece.fault().expect("faults alone are gathered")))
     }
 }
-
-impl<R: BufRead> FusedIterator for Faults<R> {}

@@ -10,59 +10,51 @@
 #![allow(non_camel_case_types)]
 use core::ops::{Add, BitAnd, BitOr, BitXor, Shl, Shr};
 
-// Calls of two blocks, of which each is one instruction: for the modules below.
+// Calls of the modules below, each put in line: what it takes, and what it makes of that.
+#[cfg(any(test, not(target_arch = "wasm32"), not(target_feature = "simd128")))]
+macro_rules! calls {
+    ($($(#[$doc:meta])* $name:ident($($a:ident: $kind:ty),*) -> $out:ty = $made:expr;)*) => { $(
+        $(#[$doc])*
+        #[inline(always)]
+        pub(crate) fn $name($($a: $kind),*) -> $out {
+            $made
+        }
+    )* };
+}
+
+// Calls of two blocks, of which each is one instruction.
 #[cfg(any(
     all(target_arch = "x86_64", target_feature = "sse2"),
     all(target_arch = "aarch64", target_feature = "neon", target_endian = "little")
 ))]
 macro_rules! instructions {
-    ($($name:ident = $by:ident;)*) => { $(
-        #[inline(always)]
-        pub(crate) fn $name(a: Block, b: Block) -> Block {
-            // SAFETY: see the module.
-            unsafe { $by(a, b) }
-        }
-    )* };
+    ($($name:ident = $by:ident;)*) => {
+        calls! { $(
+            $name(a: Block, b: Block) -> Block = {
+                // SAFETY: see the module.
+                unsafe { $by(a, b) }
+            };
+        )* }
+    };
 }
 
 // The other calls, at either width of x86-64: by these instructions.
 #[cfg(all(target_arch = "x86_64", target_feature = "sse2"))]
 macro_rules! others_of_x86 {
-    ($and:ident, $and_not:ident, $or:ident, $high_bits:ident, $splat:ident, $left:ident, $right:ident) => {
-        #[inline(always)]
-        pub(crate) fn select(mask: Block, a: Block, b: Block) -> Block {
+    ($and_not:ident, $high_bits:ident, $splat:ident, $left:ident, $right:ident) => {
+        calls! {
+            select(mask: Block, a: Block, b: Block) -> Block = or(and(mask, a), and_not(mask, b));
             // SAFETY: see the module.
-            unsafe { $or($and(mask, a), $and_not(mask, b)) }
-        }
-
-        #[inline(always)]
-        pub(crate) fn high_bits(a: Block) -> u64 {
+            high_bits(a: Block) -> u64 = u64::from(unsafe { $high_bits(a) } as u32);
             // SAFETY: see the module.
-            u64::from(unsafe { $high_bits(a) } as u32)
-        }
-
-        #[inline(always)]
-        pub(crate) fn splat(a: u8) -> Block {
+            splat(a: u8) -> Block = unsafe { $splat(a as i8) };
             // SAFETY: see the module.
-            unsafe { $splat(a as i8) }
-        }
-
-        #[inline(always)]
-        pub(crate) fn right(a: Block, n: u8) -> Block {
-            and(right_16(a, u16::from(n)), splat((0xFF_u32 >> n) as u8))
-        }
-
-        #[inline(always)]
-        pub(crate) fn left(a: Block, n: u8) -> Block {
+            right(a: Block, n: u8) -> Block = and(unsafe { $right(a, _mm_cvtsi32_si128(i32::from(n))) }, splat((0xFF_u32 >> n) as u8));
             // SAFETY: see the module.
-            let moved = unsafe { $left(a, _mm_cvtsi32_si128(i32::from(n))) };
-            and(moved, splat((0xFF_u32 << n) as u8))
+            left(a: Block, n: u8) -> Block = and(unsafe { $left(a, _mm_cvtsi32_si128(i32::from(n))) }, splat((0xFF_u32 << n) as u8));
         }
-
-        #[inline(always)]
-        pub(crate) fn right_16(a: Block, n: u16) -> Block {
-            // SAFETY: see the module.
-            unsafe { $right(a, _mm_cvtsi32_si128(i32::from(n))) }
+        instructions! {
+            and_not = $and_not;
         }
     };
 }
@@ -365,50 +357,39 @@ impl<const N: usize, const BY_32: bool> Add for Simd<u8, N, BY_32> {
 }
 
 // All lanes are shifted by the same number, which is below eight: no other shift occurs.
-impl<const N: usize, const BY_32: bool> Shr for Simd<u8, N, BY_32> {
-    type Output = Self;
-    #[inline(always)]
-    fn shr(self, by: Self) -> Self {
-        is_one_shift(&by.0, 8);
-        let n = by.0[0];
-        each!(self, self, |a, _b| right(a, n))
-    }
+macro_rules! shifts {
+    ($($tr:ident $call:ident $by:ident),*) => { $(
+        impl<const N: usize, const BY_32: bool> $tr for Simd<u8, N, BY_32> {
+            type Output = Self;
+            #[inline(always)]
+            fn $call(self, by: Self) -> Self {
+                is_one_shift(&by.0, 8);
+                let n = by.0[0];
+                each!(self, self, |a, _b| $by(a, n))
+            }
+        }
+    )* };
 }
+shifts!(Shr shr right, Shl shl left);
 
-impl<const N: usize, const BY_32: bool> Shl for Simd<u8, N, BY_32> {
-    type Output = Self;
-    #[inline(always)]
-    fn shl(self, by: Self) -> Self {
-        is_one_shift(&by.0, 8);
-        let n = by.0[0];
-        each!(self, self, |a, _b| left(a, n))
-    }
+// Calls of two vectors, which make one or a mask of what is said of their blocks.
+macro_rules! of_two {
+    ($($name:ident -> $of:ident: |$a:ident, $b:ident| $made:expr;)*) => { $(
+        #[inline(always)]
+        pub fn $name(self, other: Self) -> $of<u8, N, BY_32> {
+            $of(each!(self, other, |$a, $b| $made).0)
+        }
+    )* };
 }
 
 impl<const N: usize, const BY_32: bool> Simd<u8, N, BY_32> {
-    #[inline(always)]
-    pub fn saturating_sub(self, other: Self) -> Self {
-        each!(self, other, |a, b| sub_or_0(a, b))
-    }
-    #[inline(always)]
-    pub fn simd_max(self, other: Self) -> Self {
-        each!(self, other, |a, b| max(a, b))
-    }
-    #[inline(always)]
-    pub fn simd_eq(self, other: Self) -> Mask<u8, N, BY_32> {
-        Mask(each!(self, other, |a, b| eq(a, b)).0)
-    }
-    #[inline(always)]
-    pub fn simd_ne(self, other: Self) -> Mask<u8, N, BY_32> {
-        Mask(each!(self, other, |a, b| xor(eq(a, b), splat(255))).0)
-    }
-    #[inline(always)]
-    pub fn simd_ge(self, other: Self) -> Mask<u8, N, BY_32> {
-        Mask(each!(self, other, |a, b| eq(max(a, b), a)).0)
-    }
-    #[inline(always)]
-    pub fn simd_lt(self, other: Self) -> Mask<u8, N, BY_32> {
-        Mask(each!(self, other, |a, b| xor(eq(max(a, b), a), splat(255))).0)
+    of_two! {
+        saturating_sub -> Simd: |a, b| sub_or_0(a, b);
+        simd_max -> Simd: |a, b| max(a, b);
+        simd_eq -> Mask: |a, b| eq(a, b);
+        simd_ne -> Mask: |a, b| xor(eq(a, b), splat(255));
+        simd_ge -> Mask: |a, b| eq(max(a, b), a);
+        simd_lt -> Mask: |a, b| xor(eq(max(a, b), a), splat(255));
     }
 
     /// What stands at each place, of sixteen: no place is from 16 to 127, and from 128 on it is 0.

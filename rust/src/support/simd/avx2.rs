@@ -17,15 +17,7 @@ instructions! {
     at = _mm256_shuffle_epi8;
 }
 
-others_of_x86!(
-    _mm256_and_si256,
-    _mm256_andnot_si256,
-    _mm256_or_si256,
-    _mm256_movemask_epi8,
-    _mm256_set1_epi8,
-    _mm256_sll_epi16,
-    _mm256_srl_epi16
-);
+others_of_x86!(_mm256_andnot_si256, _mm256_movemask_epi8, _mm256_set1_epi8, _mm256_sll_epi16, _mm256_srl_epi16);
 
 /// What sixteen bytes have at sixteen places.
 #[inline(always)]

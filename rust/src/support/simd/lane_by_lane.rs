@@ -3,16 +3,14 @@
 pub(crate) type Block = [u8; 16];
 
 macro_rules! each {
-    ($($(#[$doc:meta])* $name:ident = |$a:ident, $b:ident| $by:expr;)*) => { $(
-        $(#[$doc])*
-        #[inline(always)]
-        pub(crate) fn $name(x: Block, y: Block) -> Block {
-            core::array::from_fn(|k| {
+    ($($name:ident = |$a:ident, $b:ident| $by:expr;)*) => {
+        calls! { $(
+            $name(x: Block, y: Block) -> Block = core::array::from_fn(|k| {
                 let ($a, $b) = (x[k], y[k]);
                 $by
-            })
-        }
-    )* };
+            });
+        )* }
+    };
 }
 
 each! {
@@ -22,64 +20,29 @@ each! {
     add = |a, b| a.wrapping_add(b);
     sub_or_0 = |a, b| a.saturating_sub(b);
     max = |a, b| a.max(b);
-    /// All bits where the bytes are equal, and none where not.
+    // (all bits where the bytes are equal, and none where not)
     eq = |a, b| if a == b { 255 } else { 0 };
 }
 
-/// The first eight bytes of both, by turns.
-#[inline(always)]
-pub(crate) fn low_by_turns(a: Block, b: Block) -> Block {
-    core::array::from_fn(|k| if k % 2 == 0 { a[k / 2] } else { b[k / 2] })
-}
-
-/// The last eight bytes of both, by turns.
-#[inline(always)]
-pub(crate) fn high_by_turns(a: Block, b: Block) -> Block {
-    core::array::from_fn(|k| if k % 2 == 0 { a[8 + k / 2] } else { b[8 + k / 2] })
-}
-
-/// What stands at each place below 16, and 0 for places from 128 on. No other place occurs.
-#[inline(always)]
-pub(crate) fn at(a: Block, places: Block) -> Block {
-    core::array::from_fn(|k| if places[k] < 128 { a[(places[k] & 15) as usize] } else { 0 })
-}
-
-/// The first where the mask has all bits, and the second where it has none.
-#[inline(always)]
-pub(crate) fn select(mask: Block, a: Block, b: Block) -> Block {
-    core::array::from_fn(|k| mask[k] & a[k] | !mask[k] & b[k])
-}
-
-/// The highest bit of each byte.
-#[inline(always)]
-pub(crate) fn high_bits(a: Block) -> u64 {
-    a.iter().enumerate().fold(0, |all, (k, byte)| all | u64::from(byte >> 7) << k)
-}
-
-#[inline(always)]
-pub(crate) fn splat(a: u8) -> Block {
-    [a; 16]
-}
-
-/// Each byte by so many bits, fewer than eight.
-#[inline(always)]
-pub(crate) fn right(a: Block, n: u8) -> Block {
-    a.map(|it| it >> n)
-}
-
-#[inline(always)]
-pub(crate) fn left(a: Block, n: u8) -> Block {
-    a.map(|it| it << n)
-}
-
-/// The bytes at even places, of the first and then of the second.
-#[inline(always)]
-pub(crate) fn evens(a: Block, b: Block) -> Block {
-    core::array::from_fn(|k| if k < 8 { a[2 * k] } else { b[2 * k - 16] })
-}
-
-/// The bytes at odd places.
-#[inline(always)]
-pub(crate) fn odds(a: Block, b: Block) -> Block {
-    core::array::from_fn(|k| if k < 8 { a[2 * k + 1] } else { b[2 * k - 15] })
+calls! {
+    /// The first eight bytes of both, by turns.
+    low_by_turns(a: Block, b: Block) -> Block = core::array::from_fn(|k| if k % 2 == 0 { a[k / 2] } else { b[k / 2] });
+    /// The last eight bytes of both, by turns.
+    high_by_turns(a: Block, b: Block) -> Block = core::array::from_fn(|k| if k % 2 == 0 { a[8 + k / 2] } else { b[8 + k / 2] });
+    /// The bytes at even places, of the first and then of the second.
+    evens(a: Block, b: Block) -> Block = core::array::from_fn(|k| if k < 8 { a[2 * k] } else { b[2 * k - 16] });
+    /// The bytes at odd places.
+    odds(a: Block, b: Block) -> Block = core::array::from_fn(|k| if k < 8 { a[2 * k + 1] } else { b[2 * k - 15] });
+    /// What stands at each place below 16, and 0 for places from 128 on. No other place occurs.
+    at(a: Block, places: Block) -> Block = places.map(|place| if place < 128 { a[(place & 15) as usize] } else { 0 });
+    /// The first where the mask has all bits, and the second where it has none.
+    select(mask: Block, a: Block, b: Block) -> Block = core::array::from_fn(|k| mask[k] & a[k] | !mask[k] & b[k]);
+    /// The highest bit of each byte.
+    high_bits(a: Block) -> u64 = a.iter().enumerate().fold(0, |all, (k, byte)| all | u64::from(byte >> 7) << k);
+    /// That byte sixteen times.
+    splat(a: u8) -> Block = [a; 16];
+    /// Each byte by so many bits, fewer than eight.
+    right(a: Block, n: u8) -> Block = a.map(|it| it >> n);
+    /// The same to the left.
+    left(a: Block, n: u8) -> Block = a.map(|it| it << n);
 }

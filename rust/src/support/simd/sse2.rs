@@ -18,7 +18,7 @@ instructions! {
     high_by_turns = _mm_unpackhi_epi8;
 }
 
-others_of_x86!(_mm_and_si128, _mm_andnot_si128, _mm_or_si128, _mm_movemask_epi8, _mm_set1_epi8, _mm_sll_epi16, _mm_srl_epi16);
+others_of_x86!(_mm_andnot_si128, _mm_movemask_epi8, _mm_set1_epi8, _mm_sll_epi16, _mm_srl_epi16);
 
 #[cfg(target_feature = "ssse3")]
 #[inline(always)]
