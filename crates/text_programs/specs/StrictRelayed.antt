@@ -103,4 +103,4 @@ pub record StopsText (r : Recoding) (part : List ℕ) (Follows : List ℕ → Ty
 abbrev pub strict_error_text : StrictError → List ℕ
 strict_error_text Read = codes "cannot read"
 strict_error_text Write = codes "cannot write"
-strict_error_text (Faulty x) = codes "faulty input"
+strict_error_text (Faulty x) = codes "invalid input"

@@ -40,7 +40,7 @@ impl StrictError {
         match self {
             StrictError::Read => "cannot read",
             StrictError::Write => "cannot write",
-            StrictError::Faulty(_) => "faulty input",
+            StrictError::Faulty(_) => "invalid input",
         }
     }
 }
