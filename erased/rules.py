@@ -1,10 +1,10 @@
 """What the eraser knows of this project and of Rattle's std. What is in none of these lists stops it."""
 
 # The crates that become modules, each after those that it uses.
-CRATES = ["utf_base", "utf_chars", "encode_unicode", "utf_lanes", "recoding", "cuts", "c_api"]
+CRATES = ["utf_base", "utf_chars", "encode_unicode", "utf_lanes", "recoding", "text_runs", "text_buffers", "text_parts", "cuts", "c_api"]
 
 # The modules that are left out: what the programs do, streams that are counted, and what reads and writes by these need Rattle's runtime.
-LEFT_OUT = {"cuts/programs", "cuts/streams", "cuts/counted", "cuts/text_streams"}
+LEFT_OUT = {"cuts/programs", "cuts/streams", "cuts/counted", "text_buffers/text_streams", "text_runs/streams", "text_runs/counted"}
 
 # Attributes that Rust has too, and those that are Rattle's alone and go.
 ATTRIBUTES = {"cold", "derive", "inline", "must_use", "non_exhaustive", "repr"}
@@ -12,7 +12,7 @@ GHOST_ATTRIBUTES = {"tactic", "rattlefmt"}
 # What may be derived. `Drop` is Rattle's word for a type whose values may be dropped, and goes.
 DERIVES = {"Clone", "Copy", "Debug", "Default", "Eq", "Hash", "Ord", "PartialEq", "PartialOrd"}
 # Types that Rust's users expect to be cloned too: the derive takes the place of `Drop`.
-CLONED = {("cuts/decoder.rt", "Decoder"), ("recoding/recoder.rt", "Recoder")}
+CLONED = {("text_parts/decoder.rt", "Decoder"), ("recoding/recoder.rt", "Recoder")}
 # Macros of std that mean in Rust what they mean in Rattle.
 MACROS = {"assert", "assert_eq", "assert_ne", "debug_assert", "macro_rules", "matches", "panic", "unreachable", "write"}
 
@@ -48,21 +48,21 @@ OF_SOURCES = {"I", "Self", "self", "source", "iter", "can_next", "remaining", "I
 ASSERTED = {
     "utf_chars/utf8_char.rt:to_slice": ("HasRoomForCode 4 (utf8 self) dst.old", "self.len() <= dst.len()"),
     "utf_chars/utf16_char.rt:to_slice": ("HasRoomForCode 2 (utf16 self) dst.old", "self.len() <= dst.len()"),
-    "cuts/boundaries.rt:floor": ("place ≤ length bytes.now", "place <= bytes.len()"),
-    "cuts/boundaries.rt:ceil": ("place ≤ length bytes.now", "place <= bytes.len()"),
-    "cuts/boundaries.rt:previous": ("0 < place; place ≤ length bytes.now", "0 < place && place <= bytes.len()"),
-    "cuts/boundaries.rt:following": ("place < length bytes.now", "place < bytes.len()"),
-    "cuts/splits.rt:split_ascii": ("separator < 128", "separator < 128"),
-    "cuts/buffers/text_buffer.rt:replace": (
+    "text_runs/boundaries.rt:floor": ("place ≤ length bytes.now", "place <= bytes.len()"),
+    "text_runs/boundaries.rt:ceil": ("place ≤ length bytes.now", "place <= bytes.len()"),
+    "text_runs/boundaries.rt:previous": ("0 < place; place ≤ length bytes.now", "0 < place && place <= bytes.len()"),
+    "text_runs/boundaries.rt:following": ("place < length bytes.now", "place < bytes.len()"),
+    "text_runs/splits.rt:split_ascii": ("separator < 128", "separator < 128"),
+    "text_buffers/buffers/text_buffer.rt:replace": (
         "start ≤ end; end ≤ length self.old",
         "start <= end && end <= self.len()",
     ),
-    "cuts/buffers/text_buffer.rt:insert": ("offset ≤ length self.old", "offset <= self.len()"),
-    "cuts/buffers/text_buffer.rt:remove": (
+    "text_buffers/buffers/text_buffer.rt:insert": ("offset ≤ length self.old", "offset <= self.len()"),
+    "text_buffers/buffers/text_buffer.rt:remove": (
         "start ≤ end; end ≤ length self.old",
         "start <= end && end <= self.len()",
     ),
-    "cuts/piece_table.rt:replace": (
+    "text_buffers/piece_table.rt:replace": (
         "start ≤ end; end ≤ length self.old.bytes",
         "start <= end && end <= self.bytes.len()",
     ),
@@ -78,7 +78,7 @@ OWN = {
 
 # Public traits whose methods ask something of their callers: only the proved text calls them, and no hand-written file may name them but to
 # implement them.
-OWN_TRAITS = {"cuts/located.rt:FromPiece"}
+OWN_TRAITS = {"text_parts/located.rt:FromPiece"}
 
 # Fields that the hand-written text reads: whether a merger holds a unit.
 OPENED = {"encode_unicode/utf16_merger.rt": ("Utf16CharMerger", "held")}
@@ -101,7 +101,7 @@ OF_BOTH = {"utf_chars/utf16_char.rt": ("second == 0", "(first as u32 | (second a
 WIDE = ("utf_lanes/",) + tuple(f"recoding/{it}.rt" for it in (
     "ascii_to_utf16", "block_output", "codes", "engine", "fills", "form_calls", "kernels", "list", "output", "recoder_runs", "replacing", "room",
     "text", "turned", "utf16_to_utf8", "utf8_to_utf16",
-)) + ("cuts/runs/piece_counts.rt",)
+)) + ("text_runs/runs/piece_counts.rt",)
 
 # Of these files that which has types alone: it stands once, and the copy passes it on.
 ONCE = {"utf_lanes/byte_order.rt"}
@@ -122,7 +122,7 @@ CHOSEN = {
     "utf_lanes/unit_starts.rt:nth_unit_byte_start": ("bytes.len()", "OTHER::<E>(bytes, number)"),
     "utf_lanes/unit_blocks.rt:units_len": ("bytes.len()", "OTHER::<E>(bytes)"),
     "utf_lanes/paired_units.rt:paired_len": ("units.len()", "OTHER(units)"),
-    "cuts/runs/piece_counts.rt:piece_count": ("bytes.len()", "OTHER(bytes)"),
+    "text_runs/runs/piece_counts.rt:piece_count": ("bytes.len()", "OTHER(bytes)"),
     "recoding/recoder_runs.rt:recode_into": ("bytes.len()", "OTHER(way, from, to, bytes, room, place)"),
     "recoding/recoder_runs.rt:recode_whole": (
         "bytes.len()",

@@ -42,7 +42,7 @@ REFUSED = [
     ("to_vec is not known", "fn f(x: &[u8]) { x.to_vec(); }"),
     ("is a method of Index, which any code may call", "impl Index<u8> for S {\n    fn index(&self, i: u8) -> &u8\n        requires { i < 4 }\n    { &self.x }\n}"),
     ("is a method of a public trait", "pub trait T {\n    fn f(self)\n        requires { self ≡ 1 };\n}"),
-    ("what is asserted says", "pub fn split_ascii(bytes: &[u8], separator: u8)\n    requires { separator < 64 }\n{}", "cuts/splits.rt"),
+    ("what is asserted says", "pub fn split_ascii(bytes: &[u8], separator: u8)\n    requires { separator < 64 }\n{}", "text_runs/splits.rt"),
     ("no line `/// Condition:` says", "/// A call.\npub fn f_unchecked()\n    requires { x }\n{}"),
     ("f_unchecked is not called", "fn f_unchecked()\n    requires { x }\n{}\nfn g() { let h = f_unchecked; }"),
     ("f is passed on, and asks", "pub fn f()\n    requires { x < 1 }\n{}\npub use crate::a::{f, g};"),

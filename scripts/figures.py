@@ -114,7 +114,7 @@ def logic():
 
 def statuses():
     """The exit statuses for wrong arguments, and for what failed."""
-    told = dict(re.findall(r"^status_of (\w+) = (\d)$", "\n".join(lines_of("crates/cuts/specs/Endings.antt")), re.M))
+    told = dict(re.findall(r"^status_of (\w+) = (\d)$", "\n".join(lines_of("crates/text_programs/specs/Endings.antt")), re.M))
     failed = {status for stop, status in told.items() if stop != "WrongArguments"}
     return told["WrongArguments"], ",".join(sorted(failed))
 

@@ -3,7 +3,7 @@ import os
 import re
 
 TOP = os.path.dirname(os.path.dirname(os.path.abspath(__file__)))
-LIBRARIES = ("utf_base", "utf_chars", "utf_lanes", "encode_unicode", "recoding", "cuts", "c_api")
+LIBRARIES = ("utf_base", "utf_chars", "utf_lanes", "encode_unicode", "recoding", "text_runs", "text_buffers", "text_parts", "text_programs", "cuts", "c_api")
 # The crates of callers.
 CALLERS = ("uses", "uses_runs")
 HEAD = re.compile(r'^(pub(?:\([^)]*\))? )?(?:(?:const|unsafe|final|extern "C") )*(fn|impl|trait)\b(.*)')

@@ -11,10 +11,10 @@ use Rattle.utf_base.specs.Kinds.{fault_kind}
 use Rattle.utf_base.proofs.Utf8Code.{utf8_is_code}
 use Rattle.encode_unicode.specs.Pieces.{pieces}
 use Rattle.encode_unicode.specs.Window.{Item}
-use Rattle.cuts.specs.ForwardRuns.{faulty_item_count, is_fault}
-use Rattle.cuts.specs.Items.{Placed, piece_of, IsRun}
-use Rattle.cuts.specs.ShardRuns.{AreOutside, ShardCountsAdd, joined_items, line_feed_count, moved, shard_items, sum_of_shards}
-use Rattle.cuts.proofs.ForwardRuns.{pieces_are_the_run}
+use Rattle.text_runs.specs.ForwardRuns.{faulty_item_count, is_fault}
+use Rattle.text_runs.specs.Items.{Placed, piece_of, IsRun}
+use Rattle.text_runs.specs.ShardRuns.{AreOutside, ShardCountsAdd, joined_items, line_feed_count, moved, shard_items, sum_of_shards}
+use Rattle.text_runs.proofs.ForwardRuns.{pieces_are_the_run}
 use Rattle.cuts.proofs.ShardPieces.{joined_pieces}
 
 -- a test that all pass keeps all

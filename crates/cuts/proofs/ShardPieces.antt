@@ -14,10 +14,10 @@ use Rattle.encode_unicode.specs.Pieces.{pieces}
 use Rattle.utf_base.specs.Piece.{Covered, Inside, IsCutBetween, IsPiece, IsPieceAt, Piece}
 use Rattle.utf_base.proofs.Cuts.{cut_append, cut_is_unique}
 use Rattle.utf_base.proofs.Standing.{outside_end, outside_front, stands_in_part, stands_in_whole}
-use Rattle.cuts.specs.Items.{Placed, piece_of, HasKind, IsRun}
-use Rattle.cuts.specs.ShardRuns.{AreOutside, ShardItemsJoin, ShardPiecesJoin, faults, joined_items, moved, shard_items}
-use Rattle.cuts.proofs.ForwardRuns.{pieces_are_the_run}
-use Rattle.cuts.proofs.RunLaws.{run_unique}
+use Rattle.text_runs.specs.Items.{Placed, piece_of, HasKind, IsRun}
+use Rattle.text_runs.specs.ShardRuns.{AreOutside, ShardItemsJoin, ShardPiecesJoin, faults, joined_items, moved, shard_items}
+use Rattle.text_runs.proofs.ForwardRuns.{pieces_are_the_run}
+use Rattle.text_runs.proofs.RunLaws.{run_unique}
 
 -- Lists.
 

@@ -22,7 +22,7 @@ use Rattle.encode_unicode.specs.BackPieces.{AreTurned, ending_at, pieces_back, p
 use Rattle.encode_unicode.specs.Pieces.{pieces}
 use Rattle.encode_unicode.specs.Window.{Item, as_piece}
 use Rattle.encode_unicode.proofs.ForCallers.{back_more, back_none, some_end_bytes}
-use Rattle.cuts.proofs.ForwardRuns.{pieces_are_the_run}
+use Rattle.text_runs.proofs.ForwardRuns.{pieces_are_the_run}
 
 -- the last piece of what is left
 record Last (code : ℕ → List ℕ) (xs : List ℕ) (i j : ℕ) (x : Piece) : Type 0 where

@@ -8,11 +8,11 @@ ghost use Rattle.std.specs.Str.{IsUtf8};
 ghost use Rattle.encode_unicode.specs.BackPieces.{AreTurned, pieces_back};
 ghost use Rattle.encode_unicode.specs.Mergers.{merged};
 ghost use Rattle.encode_unicode.specs.Pieces.{pieces};
-ghost use Rattle.cuts.specs.ForwardRuns.{PiecesAreTheRun, TextHasNoFault, faulty_item_count};
-ghost use Rattle.cuts.specs.EqualRuns.{OneRun, OneMergedRun};
-ghost use Rattle.cuts.specs.ShardRuns.{ShardCountsAdd, ShardItemsJoin, ShardPiecesJoin, faults, line_feed_count};
-ghost use Rattle.cuts.specs.LocatedLaws.{LocatedAreMerged, NoPieceComesEarlier, PartsAreLocated};
-ghost use Rattle.cuts.specs.Splits.{OneSplit};
+ghost use Rattle.text_runs.specs.ForwardRuns.{PiecesAreTheRun, TextHasNoFault, faulty_item_count};
+ghost use Rattle.text_runs.specs.EqualRuns.{OneRun, OneMergedRun};
+ghost use Rattle.text_runs.specs.ShardRuns.{ShardCountsAdd, ShardItemsJoin, ShardPiecesJoin, faults, line_feed_count};
+ghost use Rattle.text_parts.specs.LocatedLaws.{LocatedAreMerged, NoPieceComesEarlier, PartsAreLocated};
+ghost use Rattle.text_runs.specs.Splits.{OneSplit};
 ghost use Rattle.utf_base.specs.Code.{utf8, utf16};
 ghost use Rattle.utf_base.specs.Kinds.{fault_kind, merger_kind};
 ghost use Rattle.utf_base.specs.Units.{unit_fault_kind};
@@ -60,7 +60,7 @@ pub fn pieces_back_are_the_pieces(bytes: &[u8])
 {}
 
 /// Parts without the separator that are the bytes, joined by it, are those that `split_ascii` gives.
-#[tactic(auto, using(crate::proofs::SplitLemmas::one_split))]
+#[tactic(auto, using(text_runs::proofs::SplitLemmas::one_split))]
 pub fn split_is_unique()
     ensures { OneSplit }
 {}

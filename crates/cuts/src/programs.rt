@@ -1,13 +1,4 @@
-//! What the programs `pieces` and `recode` do: their arguments, their lines, and how they end.
-
-pub(crate) mod entries;
-pub(crate) mod lines;
-pub mod listing;
-pub mod mains;
-pub(crate) mod offset;
-pub mod pieces_program;
-pub mod recode_program;
-pub mod recode_stream;
-pub(crate) mod requests;
-pub mod stops;
-pub mod strict;
+//! What the programs `pieces` and `recode` do.
+pub use text_programs::programs::{
+    listing, mains, pieces_program, recode_program, recode_stream, stops, strict,
+};

@@ -275,7 +275,7 @@ fn a_strict_run_tells_what_failed(rt: HostRuntime) -> Result<(), Fail> {
     for (error, text) in [
         (StrictError::Read, "cannot read"),
         (StrictError::Write, "cannot write"),
-        (StrictError::Faulty(fault), "faulty input"),
+        (StrictError::Faulty(fault), "invalid input"),
     ] {
         assert!(rt; format!(in rt.alloc(); "{error}")?.as_str() == text);
     }

@@ -1,4 +1,4 @@
-use Rattle.cuts.proofs.CharacterRuns.{text_by_merger}
+use Rattle.text_runs.proofs.CharacterRuns.{text_by_merger}
 use Rattle.cuts.proofs.laws.merged_is_all_characters.Goals as goal
 
 pub returns : goal.returns

@@ -1,5 +1,5 @@
-use Rattle.cuts.proofs.EqualRunLemmas.{run_is_pieces}
-use Rattle.cuts.proofs.ForwardRuns.{pieces_are_the_run}
+use Rattle.text_runs.proofs.EqualRunLemmas.{run_is_pieces}
+use Rattle.text_runs.proofs.ForwardRuns.{pieces_are_the_run}
 use Rattle.cuts.proofs.laws.pieces_are_the_run.Goals as goal
 
 pub returns : goal.returns

@@ -3,8 +3,8 @@ use Rattle.utf_base.specs.Kinds.{fault_kind, merger_kind}
 use Rattle.utf_base.specs.Units.{unit_fault_kind}
 use Rattle.utf_base.proofs.Utf8Code.{utf8_is_code}
 use Rattle.utf_base.proofs.Utf16Code.{utf16_is_code}
-use Rattle.cuts.proofs.EqualRunLemmas.{merged_run_unique}
-use Rattle.cuts.proofs.RunLaws.{run_unique}
+use Rattle.text_runs.proofs.EqualRunLemmas.{merged_run_unique}
+use Rattle.text_runs.proofs.RunLaws.{run_unique}
 use Rattle.cuts.proofs.laws.runs_are_unique.Goals as goal
 
 pub returns : goal.returns

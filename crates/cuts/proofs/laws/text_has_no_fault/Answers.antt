@@ -1,4 +1,4 @@
-use Rattle.cuts.proofs.TextRuns.{no_fault_where_text, text_where_no_fault}
+use Rattle.text_runs.proofs.TextRuns.{no_fault_where_text, text_where_no_fault}
 use Rattle.cuts.proofs.laws.text_has_no_fault.Goals as goal
 
 pub returns : goal.returns

@@ -1,6 +1,0 @@
-use Rattle.std.proofs.Common.{◌≡◌, take}
-use Rattle.cuts.specs.ShardRuns.{line_feed_count}
-use Rattle.cuts.proofs.buffers.counts.part_feeds.Given as goal
-
-abbrev pub invariant-loop-byte : goal.invariant-loop-byte
-invariant-loop-byte l = l.feeds ≡ line_feed_count (take l.byte-index l.bytes)

@@ -1,6 +1,0 @@
-use Rattle.std.proofs.Common.{◌≡◌, ◌+◌, take}
-use Rattle.cuts.specs.ShardRuns.{line_feed_count}
-use Rattle.cuts.proofs.buffers.line_feeds.feed_end.Given as goal
-
-abbrev pub invariant-loop-place : goal.invariant-loop-place
-invariant-loop-place l = l.left + line_feed_count (take l.place l.bytes) ≡ l.before

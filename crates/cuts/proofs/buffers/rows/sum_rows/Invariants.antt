@@ -1,6 +1,0 @@
-use Rattle.std.proofs.Common.{◌≡◌, length}
-use Rattle.cuts.specs.Rows.{AreSums}
-use Rattle.cuts.proofs.buffers.rows.sum_rows.Given as goal
-
-abbrev pub invariant-loop-row : goal.invariant-loop-row
-invariant-loop-row g l = AreSums l.chunks l.sums.items × (l.row ≡ length l.sums.items)

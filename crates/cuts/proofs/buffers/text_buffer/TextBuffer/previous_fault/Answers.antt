@@ -1,4 +1,0 @@
-use Rattle.cuts.proofs.buffers.text_buffer.TextBuffer.previous_fault.Goals as goal
-
-pub returns : goal.returns
-returns g c = rw (← c.self.view_is) (rw c.deref.ensures.value at c.fault_before.ensures)

@@ -1,5 +1,0 @@
-use Rattle.cuts.proofs.LinesOfParts.{few_left}
-use Rattle.cuts.proofs.byte_lines.SplitLinesIterator.size_hint.Goals as goal
-
-pub returns-clause-upper : goal.returns-clause-upper
-returns-clause-upper c = few_left _ _ c.size_hint-most.result.1 c.self.view_is c.size_hint-most.ensures.upper

@@ -1,6 +1,0 @@
-use Rattle.cuts.proofs.CursorPlaces.{spliced_at_end}
-use Rattle.std.proofs.Common.{◌∙◌}
-use Rattle.cuts.proofs.text_streams.append.Goals as goal
-
-pub returns : goal.returns
-returns g c = c.in_ok-insert.ensures.ok ∙ spliced_at_end c.args.text.now c.args.part.now c.len-end.result c.len-end.ensures

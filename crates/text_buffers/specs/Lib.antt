@@ -1,0 +1,9 @@
+pub mod Counts
+pub mod Chunks
+pub mod CountedChunks
+pub mod ChunkEdits
+pub mod Changes
+pub mod Measures
+pub mod Rows
+pub mod RowEdits
+pub mod TextLookups

@@ -1,0 +1,95 @@
+//! A place between two pieces of a text, from which pieces are read forward and back.
+ghost use Rattle.std.specs.Prelude.{◌≡◌, ◌+◌, Contains, MatchOption, length, min};
+ghost use Rattle.encode_unicode.specs.Pieces.{pieces};
+ghost use Rattle.text_runs.specs.PieceBoundaries.{IsBetween, IsLastBetween};
+
+use crate::buffers::text_buffer::TextBuffer;
+use std::alloc::Allocator;
+use std::marker::Model;
+use text_runs::runs::items::Item;
+
+/// A place between two pieces of a text, which goes from piece to piece, forward and back. Contracts see
+/// the text and the offset of the place.
+#[derive(Drop)]
+pub struct TextCursor<'a, A: Allocator + Copy> {
+    text: &'a TextBuffer<A>,
+    offset: usize,
+}
+
+impl<'a, A: Allocator + Copy> Model for TextCursor<'a, A> {
+    ghost use Rattle.text_runs.specs.PieceBoundaries.{IsBetween};
+    ghost use Rattle.text_buffers.specs.TextLookups.{TextPlace};
+
+    ghost Value = { TextPlace };
+
+    ghost view = { λ c. record { text = c.text.now; offset = c.offset } };
+
+    ghost invariant = { λ c. IsBetween c.text.now c.offset };
+}
+
+impl<'a, A: Allocator + Copy> TextCursor<'a, A> {
+    /// A cursor at the last boundary between two pieces that is not after this offset, or at the end of
+    /// the text if the offset is not below its length.
+    ///
+    /// Cost: as that of `TextBuffer::piece_at`.
+    pub fn at(text: &'a TextBuffer<A>, offset: usize) -> TextCursor<'a, A>
+        ensures text { result.text ≡ text.now }
+        ensures offset { IsLastBetween text.now (min offset (length text.now)) result.offset }
+    {
+        match text.piece_at(offset) {
+            Some((place, _, _)) => TextCursor::between(text, place),
+            None => TextCursor::between(text, text.len()),
+        }
+    }
+
+    // One at this place, which lies between two pieces.
+    fn between(text: &'a TextBuffer<A>, offset: usize) -> TextCursor<'a, A>
+        requires { IsBetween text.now offset }
+        ensures { result ≡ record { text = text.now; offset = offset } }
+    {
+        TextCursor { text, offset }
+    }
+
+    /// The offset of the place.
+    pub fn offset(&self) -> usize
+        ensures { result ≡ self.now.offset }
+    {
+        let TextCursor { offset, .. } = self;
+        *offset
+    }
+
+    /// The piece after the place, and goes to its end: (offset, character or error, length). `None` at
+    /// the end of the text.
+    ///
+    /// Cost: as that of `TextBuffer::piece_at`.
+    pub fn next(&mut self) -> Option<Item>
+        ensures text { self.new.text ≡ self.old.text }
+        ensures piece { MatchOption result (self.old.offset ≡ length self.old.text)
+            (λ x. Contains (pieces self.old.text) x × (x.0 ≡ self.old.offset)) }
+        ensures offset { MatchOption result (self.new.offset ≡ self.old.offset)
+            (λ x. self.new.offset ≡ x.0 + x.2) }
+    {
+        // A length is a `usize`: this call is all that tells a proof so.
+        let _len = self.text.len();
+        let item = self.text.piece_at(self.offset)?;
+        self.offset = item.0 + item.2;
+        Some(item)
+    }
+
+    /// The piece before the place, and goes to where it begins: (offset, character or error, length).
+    /// `None` at the beginning of the text.
+    ///
+    /// Cost: as that of `TextBuffer::piece_at`.
+    pub fn next_back(&mut self) -> Option<Item>
+        ensures text { self.new.text ≡ self.old.text }
+        ensures piece { MatchOption result (self.old.offset ≡ 0)
+            (λ x. Contains (pieces self.old.text) x × (x.0 + x.2 ≡ self.old.offset)) }
+        ensures offset { MatchOption result (self.new.offset ≡ self.old.offset)
+            (λ x. self.new.offset ≡ x.0) }
+    {
+        let last = self.offset.checked_sub(1)?;
+        let item = self.text.piece_at(last)?;
+        self.offset = item.0;
+        Some(item)
+    }
+}

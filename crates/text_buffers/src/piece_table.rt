@@ -1,0 +1,343 @@
+//! A table of the pieces of some bytes, which is kept up to date where a part of the bytes is replaced.
+ghost use Rattle.std.specs.List.{splice};
+ghost use Rattle.std.specs.List.Sorted.{IsNonDecreasingBy};
+ghost use Rattle.std.specs.Prelude.{◌≡◌, ◌+◌, ◌-◌, ◌^◌, ◌<◌, ◌≤◌, ◌++◌, [], length, map, slice_range, take, drop, All, IfOk, IsOk, OnOk, OnErr, vec_len, vec_capacity};
+ghost use Rattle.utf_base.specs.Code.{utf8};
+ghost use Rattle.utf_base.specs.Piece.{Inside};
+ghost use Rattle.encode_unicode.specs.Pieces.{pieces as all_pieces, LiesWithin};
+ghost use Rattle.encode_unicode.specs.Window.{Item as AnItem, IsFrontPiece};
+ghost use Rattle.text_runs.specs.ForwardRuns.{IsForwardRun, IsForwardRunBetween};
+ghost use Rattle.text_runs.specs.Tables.{StayAround, StepForEach, WereReplaced, IsSplice, IsRenewed, IsSplitAt, EndsAt, IsRestMoved, moved_item};
+
+use crate::block_moves::Moved;
+use encode_unicode::{Steps, Utf8Char};
+use std::alloc::{AllocError, Allocator};
+use std::marker::Model;
+use text_runs::runs::items::Item;
+
+/// Bytes and their pieces, which are kept up to date while the bytes are edited. Contracts see
+/// both.
+///
+/// A change of the bytes reaches few pieces: `replace` decodes only those, and moves the others.
+#[derive(Drop)]
+pub struct PieceTable<A: Allocator + Copy> {
+    bytes: Vec<u8, A>,
+    pieces: Vec<Item, A>,
+}
+
+impl<A: Allocator + Copy> Model for PieceTable<A> {
+    ghost use Rattle.text_runs.specs.ForwardRuns.{IsForwardRun};
+    ghost use Rattle.text_runs.specs.Tables.{Table};
+
+    ghost Value = { Table };
+
+    ghost view = { λ t. record { bytes = t.bytes.items; pieces = t.pieces.items } };
+
+    ghost invariant = { λ t. IsForwardRun t.bytes.items t.pieces.items };
+}
+
+impl<A: Allocator + Copy> PieceTable<A> {
+    /// A table of a copy of the bytes. The error is that memory was refused.
+    ///
+    /// Cost: O(n), allocates.
+    pub fn new(alloc: A, bytes: &[u8]) -> Result<PieceTable<A>, AllocError>
+        ensures ok { IfOk result (λ table. table.bytes ≡ bytes.now) }
+        ensures nothing { length bytes.now ≡ 0 → IsOk result }
+    {
+        let mut held = Vec::with_capacity(alloc, bytes.len())?;
+        held.extend_from_slice(bytes)?;
+        let mut pieces = Vec::new(alloc);
+        decode_pieces(bytes, 0, bytes.len(), &mut pieces, &mut Steps::new())?;
+        Ok(PieceTable {
+            bytes: held,
+            pieces,
+        })
+    }
+
+    /// The bytes.
+    pub fn bytes(&self) -> &[u8]
+        ensures { result.now ≡ self.now.bytes }
+    {
+        self.bytes.as_slice()
+    }
+
+    /// All pieces of the bytes, in order: (offset, character or error, length). The errors are
+    /// those that a decoder gives from the front.
+    pub fn pieces(&self) -> &[Item]
+        ensures held { result.now ≡ self.now.pieces }
+        ensures run { IsForwardRun self.now.bytes result.now }
+        ensures value { result.now ≡ all_pieces self.now.bytes }
+        ensures places { All (LiesWithin 4 (length self.now.bytes)) result.now }
+        ensures fits { length self.now.bytes < 2 ^ 64 }
+    {
+        // A length is a `usize`: this call is all that tells a proof so.
+        let _len = self.bytes.len();
+        self.pieces.as_slice()
+    }
+
+    /// Replaces the bytes from `start` up to `end`, `end` not included, by `new`. It counts in
+    /// `steps` the pieces that it decodes.
+    ///
+    /// The error is that memory was refused, or that a `usize` cannot count the bytes. The table is
+    /// then as it was. If nothing is replaced by nothing (`start` is `end`, and `new` is empty), no
+    /// memory is asked for.
+    ///
+    /// Condition: `start` is at most `end`, and `end` at most the length.
+    ///
+    /// Cost: decodes at most n + 6 pieces for n new bytes, and moves all that follow; allocates.
+    pub fn replace(
+        &mut self,
+        start: usize,
+        end: usize,
+        new: &[u8],
+        steps: &mut Steps,
+    ) -> Result<(), AllocError>
+        requires ordered { start ≤ end }
+        requires within { end ≤ length self.old.bytes }
+        ensures ok { OnOk result (self.new.bytes ≡ splice self.old.bytes start end new.now) }
+        ensures run { IsForwardRun self.new.bytes self.new.pieces }
+        ensures around { OnOk result (StayAround self.old.pieces self.new.pieces start end
+            (start + length new.now)) }
+        ensures err { OnErr result (self.new ≡ self.old) }
+        ensures least { OnOk result (StepForEach self.new.bytes (start - 3)
+            (start + length new.now + 3) steps.old steps.new) }
+        ensures most { steps.new ≤ steps.old + length new.now + 6 }
+        ensures nothing { start ≡ end → length new.now ≡ 0 → IsOk result × (self.new ≡ self.old) }
+    {
+        if start == end && new.is_empty() {
+            decode_near(self.bytes.as_slice(), start, self.pieces.as_slice(), steps);
+            return Ok(());
+        }
+        // All room is taken before the first change.
+        let most = new.len().saturating_add(6);
+        let mut fresh = Vec::with_capacity(*self.bytes.allocator(), most)?;
+        self.pieces.reserve(most)?;
+        splice_in(&mut self.bytes, start, end, new)?;
+        redecode(
+            &self.bytes,
+            start,
+            end,
+            start + new.len(),
+            &mut self.pieces,
+            &mut fresh,
+            steps,
+        )
+    }
+}
+
+// Makes the pieces of some bytes those of `bytes`, which these became where what stood from `start` to
+// `end` was replaced and now ends at `after`. There is room for what is decoded, so it never fails.
+fn redecode<A: Allocator>(
+    bytes: &[u8],
+    start: usize,
+    end: usize,
+    after: usize,
+    pieces: &mut Vec<Item, A>,
+    fresh: &mut Vec<Item, A>,
+    steps: &mut Steps,
+) -> Result<(), AllocError>
+    requires replaced { WereReplaced bytes.now start end after pieces.old.items }
+    requires empty { fresh.old.items ≡ [] }
+    requires fresh_room { after - start + 6 ≤ vec_capacity fresh.old }
+    requires room { vec_len pieces.old + (after - start + 6) ≤ vec_capacity pieces.old }
+    ensures done { IsOk result }
+    ensures renewed { IsRenewed bytes.now start end after
+        pieces.old.items pieces.new.items steps.old steps.new }
+{
+    let spot = find_splice(bytes, start, end, after, pieces.as_slice());
+    decode_pieces(bytes, spot.from, after + 3, fresh, steps)?;
+    put_pieces(pieces, spot.keep, spot.resume, fresh.as_slice(), end, after)
+}
+
+// Decodes the pieces that a change at the place would reach, each in one step, and keeps none: where nothing changes
+// they are known. So it asks for no memory.
+fn decode_near(bytes: &[u8], place: usize, pieces: &[Item], steps: &mut Steps)
+    requires replaced { WereReplaced bytes.now place place place pieces.now }
+    ensures least { StepForEach bytes.now (place - 3) (place + 3) steps.old steps.new }
+    ensures most { steps.new ≤ steps.old + 6 }
+{
+    let spot = find_splice(bytes, place, place, place, pieces);
+    let end = bytes.len().min(place + 3);
+    let mut next = spot.from;
+    while next < end {
+        let item = piece_at(bytes, next, steps);
+        next += item.2;
+    }
+}
+
+// Where the new pieces go: in place of the old ones from `keep` to `resume`, and decoded from the place
+// `from` on.
+#[derive(Drop)]
+struct Splice {
+    keep: usize,
+    resume: usize,
+    from: usize,
+}
+
+// The spot for the new pieces. A piece that ends near enough to a change to be reached by it is not kept.
+fn find_splice(bytes: &[u8], start: usize, end: usize, after: usize, pieces: &[Item]) -> Splice
+    requires replaced { WereReplaced bytes.now start end after pieces.now }
+    ensures { IsSplice bytes.now start end after pieces.now result.keep result.resume result.from }
+{
+    let keep = count_before(pieces, start.saturating_sub(3));
+    Splice {
+        keep,
+        resume: count_before(pieces, end + 3),
+        from: end_of(pieces, keep),
+    }
+}
+
+// Puts `fresh` in place of the items from `keep` to `resume`, and counts the places of those after from
+// `to` where they were counted from `from`. It fails only where room is missing.
+fn put_pieces<A: Allocator>(
+    pieces: &mut Vec<Item, A>,
+    keep: usize,
+    resume: usize,
+    fresh: &[Item],
+    from: usize,
+    to: usize,
+) -> Result<(), AllocError>
+    requires ordered { keep ≤ resume }
+    requires within { resume ≤ vec_len pieces.old }
+    requires counted { All (λ (x : AnItem). from ≤ x.0) (drop resume pieces.old.items) }
+    requires fits { All (λ (x : AnItem). to + (x.0 - from) < 2 ^ 64) (drop resume pieces.old.items) }
+    ensures ok { OnOk result (pieces.new.items ≡ take keep pieces.old.items ++
+        (fresh.now ++ map (moved_item from to) (drop resume pieces.old.items))) }
+    ensures room { vec_len pieces.old + length fresh.now ≤ vec_capacity pieces.old → IsOk result }
+{
+    move_places(&mut pieces[resume..], from, to);
+    splice_in(pieces, keep, resume, fresh)
+}
+
+// Puts `new` in place of the items from `start` to `end`. It fails only where room for it is missing,
+// and then changes nothing.
+pub(crate) fn splice_in<T: Moved, A: Allocator>(
+    items: &mut Vec<T, A>,
+    start: usize,
+    end: usize,
+    new: &[T],
+) -> Result<(), AllocError>
+    requires ordered { start ≤ end }
+    requires within { end ≤ vec_len items.old }
+    ensures ok { OnOk result (items.new.items ≡ splice items.old.items start end new.now) }
+    ensures err { OnErr result (items.new.items ≡ items.old.items) }
+    ensures room { vec_len items.old + length new.now ≤ vec_capacity items.old → IsOk result }
+{
+    let after = start.checked_add(new.len()).ok_or(AllocError)?;
+    move_rest(items, end, after, new)?;
+    items[start..after].copy_from_slice(new);
+    Ok(())
+}
+
+// Moves the items after `from` so that they begin at `to`. A gap is filled with some of `filler`.
+fn move_rest<T: Moved, A: Allocator>(
+    items: &mut Vec<T, A>,
+    from: usize,
+    to: usize,
+    filler: &[T],
+) -> Result<(), AllocError>
+    requires within { from ≤ vec_len items.old }
+    requires filled { to ≤ from + length filler.now }
+    ensures ok { OnOk result (IsRestMoved items.old.items items.new.items from to) }
+    ensures err { OnErr result (items.new.items ≡ items.old.items) }
+    ensures room { vec_len items.old + length filler.now ≤ vec_capacity items.old → IsOk result }
+{
+    let len = items.len();
+    if to == from {
+        return Ok(());
+    }
+    if to < from {
+        T::move_within(items.as_mut_slice(), from, len, to);
+        items.truncate(to + (len - from));
+        return Ok(());
+    }
+    items.extend_from_slice(&filler[..to - from])?;
+    T::move_within(items.as_mut_slice(), from, len, to);
+    Ok(())
+}
+
+// How many of the items begin before the place.
+fn count_before(items: &[Item], place: usize) -> usize
+    requires { IsNonDecreasingBy (λ (x : AnItem). x.0) items.now }
+    ensures { IsSplitAt items.now place result }
+{
+    items.partition_point(|item| item.0 < place)
+}
+
+// Where the first `count` items end.
+fn end_of(items: &[Item], count: usize) -> usize
+    requires within { count ≤ length items.now }
+    requires fits { All (λ (x : AnItem). x.0 + x.2 < 2 ^ 64) items.now }
+    ensures { EndsAt items.now count result }
+{
+    if count == 0 {
+        return 0;
+    }
+    let (place, _, len) = items[count - 1];
+    place + len
+}
+
+// Counts the places of the items from `to` where they were counted from `from`.
+fn move_places(items: &mut [Item], from: usize, to: usize)
+    requires counted { All (λ (x : AnItem). from ≤ x.0) items.old }
+    requires fits { All (λ (x : AnItem). to + (x.0 - from) < 2 ^ 64) items.old }
+    ensures { items.new ≡ map (moved_item from to) items.old }
+{
+    if from != to {
+        move_each(items, from, to);
+    }
+}
+
+// The same, place by place.
+fn move_each(items: &mut [Item], from: usize, to: usize)
+    requires counted { All (λ (x : AnItem). from ≤ x.0) items.old }
+    requires fits { All (λ (x : AnItem). to + (x.0 - from) < 2 ^ 64) items.old }
+    ensures { items.new ≡ map (moved_item from to) items.old }
+{
+    for i in 0..items.len() {
+        let item = items[i];
+        items[i] = (to + (item.0 - from), item.1, item.2);
+    }
+}
+
+// Collects the pieces of the bytes that begin from `place` on and before `until`, where no code lies over
+// `place`. Each takes one step.
+fn decode_pieces<A: Allocator>(
+    bytes: &[u8],
+    place: usize,
+    until: usize,
+    pieces: &mut Vec<Item, A>,
+    steps: &mut Steps,
+) -> Result<(), AllocError>
+    requires within { place ≤ length bytes.now }
+    requires outside { Inside utf8 bytes.now place → ⊥ }
+    requires empty { pieces.old.items ≡ [] }
+    ensures run { OnOk result (IsForwardRunBetween bytes.now place until pieces.new.items) }
+    ensures steps { OnOk result (steps.new ≡ steps.old + length pieces.new.items) }
+    ensures few { steps.new ≤ steps.old + (until - place) }
+    ensures room { until - place ≤ vec_capacity pieces.old → IsOk result }
+{
+    let end = until.min(bytes.len());
+    let mut next = place;
+    while next < end {
+        let item = piece_at(bytes, next, steps);
+        next += item.2;
+        pieces.push(item)?;
+    }
+    Ok(())
+}
+
+// The piece that begins what is left of the bytes from `place` on. This is one step.
+#[inline(always)]
+fn piece_at(bytes: &[u8], place: usize, steps: &mut Steps) -> Item
+    requires { place < length bytes.now }
+    ensures place { result.0 ≡ place }
+    ensures piece { IsFrontPiece (slice_range bytes.now place (length bytes.now)) result.1 result.2 }
+    ensures step { steps.new ≡ steps.old + 1 }
+{
+    steps.tick();
+    match Utf8Char::from_slice_start(&bytes[place..]) {
+        Ok((c, len)) => (place, Ok(c), len),
+        Err(error) => (place, Err(error), 1),
+    }
+}

@@ -1,0 +1,12 @@
+pub mod FoundFaults
+pub mod FedPieces
+pub mod FormMarks
+pub mod FormNumbers
+pub mod FrontTold
+pub mod KeptPieces
+pub mod LocatedLemmas
+pub mod LocatedLists
+pub mod MergedFronts
+pub mod UndecidedLemmas
+pub mod ChangedRangeLemmas
+pub mod UnitFaults

@@ -1,0 +1,409 @@
+//! A decoder for input that comes in parts, which may be cut anywhere, also inside of a character: the pieces of all of it, each
+//! with its offset.
+ghost use Rattle.std.specs.Prelude.{◌≡◌, ◌<◌, ◌≤◌, ◌+◌, ◌-◌, ◌^◌, [], ◌++◌, length, take, drop, get_or, min, IsTrue, IsFalse, IfSome, IfNone};
+ghost use Rattle.recoding.specs.Recoded.{most_held};
+ghost use Rattle.text_parts.specs.Located.{BeginsKept, Decoding, FeedsFaults, FeedsKept, FeedsPieces, FeedsRest, FinishesFaults, FinishesKept, FinishesPieces, HasNoPlace, HasNoPlaceFor, HasNoPlaceForFault, IsOpen, IsWithin, wrapped};
+
+use crate::first_pieces::{front_of, last_front};
+use crate::located::{FromPiece, Spot};
+use crate::piece_runs::{AllPieces, FaultsAlone, Kept, put_run, write_piece};
+use recoding::form::Form;
+use std::marker::Model;
+
+/// Divides input that comes in parts into pieces, characters and invalid bytes, each with its
+/// offset. It takes no memory, and holds at most three bytes between calls.
+///
+/// The pieces do not depend on how the input is divided into parts. Errors are those of
+/// `Utf8CharMerger`, which differ from those of a slice in one case: where the input ends before the
+/// bytes that a lead byte asks for, and one of those that are there is no continuation byte, as in
+/// `F0 41`, the kind is `InterruptedSequence` and not `TooFewBytes`. In UTF-16 a lone surrogate is
+/// one piece of two bytes, and an odd byte at the end is one of its own, `Incomplete`.
+#[derive(Debug, Drop)]
+pub struct Decoder {
+    count: usize,
+    form: Form,
+    held: [u8; 3],
+    offset: u64,
+}
+
+impl Model for Decoder {
+    ghost use Rattle.std.specs.Prelude.{◌≤◌, take};
+    ghost use Rattle.text_parts.specs.Located.{Decoding};
+
+    ghost Value = { Decoding };
+
+    ghost view = { λ d. record { form = d.form; held = take d.count d.held; offset = d.offset } };
+
+    ghost invariant = { λ d. d.count ≤ 3 };
+}
+
+/// How far a call of a `Decoder`, or of `faults_into`, came.
+#[derive(Clone, Copy, Debug, PartialEq, Eq, Drop)]
+pub struct Fed {
+    /// How many bytes of the part were read.
+    pub read: usize,
+    /// How many pieces were written, from the front of the room.
+    pub written: usize,
+    /// Whether the room was full before a piece that is known already.
+    pub is_full: bool,
+}
+
+impl Decoder {
+    /// A decoder that holds nothing. The first byte of the input has the offset 0.
+    pub fn new(form: Form) -> Decoder
+        ensures { result ≡ record { form = form; held = []; offset = 0 } }
+    {
+        Decoder {
+            count: 0,
+            form,
+            held: [0; 3],
+            offset: 0,
+        }
+    }
+
+    /// A decoder that holds these bytes, the first of which has this offset.
+    ///
+    /// Condition: there are at most three.
+    #[inline(always)]
+    pub fn holding(form: Form, bytes: &[u8], offset: u64) -> Decoder
+        requires { length bytes.now ≤ 3 }
+        ensures { result ≡ record { form = form; held = bytes.now; offset = offset } }
+    {
+        let mut decoder = Decoder::new(form);
+        decoder.hold_at(bytes, offset);
+        decoder
+    }
+
+    /// The form of the input.
+    #[inline(always)]
+    pub fn form(&self) -> Form
+        ensures { result ≡ self.now.form }
+    {
+        let Decoder { form, .. } = self;
+        *form
+    }
+
+    /// The bytes that it holds, at most three.
+    #[inline(always)]
+    pub fn held(&self) -> &[u8]
+        ensures bytes { result.now ≡ self.now.held }
+        ensures few { length result.now ≤ 3 }
+    {
+        &self.held[..self.count]
+    }
+
+    // How many bytes it holds.
+    #[inline(always)]
+    fn held_len(&self) -> usize
+        ensures len { result ≡ length self.now.held }
+        ensures few { length self.now.held ≤ 3 }
+    {
+        self.count
+    }
+
+    /// The offset of the first byte that it holds or will read.
+    #[inline(always)]
+    pub fn offset(&self) -> u64
+        ensures { result ≡ self.now.offset }
+    {
+        let Decoder { offset, .. } = self;
+        *offset
+    }
+
+    // Holds these bytes and no others.
+    #[inline(always)]
+    fn hold(&mut self, bytes: &[u8])
+        requires { length bytes.now ≤ 3 }
+        ensures { self.new ≡ record (self.old) { held = bytes.now } }
+    {
+        let offset = self.offset;
+        self.hold_at(bytes, offset);
+    }
+
+    // Holds these bytes and no others, the first of which has this offset.
+    #[inline(always)]
+    fn hold_at(&mut self, bytes: &[u8], offset: u64)
+        requires { length bytes.now ≤ 3 }
+        ensures { self.new ≡ record { form = self.old.form; held = bytes.now; offset = offset } }
+    {
+        self.offset = offset;
+        self.count = bytes.len();
+        self.held = three_of(bytes);
+    }
+
+    /// Takes the next part, and writes its pieces, from the front of the room on. The other places
+    /// stay.
+    ///
+    /// The part may end anywhere. Its last bytes are held, at most three, as long as the bytes after
+    /// them decide which piece they begin. If `is_full` is true, the room is full, and the next piece
+    /// is known already: empty the room, and feed the bytes after those that were read, even if there
+    /// are none. Else all of the part was read.
+    ///
+    /// Cost: O(n) in what is read.
+    pub fn feed<P: FromPiece>(&mut self, part: &[u8], room: &mut [P]) -> Fed
+        ensures feeds { FeedsPieces P.made self.old part.now room.old room.new result.read result.written self.new }
+        ensures full { IsTrue result.is_full →
+            HasNoPlace self.new part.now result.read result.written (length room.old) }
+        ensures read { IsFalse result.is_full → result.read ≡ length part.now }
+        ensures waits { IsFalse result.is_full → 0 < length self.new.held → IsOpen self.new.form self.new.held }
+    {
+        self.feed_kept::<AllPieces, P>(part, room)
+    }
+
+    /// The same, but writes the invalid bytes alone: those of the pieces that `feed` writes which are no characters. Text is passed
+    /// as fast as `valid_up_to` goes over it. If `is_full` is true, the next invalid byte is known already.
+    ///
+    /// Calls of this and of `feed` may be mixed: what is held afterwards, and the offset, are the same.
+    ///
+    /// Cost: O(n) in what is read.
+    pub fn feed_faults<P: FromPiece>(&mut self, part: &[u8], room: &mut [P]) -> Fed
+        ensures feeds { FeedsFaults P.made self.old part.now room.old room.new result.read result.written self.new }
+        ensures full { IsTrue result.is_full →
+            HasNoPlaceForFault self.new part.now result.read result.written (length room.old) }
+        ensures read { IsFalse result.is_full → result.read ≡ length part.now }
+        ensures waits { IsFalse result.is_full → 0 < length self.new.held → IsOpen self.new.form self.new.held }
+    {
+        self.feed_kept::<FaultsAlone, P>(part, room)
+    }
+
+    // The same of the pieces that are kept.
+    #[inline(always)]
+    fn feed_kept<K: Kept, P: FromPiece>(&mut self, part: &[u8], room: &mut [P]) -> Fed
+        ensures feeds { FeedsKept K.kept P.made self.old part.now room.old room.new result.read result.written self.new }
+        ensures full { IsTrue result.is_full →
+            HasNoPlaceFor K.kept self.new part.now result.read result.written (length room.old) }
+        ensures read { IsFalse result.is_full → result.read ≡ length part.now }
+        ensures waits { IsFalse result.is_full → 0 < length self.new.held → IsOpen self.new.form self.new.held }
+    {
+        if self.held_len() == 0 {
+            let front = Spot {
+                read: 0,
+                written: 0,
+                offset: self.offset(),
+            };
+            return self.feed_rest::<K, P>(part, room, front);
+        }
+        self.feed_joined::<K, P>(part, room)
+    }
+
+    // The same where something is held.
+    #[inline(never)]
+    fn feed_joined<K: Kept, P: FromPiece>(&mut self, part: &[u8], room: &mut [P]) -> Fed
+        ensures feeds { FeedsKept K.kept P.made self.old part.now room.old room.new result.read result.written self.new }
+        ensures full { IsTrue result.is_full →
+            HasNoPlaceFor K.kept self.new part.now result.read result.written (length room.old) }
+        ensures read { IsFalse result.is_full → result.read ≡ length part.now }
+        ensures waits { IsFalse result.is_full → 0 < length self.new.held → IsOpen self.new.form self.new.held }
+    {
+        let first = self.feed_held::<K, P>(part, room);
+        if first.is_full || self.held_len() > 0 {
+            return first;
+        }
+        let at = Spot {
+            read: first.read,
+            written: first.written,
+            offset: self.offset(),
+        };
+        self.feed_rest::<K, P>(part, room, at)
+    }
+
+    // The same of the part from a spot on: nothing is held any more.
+    #[inline(always)]
+    fn feed_rest<K: Kept, P: FromPiece>(&mut self, part: &[u8], room: &mut [P], from: Spot) -> Fed
+        requires offset { from.offset ≡ self.old.offset }
+        requires within { IsWithin from part.now room.old }
+        ensures feeds { FeedsRest K.kept P.made self.old part.now room.old room.new from result.read result.written self.new }
+        ensures full { IsTrue result.is_full →
+            HasNoPlaceFor K.kept self.new part.now result.read result.written (length room.old) }
+        ensures read { IsFalse result.is_full → result.read ≡ length part.now }
+        ensures waits { IsFalse result.is_full → 0 < length self.new.held → IsOpen self.new.form self.new.held }
+    {
+        let run = put_run::<K, P>(self.form(), part, room, from);
+        if run.is_full {
+            self.hold_at(&[], run.at.offset);
+            return Fed {
+                read: run.at.read,
+                written: run.at.written,
+                is_full: true,
+            };
+        }
+        self.hold_at(&part[run.at.read..], run.at.offset);
+        Fed {
+            read: part.len(),
+            written: run.at.written,
+            is_full: false,
+        }
+    }
+
+    // The same of what is held, with as many bytes of the part as it takes, until nothing is held.
+    fn feed_held<K: Kept, P: FromPiece>(&mut self, part: &[u8], room: &mut [P]) -> Fed
+        ensures feeds { FeedsKept K.kept P.made self.old part.now room.old room.new result.read result.written self.new }
+        ensures full { IsTrue result.is_full →
+            HasNoPlaceFor K.kept self.new part.now result.read result.written (length room.old) }
+        ensures read { IsFalse result.is_full → 0 < length self.new.held → result.read ≡ length part.now }
+        ensures waits { IsFalse result.is_full → 0 < length self.new.held → IsOpen self.new.form self.new.held }
+    {
+        let form = self.form();
+        // To count them tells a proof that they are few.
+        let _count = self.held_len();
+        let mut read = 0;
+        let mut written = 0;
+        while self.held_len() > 0 {
+            let (joined, len) = held_and_more(self.held(), &part[read..]);
+            let Some(front) = front_of(form, &joined[..len]) else {
+                self.hold(&joined[..len]);
+                return Fed {
+                    read: part.len(),
+                    written: written,
+                    is_full: false,
+                };
+            };
+            let Some(count) = write_piece::<K, P>(self.offset(), front, room, written) else {
+                return Fed {
+                    read: read,
+                    written: written,
+                    is_full: true,
+                };
+            };
+            written = count;
+            read += self.pass(front.len());
+        }
+        Fed {
+            read: read,
+            written: written,
+            is_full: false,
+        }
+    }
+
+    // Passes a piece of so many bytes at the front of the held ones. Answers how many more it has than those.
+    fn pass(&mut self, len: usize) -> usize
+        ensures passed { self.new ≡ record {
+          form = self.old.form;
+          held = drop len self.old.held;
+          offset = wrapped (self.old.offset + len);
+        } }
+        ensures more { result ≡ len - length self.old.held }
+    {
+        let offset = self.offset().wrapping_add(len as u64);
+        let count = self.held_len();
+        if count <= len {
+            self.hold_at(&[], offset);
+            return len - count;
+        }
+        let (held, end) = held_and_more(self.held(), &[]);
+        self.hold_at(&held[len..end], offset);
+        0
+    }
+
+    /// Ends the input: writes the pieces of what is held, which nothing follows. `read` is 0. Room for
+    /// three pieces is always enough.
+    ///
+    /// If `is_full` is true, something is still held: empty the room, and call this again. The offset
+    /// goes on from the end of the input.
+    ///
+    /// Cost: constant.
+    pub fn finish<P: FromPiece>(&mut self, room: &mut [P]) -> Fed
+        ensures finishes { FinishesPieces P.made self.old room.old room.new result.written self.new }
+        ensures full { IsTrue result.is_full → result.written ≡ length room.old }
+        ensures more { IsTrue result.is_full → 0 < length self.new.held }
+        ensures all { IsFalse result.is_full → self.new.held ≡ [] }
+        ensures read { result.read ≡ 0 }
+    {
+        self.finish_kept::<AllPieces, P>(room)
+    }
+
+    /// The same, but writes the invalid bytes alone.
+    ///
+    /// Cost: constant.
+    pub fn finish_faults<P: FromPiece>(&mut self, room: &mut [P]) -> Fed
+        ensures finishes { FinishesFaults P.made self.old room.old room.new result.written self.new }
+        ensures full { IsTrue result.is_full → result.written ≡ length room.old }
+        ensures more { IsTrue result.is_full → 0 < length self.new.held }
+        ensures all { IsFalse result.is_full → self.new.held ≡ [] }
+        ensures read { result.read ≡ 0 }
+    {
+        self.finish_kept::<FaultsAlone, P>(room)
+    }
+
+    // The same of the pieces that are kept.
+    #[inline(always)]
+    fn finish_kept<K: Kept, P: FromPiece>(&mut self, room: &mut [P]) -> Fed
+        ensures finishes { FinishesKept K.kept P.made self.old room.old room.new result.written self.new }
+        ensures full { IsTrue result.is_full → result.written ≡ length room.old }
+        ensures more { IsTrue result.is_full → 0 < length self.new.held }
+        ensures all { IsFalse result.is_full → self.new.held ≡ [] }
+        ensures read { result.read ≡ 0 }
+    {
+        let form = self.form();
+        let mut written = 0;
+        while self.held_len() > 0 {
+            let front = last_front(form, self.held());
+            let Some(count) = write_piece::<K, P>(self.offset(), front, room, written) else {
+                return Fed {
+                    read: 0,
+                    written: written,
+                    is_full: true,
+                };
+            };
+            written = count;
+            let _more = self.pass(front.len());
+        }
+        Fed {
+            read: 0,
+            written: written,
+            is_full: false,
+        }
+    }
+}
+
+// The held bytes and at most three that follow them. Each byte is chosen by itself: bytes that are stored at a place which is computed
+// are waited for.
+#[inline(always)]
+fn held_and_more(held: &[u8], part: &[u8]) -> ([u8; 6], usize)
+    requires { length held.now ≤ 3 }
+    ensures len { result.1 ≡ length held.now + min 3 (length part.now) }
+    ensures bytes { take result.1 result.0 ≡ held.now ++ take 3 part.now }
+{
+    let joined = [
+        byte_of_both(held, part, 0),
+        byte_of_both(held, part, 1),
+        byte_of_both(held, part, 2),
+        byte_of_both(held, part, 3),
+        byte_of_both(held, part, 4),
+        byte_of_both(held, part, 5),
+    ];
+    (joined, held.len() + 3usize.min(part.len()))
+}
+
+// The byte at a place of the held bytes and those that follow them, or zero where there is none.
+#[inline(always)]
+fn byte_of_both(held: &[u8], part: &[u8], place: usize) -> u8
+    ensures { result ≡ get_or (held.now ++ part.now) place 0 }
+{
+    if place < held.len() {
+        held[place]
+    } else {
+        byte_or_zero(part, place - held.len())
+    }
+}
+
+// The bytes, of which there are at most three, and zeros after them: one by one, since to copy so few by a call takes longer.
+#[inline(always)]
+fn three_of(bytes: &[u8]) -> [u8; 3]
+    requires { length bytes.now ≤ 3 }
+    ensures { take (length bytes.now) result ≡ bytes.now }
+{
+    [
+        byte_or_zero(bytes, 0),
+        byte_or_zero(bytes, 1),
+        byte_or_zero(bytes, 2),
+    ]
+}
+
+// The byte at a place, or zero where there is none.
+#[inline(always)]
+fn byte_or_zero(bytes: &[u8], place: usize) -> u8
+    ensures { result ≡ get_or bytes.now place 0 }
+{
+    if place < bytes.len() { bytes[place] } else { 0 }
+}

@@ -1,0 +1,10 @@
+pub mod ArgumentLemmas
+pub mod Decimal
+pub mod HexPairs
+pub mod LineLemmas
+pub mod ListingLemmas
+pub mod ProgramLemmas
+pub mod Relays
+pub mod RunExists
+pub mod RunLemmas
+pub mod StrictRelays

@@ -1,0 +1,8 @@
+use Rattle.text_runs.proofs.Readings.{IsReadSoFar}
+use Rattle.text_programs.proofs.programs.pieces_program.read_whole.Given as goal
+
+abbrev pub invariant-loop : goal.invariant-loop
+invariant-loop g l =
+    IsReadSoFar g.R.Source.is_counted (g.R.Source.remaining l.fn.input) (g.R.Source.remaining l.input)
+    (g.R.Source.failures l.fn.input) (g.R.Source.failures l.input) (g.R.Source.reads l.fn.input) (g.R.Source.reads l.input)
+    l.counter l.bytes.items

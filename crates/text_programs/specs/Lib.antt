@@ -1,0 +1,9 @@
+pub mod RecodeStream
+pub mod StrictRelayed
+pub mod Arguments
+pub mod Line
+pub mod Lines
+pub mod Written
+pub mod Layouts
+pub mod Listings
+pub mod Endings

@@ -1,0 +1,90 @@
+//! What is written of the pieces of some bytes: a line for each entry of a list.
+ghost use Rattle.std.specs.Prelude.{◌≡◌, ◌<◌, ◌↔◌, IfOk, OnOk, OnErr, count_by, is_err};
+ghost use Rattle.std.specs.Str.{IsUtf8};
+ghost use Rattle.encode_unicode.specs.Pieces.{pieces};
+ghost use Rattle.text_runs.specs.Failures.{Known, AppendsFront, TellsStall};
+ghost use Rattle.text_programs.specs.Layouts.{WritesListing, WritesListingFront};
+ghost use Rattle.text_programs.specs.Lines.{is_fault_step};
+ghost use Rattle.text_runs.specs.ForwardRuns.{faulty_item_count};
+ghost use Rattle.text_programs.specs.Written.{merged_lines, walk_lines, WritesMerged, WritesWalk};
+
+use crate::programs::entries::{push_counted, write_entries};
+use crate::programs::lines::Lines;
+use crate::programs::offset::Offset;
+use encode_unicode::Utf8Char;
+use encode_unicode::error::Utf8Error;
+use encode_unicode::iterator::Utf8CharDecoder;
+use std::io;
+use std::io::Write;
+use text_runs::counted::Counted;
+use text_runs::runs::items::Item;
+
+/// Writes one line for each piece of the bytes, and gives the number of errors.
+///
+/// A line is the offset and the length in decimal, and the code point in six hexadecimal digits or
+/// the name of the error. Lines are gathered, and written 64 KiB at a time: a write has whole lines.
+/// Where the writer gives an error, only the first lines were written, the last of them perhaps in
+/// part.
+///
+/// Cost: O(n).
+pub fn write_listing<W: Write>(src: &[u8], out: &mut Counted<W>) -> io::Result<usize>
+    ensures listing { IfOk result (Known W.contents (WritesListing src.now) out.old out.new) }
+    ensures count { IfOk result (λ faults. faults ≡ faulty_item_count (pieces src.now)) }
+    ensures text { IfOk result (λ faults. (faults ≡ 0) ↔ IsUtf8 src.now) }
+    ensures front { Known W.contents (WritesListingFront src.now) out.old out.new }
+    ensures quiet { OnOk result (out.new.failures ≡ out.old.failures) }
+    ensures err { OnErr result (out.old.failures < out.new.failures) }
+    ensures stalls { TellsStall result out.old.stalls out.new.stalls }
+    ensures other_calls { out.new.other_calls ≡ out.old.other_calls }
+{
+    let mut lines = Lines::new();
+    let mut offset = Offset::new();
+    let mut faults = 0;
+    for item in Utf8CharDecoder::from(src) {
+        if !lines.has_room() {
+            lines.write_to(out)?;
+        }
+        faults += push_counted(item, &mut offset, &mut lines);
+    }
+    lines.write_to(out)?;
+    Ok(faults)
+}
+
+/// Writes one line for each answer of a merger, and gives the number of errors.
+///
+/// A line is the code point in six hexadecimal digits or the name of the error. An error of the
+/// writer is as with `write_listing`.
+///
+/// Cost: O(n).
+pub fn write_merged<W: Write>(
+    results: &[Result<Utf8Char, Utf8Error>],
+    out: &mut Counted<W>,
+) -> io::Result<usize>
+    ensures count { IfOk result (λ faults. faults ≡ count_by is_err results.now) }
+    ensures lines { IfOk result (Known W.contents (WritesMerged results.now) out.old out.new) }
+    ensures front { Known W.contents AppendsFront out.old out.new (merged_lines results.now) }
+    ensures quiet { OnOk result (out.new.failures ≡ out.old.failures) }
+    ensures err { OnErr result (out.old.failures < out.new.failures) }
+    ensures stalls { TellsStall result out.old.stalls out.new.stalls }
+    ensures other_calls { out.new.other_calls ≡ out.old.other_calls }
+{
+    write_entries(results, out)
+}
+
+/// Writes one line for each answer of a walk, and gives the number of errors.
+///
+/// A line is that of the piece as `write_listing` has it, or `none`, which is no error. An error of
+/// the writer is as with `write_listing`.
+///
+/// Cost: O(n).
+pub fn write_walk<W: Write>(steps: &[Option<Item>], out: &mut Counted<W>) -> io::Result<usize>
+    ensures count { IfOk result (λ faults. faults ≡ count_by is_fault_step steps.now) }
+    ensures lines { IfOk result (Known W.contents (WritesWalk steps.now) out.old out.new) }
+    ensures front { Known W.contents AppendsFront out.old out.new (walk_lines steps.now) }
+    ensures quiet { OnOk result (out.new.failures ≡ out.old.failures) }
+    ensures err { OnErr result (out.old.failures < out.new.failures) }
+    ensures stalls { TellsStall result out.old.stalls out.new.stalls }
+    ensures other_calls { out.new.other_calls ≡ out.old.other_calls }
+{
+    write_entries(steps, out)
+}

@@ -1,0 +1,96 @@
+//! One run of `recode`, over any reader and writers.
+ghost use Rattle.std.specs.Prelude.{◌≡◌, ◌≢◌, ◌<◌, ◌⊎◌, [], codes, map, string_bytes, Some, IfSome, IfNone};
+ghost use Rattle.text_programs.specs.Endings.{CountsUntil, FailsOrIsQuiet, Says, EndsEarly, reason_of};
+ghost use Rattle.text_runs.specs.Failures.{IsDrained, Known, Pipes, NoFailedRead, NoReadAfterEnd};
+ghost use Rattle.text_programs.specs.Arguments.{form_name, AsksForms};
+ghost use Rattle.text_programs.specs.RecodeStream.{WritesRecoded, BeginsRecoded};
+
+use crate::programs::recode_stream::{RecodeFault, recode};
+use crate::programs::stops::Stop;
+use recoding::form::Form;
+use std::alloc::Allocator;
+use std::io::{Read, Write};
+use text_runs::counted::Counted;
+use text_runs::streams::Sink;
+
+/// The name that `recode` gives itself on standard error.
+pub const PROGRAM: &str = "recode";
+
+/// Runs `recode` on the arguments after the program's name, and gives its status.
+///
+/// The arguments are the names of two forms, `utf8`, `utf16le` or `utf16be`, which may be the same:
+/// that of the input and that of the output. The status is then 0, whatever was replaced. All other
+/// arguments are wrong, and then nothing is read or written, and the status is 2. Where reading or
+/// writing fails, or memory is refused, it is 3. `stderr` takes the line for standard error, and
+/// nothing where the status is 0.
+///
+/// Cost: O(n), allocates an amount that does not grow with the input.
+pub fn run_recode<A: Allocator + Copy, R: Read, W: Write, E: Sink>(
+    alloc: A,
+    args: &[String<A>],
+    input: &mut Counted<R>,
+    out: &mut Counted<W>,
+    stderr: &mut E,
+) -> u8
+    ensures recoded { (from to : Form) → AsksForms (map string_bytes args.now) from to → result ≡ 0 →
+        Known W.contents (WritesRecoded from to (R.remaining input.old.inner)) out.old out.new }
+    ensures front { (from to : Form) → AsksForms (map string_bytes args.now) from to →
+        Pipes R.remaining W.contents (BeginsRecoded from to) input.old input.new out.old out.new }
+    ensures drained { result ≡ 0 → Known R.remaining IsDrained input.old input.new }
+    ensures quiet { result ≡ 0 → out.new.failures ≡ out.old.failures }
+    ensures unbroken { result ≡ 0 → NoFailedRead input.old.reads input.new.reads }
+    ensures in_time { NoReadAfterEnd input.old.reads input.new.reads }
+    ensures silent { result ≡ 0 → stderr.new ≡ stderr.old }
+    ensures early { 0 < result → EndsEarly (codes "recode") (CountsUntil R.remaining input.old input.new)
+        (FailsOrIsQuiet out.old out.new) (Says E.Sink stderr.old stderr.new) result }
+    ensures nothing { (from to : Form) → AsksForms (map string_bytes args.now) from to →
+        R.remaining input.old.inner ≡ Some [] → 0 < result →
+        (input.old.failures < input.new.failures) ⊎ (out.old.failures < out.new.failures) }
+    ensures other_calls { out.new.other_calls ≡ out.old.other_calls }
+    ensures wrong { ((from to : Form) → ¬ AsksForms (map string_bytes args.now) from to) → (result ≡ 2) ×
+        (input.new ≡ input.old) × (out.new ≡ out.old) }
+    ensures right { (from to : Form) → AsksForms (map string_bytes args.now) from to → result ≢ 2 }
+{
+    let Some((from, to)) = forms_of(args) else {
+        return Stop::WrongArguments.report(PROGRAM, stderr);
+    };
+    match recode(alloc, input, out, from, to) {
+        Ok(()) => 0,
+        Err(fault) => stop_of(fault).report(PROGRAM, stderr),
+    }
+}
+
+// The two forms that the arguments name, where they do.
+fn forms_of<A: Allocator>(args: &[String<A>]) -> Option<(Form, Form)>
+    ensures some { IfSome result (λ forms. AsksForms (map string_bytes args.now) forms.0 forms.1) }
+    ensures none { IfNone result ((from to : Form) → ¬ AsksForms (map string_bytes args.now) from to) }
+{
+    match args {
+        [from, to] => Some((form_of(from.as_str())?, form_of(to.as_str())?)),
+        _ => None,
+    }
+}
+
+// The form of that name, where it is one.
+fn form_of(name: &str) -> Option<Form>
+    ensures some { IfSome result (λ form. name.now ≡ form_name form) }
+    ensures none { IfNone result ((form : Form) → name.now ≢ form_name form) }
+{
+    match name {
+        "utf8" => Some(Form::Utf8),
+        "utf16le" => Some(Form::Utf16Le),
+        "utf16be" => Some(Form::Utf16Be),
+        _ => None,
+    }
+}
+
+// Why a program ends at that fault.
+fn stop_of(fault: RecodeFault) -> Stop
+    ensures { result ≡ reason_of fault }
+{
+    match fault {
+        RecodeFault::Read => Stop::CannotRead,
+        RecodeFault::Write => Stop::CannotWrite,
+        RecodeFault::Memory => Stop::NoMemory,
+    }
+}

@@ -1,0 +1,186 @@
+//! Strict recoding from a reader to a writer: to the first faulty byte.
+ghost use Rattle.std.specs.Prelude.{◌≡◌, ◌≢◌, ◌+◌, ◌-◌, ◌*◌, ◌^◌, ◌<◌, ◌≤◌, [], length, IfSome, IfErr, OnOk};
+ghost use Rattle.text_runs.specs.Failures.{IsDrained, Known, Pipes, NoFailedRead, NoReadAfterEnd};
+ghost use Rattle.text_programs.specs.StrictRelayed.{BeginsTranscoded, EndsText, HoldsText, IfFaulty, IsFollowed, PassesText, PassesTextFront, PassesTextLast, StopsFaulty, StopsText, WritesText, strict_error_text};
+
+use recoding::faults::{Fault, FaultKind, Outcome};
+use recoding::form::Form;
+use recoding::recoder::Recoder;
+use std::error::Error;
+use std::fmt;
+use std::io::{ErrorKind, Read, Write};
+use text_runs::counted::Counted;
+use text_runs::streams::write_whole;
+
+/// Where the first invalid bytes of an input are, and why they are invalid.
+#[derive(Clone, Copy, Debug, PartialEq, Eq, Drop)]
+pub struct FaultAt {
+    /// Their offset in the whole input, in bytes: exact in inputs below 2^64 bytes.
+    pub offset: u64,
+    /// Why they are invalid, as a decoder names it.
+    pub kind: FaultKind,
+}
+
+/// Why `recode_strict` ended before the end of the input.
+#[derive(Clone, Copy, Debug, PartialEq, Eq, Drop)]
+pub enum StrictError {
+    /// The reader gave an error, or no end in `u64::MAX` reads.
+    Read,
+    /// The writer gave an error, or took nothing.
+    Write,
+    /// The input is invalid.
+    Faulty(FaultAt),
+}
+
+impl StrictError {
+    // What is said of it.
+    fn text(self) -> &'static str
+        ensures { result.now ≡ strict_error_text self }
+    {
+        match self {
+            StrictError::Read => "cannot read",
+            StrictError::Write => "cannot write",
+            StrictError::Faulty(_) => "invalid input",
+        }
+    }
+}
+
+impl fmt::Display for StrictError {
+    ghost use Rattle.std.specs.Prelude.{Some};
+    ghost use Rattle.text_programs.specs.StrictRelayed.{strict_error_text};
+
+    ghost output = { λ e. Some (strict_error_text e) };
+
+    ghost styled_output = { λ e _. Some (strict_error_text e) };
+
+    /// Writes the reason in a few words. Width and fill are ignored.
+    fn fmt<W: fmt::Write>(&self, f: &mut fmt::Formatter<W>) -> fmt::Result {
+        f.write_str(self.text())
+    }
+}
+
+impl Error for StrictError {}
+
+// How many bytes are read at a time.
+const PART: usize = 16384;
+
+// Room for all that a part becomes, and what is held before it: text at most doubles.
+const ROOM: usize = 2 * (PART + 3);
+
+/// Converts all that the reader gives from one form into another, part by part, and stops at the
+/// first invalid byte or lone surrogate. (`recode` replaces each by U+FFFD instead.)
+///
+/// Exactly the text before it is written. The reader may have given bytes after it. A read that is
+/// interrupted is made again. No read is made after the end of the input.
+///
+/// Cost: O(n).
+pub fn recode_strict<R: Read, W: Write>(
+    input: &mut Counted<R>,
+    out: &mut Counted<W>,
+    from: Form,
+    to: Form,
+) -> Result<(), StrictError>
+    ensures text { OnOk result
+        (Known W.contents (WritesText from to (R.remaining input.old.inner)) out.old out.new) }
+    ensures faulty { IfErr result (λ e. IfFaulty e
+        (Pipes R.remaining W.contents (StopsFaulty from to) input.old input.new out.old out.new)) }
+    ensures front { Pipes R.remaining W.contents (BeginsTranscoded from to)
+        input.old input.new out.old out.new }
+    ensures held_back { result ≡ Err StrictError.Read →
+        Pipes R.remaining W.contents (HoldsText from to) input.old input.new out.old out.new }
+    ensures drained { OnOk result (Known R.remaining IsDrained input.old input.new) }
+    ensures quiet { result ≢ Err StrictError.Write → out.new.failures ≡ out.old.failures }
+    ensures unbroken { result ≢ Err StrictError.Read → NoFailedRead input.old.reads input.new.reads }
+    ensures in_time { NoReadAfterEnd input.old.reads input.new.reads }
+    ensures cannot_read { result ≡ Err StrictError.Read →
+        IfSome (R.remaining input.old.inner) (λ xs. length xs < 2 ^ 64 - 1 →
+        input.old.failures < input.new.failures) }
+    ensures cannot_write { result ≡ Err StrictError.Write → out.old.failures < out.new.failures }
+    ensures other_calls { out.new.other_calls ≡ out.old.other_calls }
+{
+    let mut recoder = Recoder::new(from, to);
+    let mut part = [0; PART];
+    let mut room = [0; ROOM];
+    let mut offset: u64 = 0;
+    for _ in 0..u64::MAX {
+        match input.take(&mut part) {
+            Ok(0) => return pass_end(&mut recoder, offset, &mut room, out),
+            Ok(count) => {
+                pass_part(&mut recoder, &part[..count], offset, &mut room, out)?;
+                offset = offset.saturating_add(count as u64);
+            }
+            Err(error) if error.kind() == ErrorKind::Interrupted => {}
+            Err(_) => return Err(StrictError::Read),
+        }
+    }
+    Err(StrictError::Read)
+}
+
+// Recodes a part by way of the room, and writes what comes of it. So many bytes were read before the part.
+fn pass_part<W: Write>(
+    recoder: &mut Recoder,
+    part: &[u8],
+    offset: u64,
+    room: &mut [u8],
+    out: &mut Counted<W>,
+) -> Result<(), StrictError>
+    requires room { 2 * (length recoder.old.held + length part.now) ≤ length room.old }
+    requires before { length recoder.old.held ≤ offset }
+    ensures passes { OnOk result
+        (Known W.contents (PassesText recoder.old part.now) out.old out.new recoder.new) }
+    ensures faulty { IfErr result (λ e. IfFaulty e
+        (Known W.contents (StopsText recoder.old part.now IsFollowed offset) out.old out.new)) }
+    ensures front { Known W.contents (PassesTextFront recoder.old part.now) out.old out.new }
+    ensures quiet { result ≢ Err StrictError.Write → out.new.failures ≡ out.old.failures }
+    ensures can_read { result ≢ Err StrictError.Read }
+    ensures cannot_write { result ≡ Err StrictError.Write → out.old.failures < out.new.failures }
+    ensures other_calls { out.new.other_calls ≡ out.old.other_calls }
+{
+    let progress = recoder.feed_strict_into(part, room);
+    if write_whole(&room[..progress.written], out).is_err() {
+        return Err(StrictError::Write);
+    }
+    match progress.outcome {
+        Outcome::AllRead | Outcome::Full => Ok(()),
+        Outcome::Faulty(fault) => Err(fault_at(fault, offset.saturating_add(progress.read as u64))),
+    }
+}
+
+// Recodes what is held at the end by way of the room, and writes what comes of it. So many bytes were read.
+fn pass_end<W: Write>(
+    recoder: &mut Recoder,
+    offset: u64,
+    room: &mut [u8],
+    out: &mut Counted<W>,
+) -> Result<(), StrictError>
+    requires room { 2 * length recoder.old.held ≤ length room.old }
+    requires before { length recoder.old.held ≤ offset }
+    ensures passes { OnOk result (Known W.contents (PassesTextLast recoder.old) out.old out.new) }
+    ensures faulty { IfErr result
+        (λ e. IfFaulty e (Known W.contents (StopsText recoder.old [] EndsText offset) out.old out.new)) }
+    ensures front { Known W.contents (PassesTextFront recoder.old []) out.old out.new }
+    ensures quiet { result ≢ Err StrictError.Write → out.new.failures ≡ out.old.failures }
+    ensures can_read { result ≢ Err StrictError.Read }
+    ensures cannot_write { result ≡ Err StrictError.Write → out.old.failures < out.new.failures }
+    ensures other_calls { out.new.other_calls ≡ out.old.other_calls }
+{
+    let progress = recoder.finish_strict_into(room);
+    if write_whole(&room[..progress.written], out).is_err() {
+        return Err(StrictError::Write);
+    }
+    match progress.outcome {
+        Outcome::AllRead | Outcome::Full => Ok(()),
+        Outcome::Faulty(fault) => Err(fault_at(fault, offset)),
+    }
+}
+
+// The error at a fault, where so many bytes were read.
+fn fault_at(fault: Fault, read: u64) -> StrictError
+    requires { fault.back ≤ read }
+    ensures { result ≡ StrictError.Faulty (record { offset = read - fault.back; kind = fault.kind }) }
+{
+    StrictError::Faulty(FaultAt {
+        offset: read - fault.back as u64,
+        kind: fault.kind,
+    })
+}

@@ -1,0 +1,8 @@
+use Rattle.text_runs.proofs.SplitPlaces.{spans_run, spans_run_back}
+use Rattle.text_runs.proofs.byte_lines.lines.Goals as goal
+
+pub returns-clause-runs : goal.returns-clause-runs
+returns-clause-runs c = spans_run
+
+pub returns-clause-runs_back : goal.returns-clause-runs_back
+returns-clause-runs_back c = spans_run_back

@@ -1,0 +1,23 @@
+use Rattle.std.proofs.Common.{arith}
+use Rattle.std.proofs.lemmas.List.{take_more}
+use Rattle.utf_base.specs.Walk.{utf8_bytes}
+use Rattle.utf_base.proofs.Utf8Code.{utf8_is_code}
+use Rattle.text_runs.proofs.WalkLemmas.{IsWalkSoFar-none, byte_more, IsWalk-all, walk_entries, walk_each_once, walk_outside}
+use Rattle.text_runs.proofs.runs.walks.walk_utf8.Goals as goal
+
+pub loop-end-init : goal.loop-end-init
+loop-end-init g c = rw (c.new-answers.ensures.items, c.from-decoder.ensures) (IsWalkSoFar-none utf8_bytes _)
+
+pub loop-end-preserved : goal.loop-end-preserved
+loop-end-preserved g c =
+    let more = take_more c.args.word.now c.loop-end.end-index _ (omega arith) in
+    rw (c.in_ok-push.ensures.items, more) (byte_more _ _ c.loop-end.invariant c.ask.ensures)
+
+pub returns-clause-entries : goal.returns-clause-entries
+returns-clause-entries g c = walk_entries utf8_bytes _ _ _ (IsWalk-all utf8_bytes _ _ c.loop-end-test.false c.loop-end.invariant)
+
+pub returns-clause-each_once : goal.returns-clause-each_once
+returns-clause-each_once g c = walk_each_once utf8_bytes utf8_is_code _ _ _ (IsWalk-all utf8_bytes _ _ c.loop-end-test.false c.loop-end.invariant)
+
+pub returns-clause-outside : goal.returns-clause-outside
+returns-clause-outside g c = walk_outside utf8_bytes utf8_is_code _ _ _ (IsWalk-all utf8_bytes _ _ c.loop-end-test.false c.loop-end.invariant)

@@ -1,0 +1,14 @@
+pub mod InnerBytes
+pub mod Items
+pub mod PieceBoundaries
+pub mod Splits
+pub mod Collected
+pub mod EqualRuns
+pub mod ForwardRuns
+pub mod Walks
+pub mod WellFormed
+pub mod ShardRuns
+pub mod ByteOrderMarks
+pub mod Tables
+pub mod Failures
+pub mod PieceSteps

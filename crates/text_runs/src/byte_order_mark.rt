@@ -1,0 +1,26 @@
+//! The byte order mark, by which some texts tell their form.
+ghost use Rattle.std.specs.Prelude.{◌≤◌, IfNone, IfSome};
+ghost use Rattle.text_runs.specs.ByteOrderMarks.{BeginsWithMark, HasNoMark};
+
+use recoding::form::Form;
+
+/// The form that a byte order mark at the front tells, and how many bytes the mark has:
+/// `form_of_bom(b"\xef\xbb\xbfa")` is `Some((Form::Utf8, 3))`. `None` where no mark begins the bytes.
+///
+/// UTF-32 with the low byte first begins with the mark of UTF-16, and is told as that.
+pub fn form_of_bom(bytes: &[u8]) -> Option<(Form, usize)>
+    ensures some { IfSome result (λ x. BeginsWithMark x.0 bytes.now x.1) }
+    ensures len { IfSome result (λ x. 2 ≤ x.1) }
+    ensures none { IfNone result (HasNoMark bytes.now) }
+{
+    if bytes.starts_with(&[0xef, 0xbb, 0xbf]) {
+        return Some((Form::Utf8, 3));
+    }
+    if bytes.starts_with(&[0xff, 0xfe]) {
+        return Some((Form::Utf16Le, 2));
+    }
+    if bytes.starts_with(&[0xfe, 0xff]) {
+        return Some((Form::Utf16Be, 2));
+    }
+    None
+}
