@@ -2,14 +2,12 @@
 use Rattle.std.proofs.Common.{◌≡◌, ℕ, ◌+◌, ◌-◌, ◌<◌, ◌≤◌, List, [], ◌∷◌, ◌++◌, length, take, drop, arith, refl, ap, ap₂, sym, ◌∙◌, subst, append_assoc, length-take}
 use Rattle.std.proofs.lemmas.List.{append-nil, drop-drop}
 use Rattle.recoding.specs.declared.form.Form.{Form}
-use Rattle.recoding.specs.declared.next_scalar.ShownPiece.{ShownPiece}
-use Rattle.recoding.specs.declared.next_scalar.ShownPiece.TheVariants as piece
 use Rattle.recoding.specs.declared.way.Way.{Way}
 use Rattle.recoding.specs.declared.way.Way.TheVariants.{Faults, Subparts}
-use Rattle.recoding.specs.NextScalars.{BeginsPiece, Decides, Ends, Settles}
+use Rattle.recoding.specs.NextScalars.{Decides, Ends}
 use Rattle.recoding.specs.Recoded.{Continues, IsRecoded, written}
 use Rattle.recoding.specs.RecodedBytes.{recoded}
-use Rattle.recoding.specs.Replacing.{Becomes, BeginsBy, BeginsLast, IsLast, IsNext, NextIsLonger, list_by, reads_by}
+use Rattle.recoding.specs.Replacing.{Becomes, BeginsBy, BeginsLast, NextIsLonger, list_by, reads_by}
 use Rattle.recoding.specs.Rooms.{Leaves}
 use Rattle.recoding.specs.Strict.{Transcodes}
 use Rattle.recoding.proofs.FrontBytes.{Ends-from_decides}
@@ -38,25 +36,13 @@ list_text Faults from to text out later t =
     sym (same_list from to (text ++ later) (out ++ recoded from to later) (text_is_recoded from to text out later (recoded from to later) t (recoded_is from to later)))
 list_text Subparts from to text out later t = text_is_lossy from to text out later t
 
--- What is settled begins the bytes.
-Begins-settled : {from : Form} {w : List ℕ} {s n k : ℕ} → Settles from w s n k → BeginsBy Faults from w s n k
-Begins-settled settles = record { decides = settles.decides; few = settles.few; counts = λ on. settles.counts }
-
-pub IsNext-settled : (from : Form) (w : List ℕ) (x : ShownPiece) → BeginsPiece from w x → IsNext Faults from w x
-IsNext-settled from w (piece.Char s n) settles = Begins-settled settles
-IsNext-settled from w (piece.Fault n) settles = Begins-settled settles
-
 -- what begins the bytes whatever follows does where nothing does
-BeginsLast-of : {way : Way} {from : Form} {w : List ℕ} {s n k : ℕ} → BeginsBy way from w s n k → BeginsLast way from w s n k
+pub BeginsLast-of : {way : Way} {from : Form} {w : List ℕ} {s n k : ℕ} → BeginsBy way from w s n k → BeginsLast way from w s n k
 BeginsLast-of {w = w} {n = n} begins = record {
   ends = Ends-from_decides begins.decides;
   few = begins.few;
   counts = λ on. rw (append-nil w, append-nil (drop n w)) at (begins.counts on []);
 }
-
-pub IsLast-of : (way : Way) (from : Form) (w : List ℕ) (x : ShownPiece) → IsNext way from w x → IsLast way from w x
-IsLast-of way from w (piece.Char s n) begins = BeginsLast-of begins
-IsLast-of way from w (piece.Fault n) begins = BeginsLast-of begins
 
 -- what begins so is longer than the room
 pub NextIsLonger-of : (way : Way) {from to : Form} (w x : List ℕ) {c n k room : ℕ} → BeginsBy way from w c n k → room < length (written to c) → NextIsLonger way from to (w ++ x) room

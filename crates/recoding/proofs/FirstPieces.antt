@@ -17,14 +17,13 @@ use Rattle.utf_base.proofs.UnitLemmas.{no_both}
 use Rattle.utf_base.proofs.Utf8Code.{utf8_is_code}
 use Rattle.utf_lanes.specs.BytePairs.{units_of, bytes_of}
 use Rattle.recoding.specs.NextScalars.{HasByteOrder, fault_len}
-use Rattle.recoding.specs.Strict.{kind_of, lacking, BeginsChar, BeginsFault, EndsInFault, AwaitsKind}
-use Rattle.recoding.specs.declared.faults.FaultKind.{FaultKind}
+use Rattle.recoding.specs.Strict.{kind_of, lacking, BeginsChar, BeginsFault, AwaitsKind}
 use Rattle.recoding.specs.declared.faults.FaultKind.TheVariants as kind
 use Rattle.recoding.specs.declared.form.Form.{Form}
 use Rattle.recoding.specs.declared.form.Form.TheVariants.{Utf8}
 use Rattle.recoding.proofs.Forms.{is_units}
 use Rattle.recoding.proofs.CopiedUnits.{as_written, same_pair}
-use Rattle.recoding.proofs.FrontBytes.{fault_is_some, not_empty, first_unit, second_unit, units_two, units_next, lacks_byte, lacks_second}
+use Rattle.recoding.proofs.FrontBytes.{not_empty, first_unit, second_unit, units_two, units_next, lacks_byte, lacks_second}
 
 -- UTF-8.
 
@@ -138,12 +137,3 @@ module _ (high : Bool) (from : Form) (w : List ℕ) (form : HasByteOrder high fr
             front_four w four ∙ ap₂ (λ xs ys. xs ++ ys) (sym first) (sym second ∙ sym (append-nil (bytes_of high (second_unit high w))))
             ∙ ap (flat_map (bytes_of high)) e ∙ sym (as_written high from s form);
       }
-
--- Where nothing follows, a fault is one too, and so are too few bytes.
-
-pub EndsInFault-begun : (from : Form) (w : List ℕ) (k : FaultKind) (n : ℕ) → BeginsFault from w k n → EndsInFault from w k n
-EndsInFault-begun from w k n f =
-    let within = f.within in
-    let len = f.len in
-    let least = fault_is_some from in
-    record { some = omega arith; len = omega arith; kind = rw (append-nil w) at (f.kind []) }

@@ -1,24 +1,11 @@
 -- What the places of some text give, appended to any output.
 use borrow.Rule.Slice.PartMut.{put_mid}
-use Rattle.std.proofs.Common.{◌≡◌, ℕ, zero, suc, ◌+◌, ◌-◌, ◌*◌, ◌≤◌, Bool, true, false, cond, List, [], ◌∷◌, ◌++◌, length, take, drop, arith, refl, subst, sym, ap, ◌∙◌, length-append, length-take, take-append-drop}
+use Rattle.std.proofs.Common.{◌≡◌, ℕ, zero, suc, ◌+◌, ◌-◌, ◌*◌, ◌≤◌, Bool, true, false, cond, List, [], ◌∷◌, ◌++◌, length, take, drop, arith, sym, ap, ◌∙◌, length-append, length-take, take-append-drop}
 use Rattle.std.proofs.lemmas.List.{append-nil}
 use Rattle.std.proofs.lemmas.Slice.{take-put_mid, drop-put_mid}
 use Rattle.std.proofs.Math.ListN.{drop_of_length-le}
 use Rattle.std.proofs.Math.Seq.{take-append-add}
 use Rattle.utf_lanes.specs.Utf8ToUtf16.{concat_range, utf16_bytes, utf16_bytes_at, halves}
-use Rattle.utf_lanes.proofs.TextUnits.{given_more, given_nothing}
-
--- after those of some places, those of the next
-pub appends_given : {O : Type 0} (appends : O → List ℕ → O → Type 0) → ((a b c : O) (xs ys : List ℕ) → appends a xs b → appends b ys c → appends a (xs ++ ys) c)
-    → (high : Bool) (xs : List ℕ) (old mid new : O) (p m q n t : ℕ) → appends old (utf16_bytes high xs p m) mid → appends mid (utf16_bytes high xs q n) new → p + m ≡ q → m + n ≡ t
-    → appends old (utf16_bytes high xs p t) new
-appends_given appends more high xs old mid new p m q n t f g at sum =
-    subst (λ ys. appends old ys new) (given_more high xs [] (utf16_bytes high xs p m) (utf16_bytes high xs p m ++ utf16_bytes high xs q n) p m q n t refl refl at sum) (more old mid new (utf16_bytes high xs p m) (utf16_bytes high xs q n) f g)
-
-pub appends_nothing : {O : Type 0} (appends : O → List ℕ → O → Type 0) → ((a : O) → appends a [] a) → (high : Bool) (xs : List ℕ) (old : O) (p : ℕ) → appends old (utf16_bytes high xs p (p - p)) old
-appends_nothing appends none high xs old p =
-    let nothing : p - p ≡ 0 = omega arith in
-    rw nothing (subst (λ ys. appends old ys old) (given_nothing high xs [] p) (none old))
 
 -- Each place gives two bytes at most.
 

@@ -7,7 +7,7 @@ pub mod Earliest
 pub mod EnoughRoom
 pub mod FedParts
 pub mod FirstFaults
-pub mod LossyPieces
+pub mod NextPieces
 pub mod OddParts
 pub mod FirstPieces
 pub mod Forms
@@ -25,7 +25,6 @@ pub mod PartLaws
 pub mod Recodes
 pub mod FaultCounts
 pub mod Advancing
-pub mod Settled
 pub mod RecodedLists
 pub mod RoomLemmas
 pub mod RoomRuns

@@ -1,5 +1,5 @@
 -- How many bytes a maximal subpart of UTF-8 has, from its first three.
-use Rattle.std.proofs.Common.{◌≡◌, ℕ, ◌+◌, ◌-◌, ◌<◌, ◌≤◌, ⊎_elim, List, [], ◌∷◌, ◌++◌, length, get_or, take, drop, arith, refl, ap, sym, ◌∙◌, length-append, length-take, take-append-drop}
+use Rattle.std.proofs.Common.{◌≡◌, ℕ, ◌+◌, ◌-◌, ◌<◌, ◌≤◌, ⊎_elim, List, [], ◌∷◌, ◌++◌, length, get_or, take, drop, arith, refl, ap, sym, ◌∙◌, length-append, length-take, lit<, take-append-drop}
 use Rattle.std.specs.Prelude.{slice_range}
 use Rattle.std.proofs.lemmas.Bool.{cases_lt}
 use Rattle.std.proofs.lemmas.List.{append-nil, get_or-take, take-append-le, take-take, take_all, take_at}
@@ -10,6 +10,7 @@ use Rattle.utf_base.specs.Scalar.{IsScalar}
 use Rattle.utf_base.specs.Subparts.{IsFrontOfCode}
 use Rattle.utf_base.proofs.FrontLemmas.{asked_cases, asked-3, asked-4, code_where_no_fault, decodes_from_stands, no_fault_where_code}
 use Rattle.utf_base.proofs.GrammarLemmas.{char_encodes}
+use Rattle.utf_base.proofs.KindCases.{begins_with-1}
 use Rattle.utf_base.proofs.Standing.{stands_alone, stands_first}
 use Rattle.utf_base.proofs.Utf8Code.{length_utf8}
 use Rattle.recoding.specs.Lossy.{BeginsLongCode, BeginsNoCode, BeginsSubpart, ThirdContinues}
@@ -95,15 +96,21 @@ few_in_front w k f = omega (arith, f.longer, length_utf8 f.char)
 
 -- So the first three bytes tell how long the maximal subpart is.
 
-pub subpart_of_one : (w : List ℕ) → 0 < length w → BeginsNoCode w → (BeginsLongCode w → ⊥) → BeginsSubpart w 1
-subpart_of_one w some none short later = record {
-  offset = record { within = omega (arith, length-append w later); none = none later };
-  some = omega arith;
-  within = omega (arith, length-append w later);
-  front = λ more. absurd (omega arith);
-  longest = λ k fits f.
-      ⊎_elim (λ (lt : 1 < k). absurd (short (long_front w k (fronted w later k none fits f) lt))) (λ (le : k ≤ 1). le) (cases_lt 1 k);
-}
+pub some_where_no_code : (w : List ℕ) → BeginsNoCode w → 0 < length w
+some_where_no_code [] none = absurd (none (0 ∷ []) 0 (begins_with-1 (0 ∷ []) (lit< tt) (lit< tt)).0)
+some_where_no_code (a ∷ w) none = omega arith
+
+pub subpart_of_one : (w : List ℕ) → BeginsNoCode w → (BeginsLongCode w → ⊥) → BeginsSubpart w 1
+subpart_of_one w none short later =
+    let some = some_where_no_code w none in
+    record {
+      offset = record { within = omega (arith, length-append w later); none = none later };
+      some = omega arith;
+      within = omega (arith, length-append w later);
+      front = λ more. absurd (omega arith);
+      longest = λ k fits f.
+          ⊎_elim (λ (lt : 1 < k). absurd (short (long_front w k (fronted w later k none fits f) lt))) (λ (le : k ≤ 1). le) (cases_lt 1 k);
+    }
 
 front_from : (w : List ℕ) → IsProperFront utf8 w → IsFrontOfCode utf8 w
 front_from w f = record { char = f.char; scalar = f.scalar; within = omega (arith, f.longer); front = f.front }

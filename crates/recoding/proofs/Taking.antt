@@ -254,10 +254,6 @@ pub Takes-reserved : {Z : Type 0} {way : Way} {old mid new : Vec ℕ Z} {r s : R
     → Takes Extends way r part mid new n k s → Takes Extends way r part old new n k s
 Takes-reserved {new = new} same more f = Takes-as (λ xs put. reserved same more xs new put) f
 
-pub TakesLast-reserved : {Z : Type 0} {way : Way} {old mid new : Vec ℕ Z} {r s : Recoding} {k : ℕ} → mid.items ≡ old.items → vec_capacity old ≤ vec_capacity mid
-    → TakesLast Extends way r mid new k s → TakesLast Extends way r old new k s
-TakesLast-reserved {new = new} same more f = TakesLast-as (λ xs put. reserved same more xs new put) f
-
 -- What callers of `feed` have.
 
 pub all_feeds : {Z : Type 0} (r : Recoding) (part : List ℕ) (old new : Vec ℕ Z) (s : Recoding) → TakesAll r part old new s → Feeds r part old.items new.items s

@@ -1,5 +1,5 @@
 -- What bytes become where each fault is one U+FFFD, or each maximal subpart, and what begins them.
-use Rattle.std.specs.Prelude.{◌≡◌, ℕ, ◌+◌, ◌*◌, ◌<◌, ◌≤◌, List, ◌++◌, length, take, drop, IsTrue, Vec}
+use Rattle.std.specs.Prelude.{◌≡◌, ℕ, ◌+◌, ◌*◌, ◌<◌, ◌≤◌, List, ◌++◌, length, min, take, drop, IsTrue, Vec}
 use Rattle.recoding.specs.declared.form.Form.{Form}
 use Rattle.recoding.specs.declared.next_scalar.ShownPiece.{ShownPiece}
 use Rattle.recoding.specs.declared.next_scalar.ShownPiece.TheVariants as piece
@@ -8,7 +8,7 @@ use Rattle.recoding.specs.declared.way.Way.TheVariants.{Faults, Subparts}
 use Rattle.recoding.specs.Faults.{CountsTo, fault_count, saturated}
 use Rattle.recoding.specs.Lossy.{ReadsParts}
 use Rattle.recoding.specs.LossyBytes.{lossy}
-use Rattle.recoding.specs.NextScalars.{Decides, Ends}
+use Rattle.recoding.specs.NextScalars.{Decides, Ends, fault_len}
 use Rattle.recoding.specs.Outputs.{Extends}
 use Rattle.recoding.specs.declared.engine.Reached.{Reached}
 use Rattle.recoding.specs.declared.form.TheConstants.{WIDEST}
@@ -53,10 +53,10 @@ abbrev pub IsNext : Way → Form → List ℕ → ShownPiece → Type 0
 IsNext way from w (piece.Char s n) = BeginsBy way from w s n 0
 IsNext way from w (piece.Fault n) = BeginsBy way from w 0xFFFD n 1
 
--- and where nothing does
-abbrev pub IsLast : Way → Form → List ℕ → ShownPiece → Type 0
-IsLast way from w (piece.Char s n) = BeginsLast way from w s n 0
-IsLast way from w (piece.Fault n) = BeginsLast way from w 0xFFFD n 1
+-- how many of so many bytes become one U+FFFD where they are too few and nothing follows: those of a fault, or all, which are one subpart
+abbrev pub len_at_end : Way → Form → ℕ → ℕ
+len_at_end Faults from count = min (fault_len from) count
+len_at_end Subparts from count = count
 
 -- The bytes that are left begin so, whatever follows them, and the code of what is shown first is longer than the room.
 abbrev pub NextIsLonger : Way → Form → Form → List ℕ → ℕ → Type 0

@@ -10,8 +10,8 @@ use crate::form::{Form, WIDEST};
 use crate::kernels::{Copied, Kernel, Narrowed, PART, Turned, Widened, by_forms};
 use crate::next_scalar::{ShownPiece, first_four};
 use crate::output::Output;
-use crate::replacing::Replacing;
 use crate::text::{Text, Utf8, Utf16};
+use crate::way::{Each, Replacing, Subparts, Way};
 use utf_lanes::byte_order::{BigEndian, LittleEndian};
 
 // How many bytes go with care before a run looks for text again, where no fault is among them.
@@ -43,13 +43,14 @@ pub(crate) struct Reached {
 // enough for all: in blocks where the bytes allow it, then character by character, and with care only where there is a fault,
 // at the end, or at the end of the room. Each pair of forms has a copy of it, in which a compiler knows the forms.
 #[inline(always)]
-pub(crate) fn run<S: Text, T: Text, K: Kernel<S, T>, F: Replacing, O: BlockOutput>(
+pub(crate) fn run<S: Text, T: Text, K: Kernel<S, T>, O: BlockOutput>(
+    way: Way,
     is_ample: bool,
     bytes: &[u8],
     out: &mut O,
 ) -> Reached
     requires { IsTrue is_ample → FitsAll bytes.now (O.room out.old) }
-    ensures reaches { Reaches O.appends O.room F.way S.form T.form bytes.now out.old out.new result }
+    ensures reaches { Reaches O.appends O.room way S.form T.form bytes.now out.old out.new result }
     ensures ends { IsFalse result.is_full → IsTrue result.is_waiting }
 {
     let mut read = 0;
@@ -70,7 +71,7 @@ pub(crate) fn run<S: Text, T: Text, K: Kernel<S, T>, F: Replacing, O: BlockOutpu
             if read == bytes.len() {
                 return ended(read, replaced, false, true);
             }
-            let few = recode_carefully::<S, T, F, O>(is_ample, &bytes[read..], out);
+            let few = recode_carefully::<S, T, O>(way, is_ample, &bytes[read..], out);
             read += few.read;
             replaced += few.replaced;
             if few.is_full || few.is_waiting {
@@ -198,35 +199,61 @@ fn put_all_text<S: Text, T: Text, K: Kernel<S, T>, O: BlockOutput>(
     }
 }
 
-// Recodes a few bytes with care, or fewer from the last fault among them on.
+// Recodes a few bytes with care, or fewer from the last fault among them on. Where the ways differ, each has loops of its own.
 #[inline(always)]
-fn recode_carefully<S: Text, T: Text, F: Replacing, O: Output>(
+fn recode_carefully<S: Text, T: Text, O: Output>(
+    way: Way,
     is_ample: bool,
     bytes: &[u8],
     out: &mut O,
 ) -> Reached
     requires { IsTrue is_ample → FitsAll bytes.now (O.room out.old) }
-    ensures reaches { Reaches O.appends O.room F.way S.form T.form bytes.now out.old out.new result }
+    ensures reaches { Reaches O.appends O.room way S.form T.form bytes.now out.old out.new result }
+    ensures moves { IsFalse result.is_full → IsFalse result.is_waiting → 0 < result.read }
+{
+    if S::IS_ONE_WAY {
+        return recode_by::<S, T, Way, O>(way, is_ample, bytes, out);
+    }
+    match way {
+        Way::Faults => recode_by::<S, T, Each, O>(Each, is_ample, bytes, out),
+        Way::Subparts => recode_by::<S, T, Subparts, O>(Subparts, is_ample, bytes, out),
+    }
+}
+
+// The same in a way that a compiler may know.
+#[inline(always)]
+fn recode_by<S: Text, T: Text, F: Replacing, O: Output>(
+    by: F,
+    is_ample: bool,
+    bytes: &[u8],
+    out: &mut O,
+) -> Reached
+    requires { IsTrue is_ample → FitsAll bytes.now (O.room out.old) }
+    ensures reaches { Reaches O.appends O.room (F.way by) S.form T.form bytes.now out.old out.new result }
     ensures moves { IsFalse result.is_full → IsFalse result.is_waiting → 0 < result.read }
 {
     if fits_all(is_ample, bytes, out) {
-        return recode_faults::<S, T, F, O>(bytes, out);
+        return recode_faults::<S, T, F, O>(by, bytes, out);
     }
-    recode_faults_within::<S, T, F, O>(bytes, out)
+    recode_faults_within::<S, T, F, O>(by, bytes, out)
 }
 
 // The same where there is room for all the bytes, kept out of the loop that seldom calls it.
 #[inline(never)]
-fn recode_faults<S: Text, T: Text, F: Replacing, O: Output>(bytes: &[u8], out: &mut O) -> Reached
+fn recode_faults<S: Text, T: Text, F: Replacing, O: Output>(
+    by: F,
+    bytes: &[u8],
+    out: &mut O,
+) -> Reached
     requires { FitsAll bytes.now (O.room out.old) }
-    ensures reaches { Reaches O.appends O.room F.way S.form T.form bytes.now out.old out.new result }
+    ensures reaches { Reaches O.appends O.room (F.way by) S.form T.form bytes.now out.old out.new result }
     ensures moves { IsFalse result.is_full → IsFalse result.is_waiting → 0 < result.read }
 {
     let mut stop = STRIDE;
     let mut read = 0;
     let mut replaced = 0;
     while read < stop {
-        let Some(first) = next_at::<S, F>(bytes, read) else {
+        let Some(first) = next_at::<S>(by.way(), bytes, read) else {
             return ended(read, replaced, false, true);
         };
         // A compiler knows the code of a fault where nothing else is written.
@@ -249,16 +276,17 @@ fn recode_faults<S: Text, T: Text, F: Replacing, O: Output>(bytes: &[u8], out: &
 // The same as far as there is room.
 #[inline(never)]
 fn recode_faults_within<S: Text, T: Text, F: Replacing, O: Output>(
+    by: F,
     bytes: &[u8],
     out: &mut O,
 ) -> Reached
-    ensures reaches { Reaches O.appends O.room F.way S.form T.form bytes.now out.old out.new result }
+    ensures reaches { Reaches O.appends O.room (F.way by) S.form T.form bytes.now out.old out.new result }
     ensures moves { IsFalse result.is_full → IsFalse result.is_waiting → 0 < result.read }
 {
     let mut read = 0;
     let mut replaced = 0;
     while read < STRIDE {
-        let Some(first) = next_at::<S, F>(bytes, read) else {
+        let Some(first) = next_at::<S>(by.way(), bytes, read) else {
             return ended(read, replaced, false, true);
         };
         match first {
@@ -282,14 +310,14 @@ fn recode_faults_within<S: Text, T: Text, F: Replacing, O: Output>(
 
 // What begins at a place of the bytes, by no more than four of them; `None` where that depends on what follows all of them.
 #[inline(always)]
-fn next_at<S: Text, F: Replacing>(bytes: &[u8], place: usize) -> Option<ShownPiece>
+fn next_at<S: Text>(way: Way, bytes: &[u8], place: usize) -> Option<ShownPiece>
     requires { place ≤ length bytes.now }
-    ensures some { IfSome result (λ x. IsNext F.way S.form (take 4 (drop place bytes.now)) x) }
+    ensures some { IfSome result (λ x. IsNext way S.form (take 4 (drop place bytes.now)) x) }
     ensures few { IfNone result (length bytes.now ≤ place + 3) }
     ensures lacks { IfNone result (Lacks S.form (drop place bytes.now)) }
 {
     if place + 4 <= bytes.len() {
-        return F::next::<S>(&bytes[place..place + 4]);
+        return S::next_piece(way, &bytes[place..place + 4]);
     }
-    F::next::<S>(&bytes[place..])
+    S::next_piece(way, &bytes[place..])
 }

@@ -2,15 +2,14 @@
 ghost use Rattle.std.specs.Prelude.{◌≡◌, ◌<◌, ◌≤◌, length, min, IfSome, IfNone, IsTrue, IsFalse};
 ghost use Rattle.recoding.specs.Recoded.{Lacks, written};
 ghost use Rattle.recoding.specs.NextScalars.{fault_len};
-ghost use Rattle.recoding.specs.Replacing.{BeginsBy, BeginsLast};
+ghost use Rattle.recoding.specs.Replacing.{BeginsBy, BeginsLast, len_at_end};
 ghost use Rattle.recoding.specs.Strict.{IsFirstPiece, lacking};
 
 use crate::faults::FaultKind;
 use crate::first_pieces::FirstPiece;
 use crate::form::Form;
-use crate::next_scalar::{NextScalar, shown};
+use crate::next_scalar::{NextScalar, ShownPiece, shown};
 use crate::output::Output;
-use crate::replacing::{Each, Replacing, Subparts};
 use crate::text::{Text, Utf8, Utf16};
 use crate::way::Way;
 use utf_lanes::byte_order::{BigEndian, LittleEndian};
@@ -26,20 +25,6 @@ macro_rules! by_form {
     };
 }
 
-// Calls a function of the type of a way, under the type of a form.
-macro_rules! by_way {
-    ($way:expr, $form:expr, $call:ident($($given:expr),*)) => {
-        match ($way, $form) {
-            (Way::Faults, Form::Utf8) => Each::$call::<Utf8>($($given),*),
-            (Way::Faults, Form::Utf16Le) => Each::$call::<Utf16<LittleEndian>>($($given),*),
-            (Way::Faults, Form::Utf16Be) => Each::$call::<Utf16<BigEndian>>($($given),*),
-            (Way::Subparts, Form::Utf8) => Subparts::$call::<Utf8>($($given),*),
-            (Way::Subparts, Form::Utf16Le) => Subparts::$call::<Utf16<LittleEndian>>($($given),*),
-            (Way::Subparts, Form::Utf16Be) => Subparts::$call::<Utf16<BigEndian>>($($given),*),
-        }
-    };
-}
-
 // What begins the bytes; `None` where that depends on what follows them.
 #[inline(always)]
 pub(crate) fn next_of(way: Way, from: Form, bytes: &[u8]) -> Option<NextScalar>
@@ -47,7 +32,7 @@ pub(crate) fn next_of(way: Way, from: Form, bytes: &[u8]) -> Option<NextScalar>
     ensures few { IfNone result (length bytes.now ≤ 3) }
     ensures lacks { IfNone result (Lacks from bytes.now) }
 {
-    match by_way!(way, from, next(bytes)) {
+    match by_form!(from, next_piece(way, bytes)) {
         Some(piece) => Some(shown(piece)),
         None => None,
     }
@@ -59,7 +44,21 @@ pub(crate) fn last_of(way: Way, from: Form, bytes: &[u8]) -> NextScalar
     requires { 0 < length bytes.now }
     ensures { BeginsLast way from bytes.now result.c result.len result.faults }
 {
-    shown(by_way!(way, from, last(bytes)))
+    match next_of(way, from, bytes) {
+        Some(first) => first,
+        None => shown(ShownPiece::Fault(last_len(way, from, bytes.len()))),
+    }
+}
+
+// How many bytes are replaced by one U+FFFD where so many are too few: a fault, or all of them, which are one subpart.
+#[inline(always)]
+fn last_len(way: Way, from: Form, count: usize) -> usize
+    ensures { result ≡ len_at_end way from count }
+{
+    match way {
+        Way::Faults => fault_bytes(from).min(count),
+        Way::Subparts => count,
+    }
 }
 
 // How many bytes a fault has.

@@ -7,11 +7,15 @@ ghost use Rattle.utf_base.specs.declared.errors.Utf8ErrorKind.TheVariants.{TooFe
 ghost use Rattle.utf_lanes.specs.AsciiTexts.{AreAscii};
 ghost use Rattle.recoding.specs.Recoded.{Lacks, IsProperFront, most_held};
 ghost use Rattle.utf_lanes.specs.BytePairs.{units_of};
-ghost use Rattle.recoding.specs.NextScalars.{BeginsPiece, Waits, MayBeSecond, front_of, utf16_form};
-ghost use Rattle.recoding.specs.Strict.{BeginsChar, Transcodes};
+ghost use Rattle.recoding.specs.Lossy.{BeginsNoCode};
+ghost use Rattle.recoding.specs.NextScalars.{front_of, utf16_form};
+ghost use Rattle.recoding.specs.Replacing.{IsNext};
+ghost use Rattle.recoding.specs.Strict.{AwaitsKind, BeginsChar, Transcodes};
 
+use crate::first_pieces::{FirstPiece, first_of_utf8, first_of_utf16};
 use crate::form::Form;
-use encode_unicode::error::Utf8ErrorKind;
+use crate::subparts::{may_be_second, subpart_len};
+use crate::way::Way;
 use encode_unicode::{CharExt, U16UtfExt};
 use utf_base::elements::is_continuation;
 use utf_lanes::byte_order::ByteOrder;
@@ -52,38 +56,56 @@ pub(crate) fn shown(piece: ShownPiece) -> NextScalar
 
 // What begins the bytes; `None` where that depends on what follows them. Of four bytes no fault has to be named.
 #[inline(always)]
-pub(crate) fn next_of_utf8(bytes: &[u8]) -> Option<ShownPiece>
-    ensures some { IfSome result (λ x. BeginsPiece Form.Utf8 bytes.now x) }
-    ensures none { IfNone result (Waits Form.Utf8 bytes.now) }
+pub(crate) fn next_of_utf8(way: Way, bytes: &[u8]) -> Option<ShownPiece>
+    ensures some { IfSome result (λ x. IsNext way Form.Utf8 bytes.now x) }
+    ensures few { IfNone result (length bytes.now ≤ 3) }
     ensures lacks { IfNone result (Lacks Form.Utf8 bytes.now) }
 {
     if 4 <= bytes.len() {
-        return Some(piece_of_four(bytes));
+        return Some(piece_of_four(way, bytes));
     }
-    match char::from_utf8_slice_start(bytes) {
-        Ok((c, len)) => Some(ShownPiece::Char(c, len)),
-        Err(error) => match error.kind() {
-            Utf8ErrorKind::TooFewBytes => {
-                if is_front_of_code(bytes) {
-                    None
-                } else {
-                    Some(ShownPiece::Fault(1))
-                }
-            }
-            _ => Some(ShownPiece::Fault(1)),
-        },
+    match first_of_utf8(bytes) {
+        FirstPiece::Char(c, len) => Some(ShownPiece::Char(c, len)),
+        FirstPiece::Fault(_, _) => Some(fault_of_utf8(way, bytes)),
+        FirstPiece::Undecided => piece_of_few(way, bytes),
     }
 }
 
 // The same of four bytes or more.
 #[inline(always)]
-fn piece_of_four(bytes: &[u8]) -> ShownPiece
+fn piece_of_four(way: Way, bytes: &[u8]) -> ShownPiece
     requires { 4 ≤ length bytes.now }
-    ensures { BeginsPiece Form.Utf8 bytes.now result }
+    ensures { IsNext way Form.Utf8 bytes.now result }
 {
     match front_of_text(bytes) {
         Some((c, len)) => ShownPiece::Char(c, len),
-        None => ShownPiece::Fault(1),
+        None => fault_of_utf8(way, bytes),
+    }
+}
+
+// The same of bytes that are fewer than the first asks for.
+#[inline(always)]
+fn piece_of_few(way: Way, bytes: &[u8]) -> Option<ShownPiece>
+    requires { AwaitsKind Form.Utf8 bytes.now }
+    ensures some { IfSome result (λ x. IsNext way Form.Utf8 bytes.now x) }
+    ensures few { IfNone result (length bytes.now ≤ 3) }
+    ensures lacks { IfNone result (Lacks Form.Utf8 bytes.now) }
+{
+    if is_front_of_code(bytes) {
+        return None;
+    }
+    Some(fault_of_utf8(way, bytes))
+}
+
+// The fault that begins bytes with which no code does, whatever follows them: one byte, or a maximal subpart.
+#[inline(always)]
+fn fault_of_utf8(way: Way, bytes: &[u8]) -> ShownPiece
+    requires { BeginsNoCode bytes.now }
+    ensures { IsNext way Form.Utf8 bytes.now result }
+{
+    match way {
+        Way::Faults => ShownPiece::Fault(1),
+        Way::Subparts => ShownPiece::Fault(subpart_len(bytes)),
     }
 }
 
@@ -101,46 +123,17 @@ pub(crate) fn is_front_of_code(bytes: &[u8]) -> bool
     may_be_second(bytes[0], bytes[1]) && (bytes.len() < 3 || is_continuation(bytes[2]))
 }
 
-// Whether a code of three or four bytes that begins with the first byte may have this second one.
-#[inline(always)]
-pub(crate) fn may_be_second(first: u8, second: u8) -> bool
-    ensures yes { IsTrue result → MayBeSecond first second }
-    ensures no { MayBeSecond first second → IsTrue result }
-{
-    is_continuation(second)
-        && match first {
-            0xe0 => second >= 0xa0,
-            0xed => second < 0xa0,
-            0xf0 => second >= 0x90,
-            0xf4 => second < 0x90,
-            _ => true,
-        }
-}
-
-// What begins the bytes as UTF-16; `None` where that depends on what follows them.
+// What begins the bytes as UTF-16, whose faults are units either way; `None` where that depends on what follows them.
 #[inline(always)]
 pub(crate) fn next_of_utf16<E: ByteOrder>(bytes: &[u8]) -> Option<ShownPiece>
-    ensures some { IfSome result (λ x. BeginsPiece (utf16_form E.HIGH_FIRST) bytes.now x) }
-    ensures none { IfNone result (Waits (utf16_form E.HIGH_FIRST) bytes.now) }
+    ensures some { (way : Way) → IfSome result (λ x. IsNext way (utf16_form E.HIGH_FIRST) bytes.now x) }
+    ensures few { IfNone result (length bytes.now ≤ 3) }
     ensures lacks { IfNone result (Lacks (utf16_form E.HIGH_FIRST) bytes.now) }
 {
-    if bytes.len() < 2 {
-        return None;
-    }
-    let first = unit::<E>(bytes[0], bytes[1]);
-    if !first.is_utf16_leading_surrogate() {
-        return match char::from_utf16_tuple((first, None)) {
-            Ok(c) => Some(ShownPiece::Char(c, 2)),
-            Err(_) => Some(ShownPiece::Fault(2)),
-        };
-    }
-    if bytes.len() < 4 {
-        return None;
-    }
-    let second = unit::<E>(bytes[2], bytes[3]);
-    match char::from_utf16_tuple((first, Some(second))) {
-        Ok(c) => Some(ShownPiece::Char(c, 4)),
-        Err(_) => Some(ShownPiece::Fault(2)),
+    match first_of_utf16::<E>(bytes) {
+        FirstPiece::Char(c, len) => Some(ShownPiece::Char(c, len)),
+        FirstPiece::Fault(_, len) => Some(ShownPiece::Fault(len)),
+        FirstPiece::Undecided => None,
     }
 }
 

@@ -15,7 +15,6 @@ use crate::form_calls::{first_piece, put_fitting};
 use crate::kernels::{Copied, Kernel, Narrowed, Turned, Widened, by_forms};
 use crate::next_scalar::join;
 use crate::output::Output;
-use crate::replacing::{Each, Replacing, Subparts};
 use crate::room::Room;
 use crate::rooms::Progress;
 use crate::text::{Text, Utf8, Utf16};
@@ -58,7 +57,7 @@ fn run_whole<S: Text, T: Text, K: Kernel<S, T>, A: Allocator>(
     ensures waits { length bytes.now ≤ result.read + 3 }
     ensures lacks { Lacks S.form (drop result.read bytes.now) }
 {
-    let reached = run::<S, T, K, Each, Vec<u8, A>>(true, bytes, out);
+    let reached = run::<S, T, K, Vec<u8, A>>(Way::Faults, true, bytes, out);
     Run {
         read: reached.read,
         replaced: reached.replaced,
@@ -86,31 +85,29 @@ pub(crate) fn recode_into(
     ensures waits { IsFalse result.is_full → length bytes.now ≤ result.read + 3 }
     ensures lacks { IsFalse result.is_full → Lacks from (drop result.read bytes.now) }
 {
-    match way {
-        Way::Faults => by_forms!(from, to, run_into::<Each>(bytes, room, place)),
-        Way::Subparts => by_forms!(from, to, run_into::<Subparts>(bytes, room, place)),
-    }
+    by_forms!(from, to, run_into(way, bytes, room, place))
 }
 
 // The same from one form into another. Each pair of forms has a copy of it, whose counts stay in registers.
 #[inline(never)]
-fn run_into<S: Text, T: Text, K: Kernel<S, T>, F: Replacing>(
+fn run_into<S: Text, T: Text, K: Kernel<S, T>>(
+    way: Way,
     bytes: &[u8],
     room: &mut [u8],
     place: usize,
 ) -> Progress
     requires { place ≤ length room.old }
-    ensures runs { Recodes FillsPlace F.way S.form T.form bytes.now
+    ensures runs { Recodes FillsPlace way S.form T.form bytes.now
         (at_place room.old place) (at_place room.new result.written) result.read result.replaced }
     ensures full { IsTrue result.is_full →
-        NextIsLonger F.way S.form T.form (drop result.read bytes.now) (length room.old - result.written) }
+        NextIsLonger way S.form T.form (drop result.read bytes.now) (length room.old - result.written) }
     ensures short { IsTrue result.is_full → length room.old < result.written + 4 }
     ensures waits { IsFalse result.is_full → length bytes.now ≤ result.read + 3 }
     ensures lacks { IsFalse result.is_full → Lacks S.form (drop result.read bytes.now) }
 {
     let mut out = Room::new(room, place);
     let is_ample = has_room_for_all(bytes, &out);
-    let done = run::<S, T, K, F, Room<'_>>(is_ample, bytes, &mut out);
+    let done = run::<S, T, K, Room<'_>>(way, is_ample, bytes, &mut out);
     progress(done.read, out.len, done.replaced, done.is_full)
 }
 

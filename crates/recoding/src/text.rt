@@ -1,17 +1,16 @@
 //! The forms as types, so that each pair of them has a copy of the loops.
 ghost use Rattle.std.specs.Prelude.{◌≡◌, ◌<◌, ◌≤◌, length, IfSome, IfNone, IsTrue, IsFalse};
 ghost use Rattle.recoding.specs.Recoded.{Lacks, written};
-ghost use Rattle.recoding.specs.NextScalars.{BeginsPiece, Waits, fault_len};
+ghost use Rattle.recoding.specs.NextScalars.{fault_len};
 ghost use Rattle.recoding.specs.Replacing.{IsNext};
-ghost use Rattle.recoding.specs.declared.way.Way.TheVariants as way;
 ghost use Rattle.recoding.specs.Strict.{BeginsChar, IsFirstPiece, lacking};
 
 use crate::codes::{len_of_units, put_code_units, put_short};
 use crate::faults::FaultKind;
 use crate::first_pieces::{FirstPiece, first_of_utf8, first_of_utf16};
-use crate::lossy_pieces::{part_of_utf8, part_of_utf16};
 use crate::next_scalar::{ShownPiece, next_of_utf8, next_of_utf16, next_valid_of_utf16};
 use crate::output::Output;
+use crate::way::Way;
 use encode_unicode::CharExt;
 use encode_unicode::error::{Utf8ErrorKind, Utf16PairError};
 use std::marker::PhantomData;
@@ -25,15 +24,12 @@ pub(crate) trait Text {
     // Which form it is.
     ghost form: { Form };
 
-    // What begins the bytes; `None` where that depends on what follows them.
-    fn next_scalar(bytes: &[u8]) -> Option<ShownPiece>
-        ensures some { IfSome result (λ x. BeginsPiece form bytes.now x) }
-        ensures none { IfNone result (Waits form bytes.now) }
-        ensures lacks { IfNone result (Lacks form bytes.now) };
+    // Whether the same begins some bytes in each way.
+    const IS_ONE_WAY: bool;
 
-    // The same where each maximal subpart is one piece.
-    fn next_part(bytes: &[u8]) -> Option<ShownPiece>
-        ensures some { IfSome result (λ x. IsNext way.Subparts form bytes.now x) }
+    // What begins the bytes; `None` where that depends on what follows them.
+    fn next_piece(way: Way, bytes: &[u8]) -> Option<ShownPiece>
+        ensures some { IfSome result (λ x. IsNext way form bytes.now x) }
         ensures few { IfNone result (length bytes.now ≤ 3) }
         ensures lacks { IfNone result (Lacks form bytes.now) };
 
@@ -107,14 +103,11 @@ impl Text for Utf8 {
 
     ghost form = { form.Utf8 };
 
-    #[inline(always)]
-    fn next_scalar(bytes: &[u8]) -> Option<ShownPiece> {
-        next_of_utf8(bytes)
-    }
+    const IS_ONE_WAY: bool = false;
 
     #[inline(always)]
-    fn next_part(bytes: &[u8]) -> Option<ShownPiece> {
-        part_of_utf8(bytes)
+    fn next_piece(way: Way, bytes: &[u8]) -> Option<ShownPiece> {
+        next_of_utf8(way, bytes)
     }
 
     #[inline(always)]
@@ -159,14 +152,12 @@ impl<E: ByteOrder> Text for Utf16<E> {
 
     ghost form = { utf16_form E.HIGH_FIRST };
 
-    #[inline(always)]
-    fn next_scalar(bytes: &[u8]) -> Option<ShownPiece> {
-        next_of_utf16::<E>(bytes)
-    }
+    // A maximal subpart is a unit, as a fault is.
+    const IS_ONE_WAY: bool = true;
 
     #[inline(always)]
-    fn next_part(bytes: &[u8]) -> Option<ShownPiece> {
-        part_of_utf16::<E>(bytes)
+    fn next_piece(_way: Way, bytes: &[u8]) -> Option<ShownPiece> {
+        next_of_utf16::<E>(bytes)
     }
 
     #[inline(always)]
