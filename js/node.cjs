@@ -60,9 +60,10 @@ class Codec {
         this.sentences = this.textsOfKinds(this.calls.nody_put_kind_sentence);
     }
 
+    // (it may end at any place, where the stack is full: so all is as it should be once the last line was reached)
     use(calls) {
+        this.isBroken = true;
         this.calls = this.watched(calls);
-        this.isBroken = false;
         this.filled++;
         this.memory = new Uint8Array(calls.memory.buffer);
         this.view = new DataView(calls.memory.buffer);
@@ -78,6 +79,7 @@ class Codec {
         this.part = this.room + ROOM * PIECE;
         this.start = this.part + PART;
         this.made = this.start + MOST;
+        this.isBroken = false;
     }
 
     // The calls, each of which tells if it did not return: where the caller's stack is full, it throws on its way, and the module has lost

@@ -3,7 +3,9 @@ import { use } from "./api.js";
 import { hasVectors } from "./codec.js";
 
 const address = hasVectors() ? new URL("noddychest-simd.wasm", import.meta.url) : new URL("noddychest.wasm", import.meta.url);
-const answer = await fetch(address);
+const answer = await fetch(address).catch((cause) => {
+    throw new Error(`noddychest: ${address} did not load (${cause.message})`);
+});
 if (!answer.ok) throw new Error(`noddychest: ${address} did not load (${answer.status})`);
 const { instance, module } = await WebAssembly.instantiate(await answer.arrayBuffer());
 use(instance, module);

@@ -46,3 +46,22 @@ test("bytes that are set are seen by all calls, and in the bytes that were given
         }
     }
 });
+
+test("after a call that did not return another instance is taken, and once more where that is not made to its end", () => {
+    const full = () => {
+        throw new RangeError("the stack is full");
+    };
+    for (const name of NAMES) {
+        const made = new WebAssembly.Module(readFileSync(new URL(`../${name}`, import.meta.url)));
+        const calls = () => new WebAssembly.Instance(made).exports;
+        const others = [full, () => ({ ...calls(), __heap_base: { get value() { return full(); } } }), calls];
+        const codec = new Codec({ ...calls(), nody_char_count: full }, () => others.shift()());
+        const [bytes, told] = [ofHex("c3a9c3a9"), { message: "the stack is full" }];
+        const filled = codec.fill(bytes);
+        assert.throws(() => codec.countBetween(0, 4), told);
+        assert.equal(codec.holds(filled), false);
+        for (let i = 0; i < 2; i++) assert.throws(() => codec.fill(bytes), told);
+        assert.equal(codec.holds(codec.fill(bytes)), true);
+        assert.deepEqual([codec.countBetween(0, 4), codec.validUpTo(), others.length], [2, 4, 0]);
+    }
+});

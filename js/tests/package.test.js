@@ -90,6 +90,19 @@ test("what is exported is what the types declare", async () => {
     assert.equal(told("web.js"), told("node.js"));
 });
 
+test("a module that is not fetched, or not there, is told by its address", async () => {
+    const { fetch } = globalThis;
+    const told = [[() => Promise.reject(new TypeError("Failed to fetch")), "Failed to fetch"], [async () => ({ ok: false, status: 404 }), "404"]];
+    try {
+        for (const [given, why] of told) {
+            globalThis.fetch = given;
+            await assert.rejects(import(`../web.js?${why}`), { message: new RegExp(`^noddychest: file:.*/noddychest(-simd)?\\.wasm did not load \\(${why}\\)$`) });
+        }
+    } finally {
+        globalThis.fetch = fetch;
+    }
+});
+
 test("the README's examples print what they say", () => {
     const text = readFileSync(at("../README.md"), "utf8");
     for (const [, code] of text.matchAll(/```js[^\n]*\n([^]*?)```/g)) {

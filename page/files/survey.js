@@ -106,7 +106,7 @@ export class Survey {
         const bytes = codec.memory.subarray(codec.start, codec.start + to);
         let begin = -1;
         for (let at = bytes.indexOf(LF, from); at >= 0; at = bytes.indexOf(LF, at + 1)) {
-            if (codec.unit === 2 && (at % 2 || bytes[at + 1])) continue;
+            if (codec.unit === 2 && (at % 2 || bytes[at + 1] !== 0)) continue;
             this.line++;
             begin = at + codec.unit;
         }

@@ -75,7 +75,8 @@ class _Decoder(codecs.BufferedIncrementalDecoder):
         self._turn = _noddychest.Turn()
 
     def decode(self, input: ReadableBuffer, final: bool = False) -> str:
-        return self._turn.take(self._decode_part, input, final)
+        text: str = self._turn.take(self._decode_part, input, final)
+        return text
 
     def _decode_part(self, input: ReadableBuffer, final: bool) -> str:
         data = self.buffer + input

@@ -1,5 +1,5 @@
 from collections.abc import Callable, Iterable, Iterator
-from typing import Optional, TypeVar, Union
+from typing import Any, Optional, TypeVar, Union
 
 from _typeshed import ReadableBuffer
 
@@ -7,7 +7,6 @@ from ._pieces import ErrorKind, Piece
 
 _Errors = tuple[Optional[ErrorKind], ...]
 _Self = TypeVar("_Self", bound=Ends)
-_Made = TypeVar("_Made")
 
 def supported() -> bool: ...
 def kind_sentence(kind: int, /) -> str: ...
@@ -74,4 +73,4 @@ class Recoder:
 
 class Turn:
     def __new__(cls) -> Turn: ...
-    def take(self, function: Callable[..., _Made], /, *given: object) -> _Made: ...
+    def take(self, function: Callable[..., Any], /, *given: object) -> Any: ...

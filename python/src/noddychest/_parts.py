@@ -99,7 +99,8 @@ class Decoder:
 
     def _step(self, data: ReadableBuffer, asked: int, given: Callable[[Iterator[Piece]], _Made]) -> _Made:
         part = _noddychest.Part(self._form, data, Piece, ERRORS)
-        return self._turn.take(self._begun, part, asked, given)
+        made: _Made = self._turn.take(self._begun, part, asked, given)
+        return made
 
     def _begun(self, part: _noddychest.Part, asked: int, given: Callable[[Iterator[Piece]], _Made]) -> _Made:
         state = part.begin(asked, *self._state)
