@@ -6,7 +6,7 @@ ghost use Rattle.recoding.specs.Lossy.{BeginsLongCode, BeginsNoCode, BeginsSubpa
 use utf_base::elements::is_continuation;
 
 // How many bytes the maximal subpart has that begins bytes with which no code does, whatever follows them.
-#[inline(always)]
+#[inline(never)]
 pub(crate) fn subpart_len(bytes: &[u8]) -> usize
     requires { BeginsNoCode bytes.now }
     ensures subpart { BeginsSubpart bytes.now result }
