@@ -28,8 +28,8 @@ static const struct {
 };
 enum { COMMANDS = sizeof commands / sizeof *commands };
 
-/* Options that are no single letters; these are -o, -q and -h. */
-enum { FROM = 256, TO, ERRORS, MAX, JSON, FOLLOW, JOBS, IN_PLACE, VERSION };
+/* Options that are no single letters; these are -o, -q and -h. (the numbers are no letters either, of which musl knows those of Unicode) */
+enum { FROM = 0x110000, TO, ERRORS, MAX, JSON, FOLLOW, JOBS, IN_PLACE, VERSION };
 
 static const struct option options[] = {
     {"from", required_argument, NULL, FROM}, {"to", required_argument, NULL, TO},     {"errors", required_argument, NULL, ERRORS},
@@ -160,21 +160,21 @@ static void take_flag(struct request *request, int option) {
     }
 }
 
+/* NULL where it is none. */
 static const char *name_of_option(int option) {
     int i = 0;
-    while (options[i].val != option) i++;
+    while (options[i].name && options[i].val != option) i++;
     return options[i].name;
 }
 
 /* Says what getopt_long found wrong: no such option, whose word it took last or whose letter is `optopt`; or a value that lacks, or is too
  * many. (its own messages have the word as it is, which may be the name of a file that commands a terminal) */
 static void complain_of_option(int answer, const char *last) {
-    const char letter[] = {'-', (char)optopt, 0};
-    bool is_known = optopt > 255 || (optopt && strchr("oqh", optopt));
+    const char letter[] = {'-', (char)optopt, 0}, *known = optopt ? name_of_option(optopt) : NULL;
     put_text(&err, "nody: ");
-    put_text(&err, is_known ? "--" : "there is no option '");
-    put_name(&err, is_known ? name_of_option(optopt) : optopt ? letter : last);
-    put_text(&err, !is_known ? "'\n" : answer == ':' ? " needs a value\n" : " takes no value\n");
+    put_text(&err, known ? "--" : "there is no option '");
+    put_name(&err, known ? known : optopt ? letter : last);
+    put_text(&err, !known ? "'\n" : answer == ':' ? " needs a value\n" : " takes no value\n");
     flush_output(&err);
 }
 

@@ -1,7 +1,8 @@
-/* Makes each call of noddychest.h with all that it takes between pages that must not be touched: fences COUNT. Inputs of up to some blocks,
+/* Makes each call of noddychest.h with all that it takes between pages that must not be touched: fences COUNT [no-signals]. Inputs of up to some blocks,
  * damaged at random, lie at the front or at the end of their pages, and so do outputs; structs lie at the end. Forms, offsets, rooms and the
  * bytes of structs are any. What a call reads stays, what it answers lies in its bounds, and nothing is written outside of the room, nor,
- * where the header says so, after what was written. Then a signal comes in the middle of calls, whose handler makes the same ones.
+ * where the header says so, after what was written. Then a signal comes in the middle of calls, whose handler makes the same ones. (QEMU 7.2
+ * ends the program there, where it shows an x86-64: a second word leaves that out)
  * Prints what failed, and then `N passed, M failed`. */
 #define _DEFAULT_SOURCE
 #include "noddychest.h"
@@ -397,6 +398,6 @@ int main(int argc, char **argv) {
     outputs = make_fence();
     structs = make_fence();
     fences(count);
-    signals();
+    if (argc < 3) signals();
     return tell();
 }
