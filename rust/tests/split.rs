@@ -133,9 +133,9 @@ fn numbers_of_long_text() {
 #[test]
 fn valid_up_to_wherever_a_text_lies() {
     let room = "a text of ASCII, ".repeat(300).into_bytes();
-    for start in 0..64 {
+    for start in [0, 1, 15, 16, 31, 32, 33, 48, 63] {
         assert_eq!(noddychest::valid_up_to(&room[start..]), room.len() - start);
-        for at in (0..100).chain(room.len() - start - 70..room.len() - start) {
+        for at in (0..100).step_by(3).chain(room.len() - start - 7..room.len() - start) {
             for other in [&b"\xFF"[..], b"\xC3", b"\xC3\xA9", b"\xF0\x9F\x98\x80", b"\xE2\x82a\xFF"] {
                 let mut bytes = room.clone();
                 let end = bytes.len().min(start + at + other.len());

@@ -113,54 +113,6 @@ impl<R: BufRead> Source<R> {
     }
 }
 
-/// What both iterators have: the reader that they stand over.
-macro_rules! over_reader {
-    ($name:ident, $make:literal) => {
-        impl<R> $name<R> {
-            /// The reader.
-            ///
-            /// ```
-            /// use noddychest::{io, Form};
-            #[doc = concat!("assert_eq!(io::", $make, "(&b\"a\"[..], Form::Utf8).get_ref(), &b\"a\");")]
-            /// ```
-            #[must_use]
-            pub fn get_ref(&self) -> &R {
-                &self.source.reader
-            }
-
-            /// The reader, to be changed. What is read of it here is missing among what comes, and offsets do not count it.
-            ///
-            /// ```
-            /// use noddychest::{io, Form};
-            /// use std::io::Read;
-            #[doc = concat!("let mut over = io::", $make, "(&b\"\\xEF\\xBB\\xBF\\xFF\"[..], Form::Utf8);")]
-            /// over.get_mut().read_exact(&mut [0; 3])?; // past the byte order mark
-            /// assert_eq!(over.next().unwrap()?.range(), 0..1);
-            /// # Ok::<(), std::io::Error>(())
-            /// ```
-            #[must_use]
-            pub fn get_mut(&mut self) -> &mut R {
-                &mut self.source.reader
-            }
-
-            /// The reader. What was read of it and not given yet is lost.
-            ///
-            /// ```
-            /// use noddychest::{io, Form};
-            #[doc = concat!("assert_eq!(io::", $make, "(&b\"a\"[..], Form::Utf8).into_inner(), b\"a\");")]
-            /// ```
-            #[must_use]
-            pub fn into_inner(self) -> R {
-                self.source.reader
-            }
-        }
-
-        impl<R: BufRead> FusedIterator for $name<R> {}
-    };
-}
-over_reader!(Pieces, "pieces");
-over_reader!(Faults, "faults");
-
 /// The pieces of what a reader gives. [`pieces`] makes it.
 ///
 /// An error of the reader is passed on, and nothing is lost by it: the next call reads on. (It reads on by itself where a call was
@@ -178,6 +130,45 @@ pub struct Pieces<R> {
     source: Source<R>,
 }
 
+impl<R> Pieces<R> {
+    /// The reader.
+    ///
+    /// ```
+    /// use noddychest::{io, Form};
+    /// assert_eq!(io::pieces(&b"a"[..], Form::Utf8).get_ref(), b"a");
+    /// ```
+    #[must_use]
+    pub fn get_ref(&self) -> &R {
+        &self.source.reader
+    }
+
+    /// The reader, to be changed. What is read of it here is missing among what comes, and offsets do not count it.
+    ///
+    /// ```
+    /// use noddychest::{io, Form};
+    /// use std::io::Read;
+    /// let mut pieces = io::pieces(&b"\xEF\xBB\xBF\xFF"[..], Form::Utf8);
+    /// pieces.get_mut().read_exact(&mut [0; 3])?; // past the byte order mark
+    /// assert_eq!(pieces.next().unwrap()?.range(), 0..1);
+    /// # Ok::<(), std::io::Error>(())
+    /// ```
+    #[must_use]
+    pub fn get_mut(&mut self) -> &mut R {
+        &mut self.source.reader
+    }
+
+    /// The reader. What was read of it and not given yet is lost.
+    ///
+    /// ```
+    /// use noddychest::{io, Form};
+    /// assert_eq!(io::pieces(&b"a"[..], Form::Utf8).into_inner(), b"a");
+    /// ```
+    #[must_use]
+    pub fn into_inner(self) -> R {
+        self.source.reader
+    }
+}
+
 impl<R: BufRead> Iterator for Pieces<R> {
     type Item = Result<Piece<u64>>;
 
@@ -186,6 +177,8 @@ impl<R: BufRead> Iterator for Pieces<R> {
         self.source.next(Decoder::feed)
     }
 }
+
+impl<R: BufRead> FusedIterator for Pieces<R> {}
 
 /// The invalid bytes of what a reader gives. [`faults`] makes it. Errors of the reader are passed on as [`Pieces`] does.
 ///
@@ -201,6 +194,45 @@ pub struct Faults<R> {
     source: Source<R>,
 }
 
+impl<R> Faults<R> {
+    /// The reader.
+    ///
+    /// ```
+    /// use noddychest::{io, Form};
+    /// assert_eq!(io::faults(&b"a"[..], Form::Utf8).get_ref(), b"a");
+    /// ```
+    #[must_use]
+    pub fn get_ref(&self) -> &R {
+        &self.source.reader
+    }
+
+    /// The reader, to be changed. What is read of it here is missing among what comes, and offsets do not count it.
+    ///
+    /// ```
+    /// use noddychest::{io, Form};
+    /// use std::io::Read;
+    /// let mut faults = io::faults(&b"\xEF\xBB\xBF\xFF"[..], Form::Utf8);
+    /// faults.get_mut().read_exact(&mut [0; 3])?; // past the byte order mark
+    /// assert_eq!(faults.next().unwrap()?.range(), 0..1);
+    /// # Ok::<(), std::io::Error>(())
+    /// ```
+    #[must_use]
+    pub fn get_mut(&mut self) -> &mut R {
+        &mut self.source.reader
+    }
+
+    /// The reader. What was read of it and not given yet is lost.
+    ///
+    /// ```
+    /// use noddychest::{io, Form};
+    /// assert_eq!(io::faults(&b"a"[..], Form::Utf8).into_inner(), b"a");
+    /// ```
+    #[must_use]
+    pub fn into_inner(self) -> R {
+        self.source.reader
+    }
+}
+
 impl<R: BufRead> Iterator for Faults<R> {
     type Item = Result<Fault<u64>>;
 
@@ -209,3 +241,5 @@ impl<R: BufRead> Iterator for Faults<R> {
         Some(piece.map(|piece| piece.fault().expect("faults alone are gathered")))
     }
 }
+
+impl<R: BufRead> FusedIterator for Faults<R> {}
