@@ -1,11 +1,8 @@
-//! The callers in `uses` and `uses_runs` that speak of codes, of faults, of two parts and of the pieces of a table.
-use cuts::{Form, PieceTable};
+//! The callers in `uses` that speak of codes and of faults.
 use encode_unicode::{Utf8Char, Utf16Char};
 use std::test::Fail;
 use uses::tokens::{key_and_value, line, words};
 use uses::{chains, codes, merges};
-use uses_runs::parts::recode_two;
-use uses_runs::{editor, faults};
 
 // Six pieces, two of them faults, as the README shows them.
 fn damaged() -> &'static [u8] {
@@ -50,7 +47,6 @@ fn chains_find_the_faults(rt: HostRuntime) {
     assert!(rt; chains::fault_count(damaged()) == 2);
     assert!(rt; chains::faults_by_fold(damaged()) == 2);
     assert!(rt; chains::characters_before(damaged()) == Some(2));
-    assert!(rt; faults::first_fault_place(damaged()) == 3);
     assert!(rt; chains::before_fault(damaged()) == b"h\xc3\xa9".as_slice());
     assert!(rt; chains::has_fault(damaged()) && !chains::has_no_fault(damaged()));
     assert!(rt; chains::bytes_covered(damaged()) == 10);
@@ -70,41 +66,6 @@ fn mergers_are_asked_in_chains(rt: HostRuntime) {
     assert!(rt; merges::has_faulty_unit(units.iter().copied()));
     assert!(rt; merges::first_fault(&units).is_some());
     assert!(rt; merges::first_fault(&units[..3]).is_none());
-}
-
-#[test]
-fn text_has_characters_alone(rt: HostRuntime) {
-    let text = b"h\xc3\xa9";
-    assert!(rt; faults::is_text(text) && !faults::is_text(damaged()));
-    assert!(rt; faults::has_characters_alone(text));
-    assert!(rt; !faults::has_characters_alone(damaged()));
-    assert!(rt; faults::is_well_formed(text));
-    assert!(rt; !faults::is_well_formed(damaged()));
-}
-
-#[test]
-fn a_code_lies_over_two_parts(rt: HostRuntime) -> Result<(), Fail> {
-    let joined = recode_two(rt.alloc(), Form::Utf8, Form::Utf16Le, b"f\xcf", b"\x80b")?;
-    assert!(rt; joined.as_slice() == b"f\0\xc0\x03b\0".as_slice());
-    let broken = recode_two(rt.alloc(), Form::Utf8, Form::Utf16Le, b"\xe2\x82", b"b")?;
-    assert!(rt; broken.as_slice() == b"\xfd\xff\xfd\xffb\0".as_slice());
-    Ok(())
-}
-
-#[test]
-fn a_table_gives_its_pieces(rt: HostRuntime) -> Result<(), Fail> {
-    let mut table = PieceTable::new(rt.alloc(), damaged())?;
-    assert!(rt; editor::piece_bytes(&table, 4) == Some(b"A".as_slice()));
-    assert!(rt; editor::piece_bytes(&table, 6).is_none());
-    assert!(rt; editor::piece_at(&table, 9).is_some_and(|x| x.0 == 6 && x.2 == 4));
-    assert!(rt; editor::piece_at(&table, 10).is_none());
-    assert!(rt; editor::mend_first(&mut table, b"?")?);
-    assert!(rt; table.bytes() == b"h\xc3\xa9?\x82A\xf0\x9f\x98\x80".as_slice());
-    assert!(rt; editor::mend_first(&mut table, b"")?);
-    assert!(rt; !editor::mend_first(&mut table, b"")?);
-    let mended = editor::mended(rt.alloc(), damaged())?;
-    assert!(rt; mended.bytes() == b"h\xc3\xa9?\x82A\xf0\x9f\x98\x80".as_slice());
-    Ok(())
 }
 
 #[test]

@@ -1,9 +1,8 @@
-//! The callers in `uses` and `uses_runs` that cut at the offset of a piece, of a character or of a fault. Expected
+//! The callers in `uses` that cut at the offset of a piece, of a character or of a fault, and that make texts of texts. Expected
 //! values as Python's `bytes`, `str` and decoders give them.
-use cuts::Form;
 use std::test::Fail;
+use uses::texts::{joined_units, raised, reversed, shortened};
 use uses::{asked, chains, merges, texts};
-use uses_runs::{bounds, fronts, strict};
 
 #[test]
 fn slices_begin_where_the_decoder_stands(rt: HostRuntime) {
@@ -17,31 +16,29 @@ fn slices_begin_where_the_decoder_stands(rt: HostRuntime) {
 }
 
 #[test]
-fn fronts_end_at_faults_and_characters(rt: HostRuntime) {
+fn fronts_end_at_characters(rt: HostRuntime) {
     assert!(rt; chains::before_filtered(b"caf\xe9 au") == b"caf".as_slice());
     assert!(rt; chains::first_word("é b") == "é" && chains::first_word("éb") == "éb");
-    let (good, rest) = fronts::split_at_fault(b"caf\xe9 au");
-    assert!(rt; good == b"caf".as_slice() && rest == b"\xe9 au".as_slice());
-    let (good, rest) = fronts::split_at_faulty_unit(&[0x61, 0xd800]);
-    assert!(rt; good == [0x61].as_slice() && rest == [0xd800].as_slice());
-    assert!(rt; fronts::good_wire_len(b"a\0\x00\xd8") == 2);
     assert!(rt; texts::front("é🂠b", 2) == "é🂠" && texts::front("é", 5) == "é");
     assert!(rt; texts::offset_of("é🂠b", 2) == 6 && texts::offset_of("é", 5) == 2);
 }
 
-// As `decode` with `errors="ignore"`, and as `UnicodeDecodeError.start`.
+// As `decode` with `errors="ignore"`.
 #[test]
-fn characters_and_first_faults_are_told(rt: HostRuntime) -> Result<(), Fail> {
+fn characters_are_told(rt: HostRuntime) -> Result<(), Fail> {
     let text = merges::characters_alone(rt.alloc(), b"a\xff\xc3\xa9\xe2\x82")?;
     assert_eq!(rt; text.as_str(), "aé");
     assert!(rt; merges::unit_character_count(&[0x61, 0xd800, 0xd83d, 0xde00]) == 2);
-    let mut room = [0; 32];
-    assert!(rt; strict::told_fault(Form::Utf8, b"caf\xe9 au", &mut room) == Some(3));
-    assert!(rt; strict::told_fault(Form::Utf8, b"caf", &mut room).is_none());
-    assert!(rt; strict::told_fault(Form::Utf16Le, b"a\0\0\xdcb\0", &mut room) == Some(2));
-    assert!(rt; strict::valid_len(b"ab\xe2\x82", &mut room) == Some(2));
-    assert!(rt; strict::valid_len(b"caf\xc3\xa9", &mut room) == Some(5));
-    let units = bounds::recoded_briefly(rt.alloc(), Form::Utf8, Form::Utf16Le, b"\xffa")?;
-    assert!(rt; units.as_slice() == b"\xfd\xffa\0".as_slice());
+    Ok(())
+}
+
+#[test]
+fn texts_are_made_of_texts(rt: HostRuntime) -> Result<(), Fail> {
+    let alloc = rt.alloc();
+    assert!(rt; raised(alloc, "a\u{e9}z")?.as_str() == "A\u{e9}Z");
+    assert!(rt; reversed(alloc, "a\u{e9}\u{1f0a0}")?.as_str() == "\u{1f0a0}\u{e9}a");
+    assert!(rt; shortened(alloc, "\u{e9}\u{1f0a0}b", 2)?.as_str() == "\u{e9}\u{1f0a0}");
+    let units = joined_units(alloc, "a", "\u{1f0a0}")?;
+    assert!(rt; units.as_slice() == [0x61, 0xd83c, 0xdca0].as_slice());
     Ok(())
 }

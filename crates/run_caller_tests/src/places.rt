@@ -1,15 +1,16 @@
-//! The callers in `uses` and `uses_runs` that look for places in damaged bytes, and that make texts of texts.
+//! The callers in `uses_runs` that look for places in damaged bytes, and that read records and blocks. Expected values as Python's
+//! `bytes` and `str` give them.
 use cuts::boundaries::{ceil, floor, following, previous, truncated};
 use std::process::Abort;
 use std::test::Fail;
-use uses::needles::find_ascii;
-use uses::texts::{joined_units, raised, reversed, shortened};
 use uses_runs::blocks::count_block;
 use uses_runs::listed::{pieces_of_both, turned_by_units};
 use uses_runs::shown::{lossy, valid_front};
 use uses_runs::strings::closing_quote;
 use uses_runs::wire::first_text;
+use uses_runs::{boundaries, cursor};
 
+// "a", "€", half of one, a quote, "b" and "🂠".
 fn damaged() -> &'static [u8] {
     b"a\xe2\x82\xac\xe2\x82\"b\xf0\x9f\x82\xa0"
 }
@@ -30,13 +31,44 @@ fn a_viewer_asks_for_any_byte(rt: HostRuntime) {
 }
 
 #[test]
-fn quotes_and_needles_are_found_in_damage(rt: HostRuntime) {
+fn boundaries_are_found_in_damage(rt: HostRuntime) {
+    let bytes = damaged();
+    assert!(rt; bytes.len() == 12);
+    assert!(rt; boundaries::around(bytes, 2, 0) == b"\xe2\x82\xac".as_slice());
+    assert!(rt; boundaries::around(bytes, 7, 2) == b"\x82\"b\xf0\x9f\x82\xa0".as_slice());
+    assert!(rt; boundaries::piece_of(bytes, 9) == b"\xf0\x9f\x82\xa0".as_slice());
+    let (row, rest) = boundaries::first_row(bytes, 3);
+    assert!(rt; row == b"a".as_slice() && rest == &bytes[1..]);
+    let (before, after) = boundaries::without_previous(bytes, 4);
+    assert!(rt; before == b"a".as_slice() && after == &bytes[4..]);
+}
+
+// Steps on from place to place, and at each of them back again.
+fn steps_on(rt: &impl Abort, src: &[u8], places: &[usize]) {
+    let mut place = cursor::front(src);
+    for next in places {
+        assert!(rt; place < src.len());
+        let on = cursor::step_on(src, place);
+        assert!(rt; on == *next);
+        assert!(rt; cursor::step_back(src, on) == place);
+        assert!(rt; cursor::on_and_back(src, place) == place);
+        place = on;
+    }
+    assert!(rt; place == cursor::back(src));
+}
+
+#[test]
+fn a_viewer_steps_over_the_end_of_the_log(rt: HostRuntime) {
+    let end = b"\xff\xc3\n\xf0\x9f\x82\xa0\xf0\x9f\n";
+    steps_on(&rt, end, &[1, 2, 3, 7, 8, 9, 10]);
+}
+
+#[test]
+fn quotes_are_found_in_damage(rt: HostRuntime) {
     assert!(rt; closing_quote(damaged()) == Some(6));
     assert!(rt; closing_quote(b"\\\"\\\\\xe2\"\"") == Some(5));
     assert!(rt; closing_quote(b"\\\xc3\"") == Some(2));
     assert!(rt; closing_quote(b"\\\"").is_none());
-    assert!(rt; find_ascii(damaged(), b"\"b") == Some(6));
-    assert!(rt; find_ascii(damaged(), b"bb").is_none());
 }
 
 #[test]
@@ -46,18 +78,7 @@ fn damaged_bytes_are_shown(rt: HostRuntime) -> Result<(), Fail> {
     assert!(rt; valid_front(damaged()) == "a\u{20ac}");
     let both = pieces_of_both(rt.alloc(), b"\xe2\x82", b"\xacA")?;
     assert!(rt; both.len() == 2);
-    Ok(())
-}
-
-#[test]
-fn texts_are_made_of_texts(rt: HostRuntime) -> Result<(), Fail> {
-    let alloc = rt.alloc();
-    assert!(rt; raised(alloc, "a\u{e9}z")?.as_str() == "A\u{e9}Z");
-    assert!(rt; reversed(alloc, "a\u{e9}\u{1f0a0}")?.as_str() == "\u{1f0a0}\u{e9}a");
-    assert!(rt; shortened(alloc, "\u{e9}\u{1f0a0}b", 2)?.as_str() == "\u{e9}\u{1f0a0}");
-    let units = joined_units(alloc, "a", "\u{1f0a0}")?;
-    assert!(rt; units.as_slice() == [0x61, 0xd83c, 0xdca0].as_slice());
-    assert!(rt; turned_by_units(alloc, "a\u{1f0a0}")?.len() == 2);
+    assert!(rt; turned_by_units(rt.alloc(), "a\u{1f0a0}")?.len() == 2);
     Ok(())
 }
 
