@@ -132,13 +132,13 @@ def changes():
     return in_words(count)
 
 
-def libraries():
-    """How many libraries there are up to `cuts`, in words."""
+def below(crate):
+    """How many libraries stand below a crate, in words."""
     used = {name: rest.split() for name, _, rest in (it.partition(":") for it in lines_of("crates.txt") if not it.startswith("#"))}
-    found = {"cuts"}
+    found = {crate}
     while (more := found | {it for name in found for it in used[name] if it in used}) != found:
         found = more
-    return in_words(len(found))
+    return in_words(len(found) - 1)
 
 
 def wrong_bodies(folder=""):
@@ -222,7 +222,7 @@ FIGURES = {
     "docs/rattle/GUIDE.md": [(r"in about ([\d.]+) nanoseconds a byte", lambda: (f"{rows('valid', 2)[('utf8', 'japanese')]['ours']:.2f}",))],
     "docs/THE-CUT.md": [(r"in ([\d,]+) random inputs each", lambda: (of_peers(),)), (r"at least (\w+) bytes before them, or at least (\w+) after", damage)],
     "CONTRIBUTING.md": [(r"`logic (\w+)`", lambda: (logic(),)), (r"has the files of (\w+) changes", lambda: (changes(),)),
-                        (r"The first check of all (\w+) libraries", lambda: (libraries(),)), (r"[Oo]f more than ([\d,]+) samples of", lambda: (in_hundreds(wrong_bodies()),)),
+                        (r"which proves the (\w+) crates below it too", lambda: (below("recoding"),)), (r"[Oo]f more than ([\d,]+) samples of", lambda: (in_hundreds(wrong_bodies()),)),
                         (r"compares more than ([\d,]+) wrong bodies with", lambda: (in_hundreds(wrong_bodies("/more-must-fail")),)),
                         (r"tries its (\d+) \|", lambda: (str(wrong_bodies("/utf_base/more-must-fail")),))],
     "python/README.md": [(r"The package itself, ([\d,]+) lines of C and Python", lambda: (lines_of_python(),))],
