@@ -1,40 +1,28 @@
-# Builds the library for C and its programs from the assembly in generated/ and from c/, by a C compiler alone.
+# Builds the library for C and its programs from the assembly in generated/ and from c/, with only a C compiler.
 #
 #   make             build/: libnoddychest.a, libnoddychest.so.1, pieces, recode and nody
-#   make check       tests all of it; the last line is 'N passed, M failed'
-#   make check-python  installs the package for Python into a folder that goes away again, and tests it there
-#   make wheel       makes wheels of it in build/wheels, for Linux on both processors and for Windows, as far as compilers are there
-#   make install     puts it below PREFIX, which has to be given, as PREFIX=/usr/local, in DESTDIR where that is given, with the man
-#                    pages of the programs, which are nody-pieces, nody-recode and nody there, and says what it wrote.
-#                    CC, CPPFLAGS, CFLAGS and LDFLAGS that it is not told are those of the last make
-#   make uninstall   takes it away again, for the same PREFIX and DESTDIR
+#   make check       tests all of it; the last line is 'N passed, M failed'. ./check tests the packages too
+#   make wheel       makes wheels of it in build/wheels, for Linux on both architectures and for Windows, as far as compilers are installed
+#   make install     installs it below PREFIX, which has to be given, as PREFIX=/usr/local, in DESTDIR if that is given, with the man
+#                    pages of the programs, which are nody-pieces, nody-recode and nody there, and prints what it wrote.
+#                    CC, CPPFLAGS, CFLAGS and LDFLAGS default to those of the last make
+#   make uninstall   removes it again, for the same PREFIX and DESTDIR
 #   make dist        packs the sources, and what make builds of them, in build/dist
 #   make dist-windows
 #                    packs there what make builds for Windows
-#   make check-rust, check-deb
-#                    tests the crate for Cargo, and the packages of Debian with what make dist packs (BOOKWORM may name a
-#                    Debian 12 that debootstrap made; else it makes one of Debian's mirror)
-#   make check-erased  tests what scripts/erase makes of the proved sources: the text of the crate for Cargo, in all its forms
-#   make check-packages
-#                    tests all packages but that for Windows, where the tools are there, and names those that it leaves out
-#   make check-js    tests the package for npm, js/, under node
-#   make check-cmake tests the build by CMake, and programs that find what it installs
-#   make check-windows
-#                    tests what `make CC=x86_64-w64-mingw32-gcc` builds, under wine
-#   make check-macho assembles for macOS, and compares that with the code for Linux instruction for instruction
 #   make clean       removes what was built
 #
 # CC, CPPFLAGS, CFLAGS and LDFLAGS are as usual; `make CC=aarch64-linux-gnu-gcc` builds for ARM. `make CC=x86_64-w64-mingw32-gcc` builds for
-# Windows: libnoddychest.a, noddychest.dll with its import library libnoddychest.dll.a, pieces.exe and recode.exe. On a Mac there come
-# libnoddychest.1.dylib, libnoddychest.a and the programs, for the other processor with CFLAGS='-O2 -arch x86_64' (python3 is needed).
-# BUILD is the folder of what is made. RUN stands before each program that `make check` runs, as `make check RUN=qemu-aarch64-static`; LANES is what nody_lanes()
-# has to answer there, 16 or 32.
+# Windows: libnoddychest.a, noddychest.dll with its import library libnoddychest.dll.a, pieces.exe and recode.exe. On a Mac it builds
+# libnoddychest.1.dylib, libnoddychest.a and the programs, for the other CPU with CFLAGS='-O2 -arch x86_64' (python3 is needed).
+# CURSES=no builds nody without `nody view`, which needs ncurses. BUILD is the folder of the output. `make check` puts RUN before each
+# program that it runs, as in `make check RUN=qemu-aarch64-static`; LANES is the expected result of nody_lanes() there, 16 or 32.
 
 # A step that fails leaves no half file, which the next `make` would take.
 .DELETE_ON_ERROR:
 
 BUILD ?= build
-# `make install` takes what was built: the compiler and the flags that it is not told are those of the last make.
+# `make install` installs what was built: the compiler and the flags default to those of the last make.
 ifneq ($(filter install,$(MAKECMDGOALS)),)
 LAST = $(shell sed -n $(1)p "$(BUILD)/target" 2>/dev/null)
 ifeq ($(origin CC),default)
@@ -84,7 +72,7 @@ QUOTED = '$(subst ','\'',$(1))'
 
 all: $(IN)/libnoddychest.a $(DYNAMIC) $(IN)/pieces$(EXE) $(IN)/recode$(EXE) $(NODY)
 
-# The processor, and with what all is compiled: another compiler, or other flags, make all anew.
+# The CPU, and with what all is compiled: another compiler, or other flags, make all anew.
 $(IN)/target: always
 	@mkdir -p "$(BUILD)"
 	@told=`printf '%s\n' '#if !defined __LP64__ && !defined _WIN64' '#elif defined __x86_64__' x86_64 '#elif defined __AARCH64EL__' aarch64 '#endif' | \
@@ -98,8 +86,8 @@ $(IN)/target: always
 
 always:
 
-# On x86-64 the option that keeps jumps off the ends of 32 bytes of code, as gcc or clang writes it; empty where there is none. Some
-# processors of Intel are slow at such jumps (docs/DECISIONS.md).
+# On x86-64 the option that keeps jumps off the ends of 32 bytes of code, as gcc or clang writes it; empty if there is none. Some
+# CPUs of Intel are slow at such jumps (docs/DECISIONS.md).
 $(IN)/jumps: $(IN)/target
 	@read processor <"$(BUILD)/target" && for it in -Wa,-mbranches-within-32B-boundaries -mbranches-within-32B-boundaries; do \
 		if [ $$processor = x86_64 ] && $(CC) $(CFLAGS) $$it -x assembler -c -o "$@.o" /dev/null 2>/dev/null; then \
@@ -138,12 +126,13 @@ $(IN)/libnoddychest.1.dylib: $(IN)/libnoddychest.a c/symbols.txt
 	$(SHARED); $(CC) "$$@" -dynamiclib -install_name @rpath/libnoddychest.1.dylib -compatibility_version 1 -current_version 1 \
 	-Wl,-exported_symbols_list,"$(BUILD)/exported" -o "$@" -Wl,-all_load "$(BUILD)/libnoddychest.a"
 
-# (the calls that a DLL exports are told by name; its import library is made beside it. Its address does not depend on the folder)
+# (c/symbols.txt lists the exports of the DLL; its import library is made with it. Its address does not depend on the folder)
 $(IN)/noddychest.dll: $(IN)/libnoddychest.a c/symbols.txt
 	{ echo EXPORTS; sed -n 's/^call .*[ *]\(nody_[a-z0-9_]*\)(.*/\1/p' c/symbols.txt; } >"$(BUILD)/noddychest.def"
 	$(SHARED); $(CC) "$$@" -shared -o "$@" "$(BUILD)/noddychest.def" -Wl,--out-implib,"$(BUILD)/libnoddychest.dll.a" -Wl,--disable-auto-image-base \
 	-Wl,--whole-archive "$(BUILD)/libnoddychest.a" -Wl,--no-whole-archive
 
+# (./pieces and ./recode may start while another run links, so a program is moved into place)
 # The name `main` and those of glibc are changed: see generated/names.sed. (on Windows they are so in generated/)
 $(IN)/pieces.s: generated/pieces-x86_64$(SYSTEM).s generated/pieces-aarch64.s generated/names.sed $(IN)/target
 	read processor <"$(BUILD)/target" && sed -f generated/names.sed generated/pieces-$$processor$(SYSTEM).s >"$@"
@@ -167,21 +156,30 @@ $(IN)/system.o: generated/system.c $(IN)/target
 	$(COMPILE) -c -o "$@" generated/system.c
 
 $(IN)/pieces$(EXE): $(IN)/pieces.o $(IN)/system.o
-	$(CC) $(CFLAGS) $(LDFLAGS) -o "$@" "$(BUILD)/pieces.o" "$(BUILD)/system.o"
+	$(CC) $(CFLAGS) $(LDFLAGS) -o "$@.new" "$(BUILD)/pieces.o" "$(BUILD)/system.o" && mv -f "$@.new" "$@"
 
 $(IN)/recode$(EXE): $(IN)/recode.o $(IN)/system.o
-	$(CC) $(CFLAGS) $(LDFLAGS) -o "$@" "$(BUILD)/recode.o" "$(BUILD)/system.o"
+	$(CC) $(CFLAGS) $(LDFLAGS) -o "$@.new" "$(BUILD)/recode.o" "$(BUILD)/system.o" && mv -f "$@.new" "$@"
 
-$(IN)/nody: $(wildcard c/nody/*) c/noddychest.h $(IN)/libnoddychest.a
-	$(COMPILE) -std=c99 -Ic -o "$@" c/nody/*.c "$(BUILD)/libnoddychest.a" -pthread $(LDFLAGS)
+# What `nody view` needs: an ncurses of wide characters, if a program links with it, and CURSES is not `no`. Otherwise nody is built without that
+# command, and says so.
+CURSES ?= yes
+$(IN)/curses: $(IN)/target
+	@: >"$@"; printf '%s\n' '#include <curses.h>' 'int main(void) { cchar_t it = {0}; return set_escdelay(1) + add_wch(&it) + use_default_colors(); }' >"$@.c"; \
+	for it in -lncursesw -lcurses; do \
+		if [ "$(CURSES)" != no ] && $(COMPILE) -D_XOPEN_SOURCE=700 -D_XOPEN_SOURCE_EXTENDED=1 -D_DARWIN_C_SOURCE -o "$@.o" "$@.c" $$it $(LDFLAGS) 2>/dev/null; then \
+			echo -DNODY_CURSES $$it >"$@" && break; \
+		fi; \
+	done; rm -f "$@.o" "$@.c"; \
+	if [ ! -s "$@" ]; then echo "make: nody is built without view: CURSES is no, or ncurses is not there (Debian: libncurses-dev)" >&2; fi
+
+$(IN)/nody: $(wildcard c/nody/*) c/noddychest.h $(IN)/libnoddychest.a $(IN)/curses
+	$(COMPILE) -std=c99 -Ic -o "$@" c/nody/*.c "$(BUILD)/libnoddychest.a" -pthread `cat "$(BUILD)/curses"` $(LDFLAGS)
 
 check: all
 	@COMPILE='$(COMPILE)' LDFLAGS='$(LDFLAGS)' RUN='$(RUN)' LANES='$(LANES)' sh c/tests/all "$(BUILD)"
 
 PYTHON ?= python3
-
-check-python:
-	@$(PYTHON) python/check
 
 wheel:
 	@$(PYTHON) python/wheel "$(BUILD)/wheels"
@@ -201,32 +199,7 @@ dist:
 dist-windows:
 	@packaging/dist-windows "$(BUILD)/dist"
 
-check-rust: all
-	@rust/check "$(BUILD)"
-
-# Checks the crate's text, which scripts/erase makes of the proved sources, in all its forms.
-check-erased:
-	@erased/check
-
-check-deb:
-	@packaging/check $(BOOKWORM)
-
-check-cmake:
-	@packaging/cmake/check
-
-check-windows:
-	@c/check-windows
-
-check-macho:
-	@scripts/macho --check
-
-check-packages:
-	@packaging/check-all
-
-check-js:
-	@js/check
-
-.PHONY: wheel dist dist-windows check-erased check-rust check-deb check-cmake check-windows check-macho check-packages check-js
+.PHONY: wheel dist dist-windows
 
 clean:
 	rm -rf "$(BUILD)"

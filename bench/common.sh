@@ -21,11 +21,9 @@ need_number() {
     [[ "$2" =~ ^[1-9][0-9]{0,11}$ ]] || die "$1 asks for a number above 0, not '$2'"
 }
 
-# run_cargo ARGUMENTS: cargo in the copy of this folder. The processor is the one for which rt builds the library,
-# which takes memory by a few C functions of the kit.
+# run_cargo ARGUMENTS: cargo in the copy of this folder. The CPU is the least one that the library for C takes.
 run_cargo() {
-    if ! (cd "$work_folder/bench" && BENCH_LIBRARY_FOLDER="${library_folder:-$root_folder/crates/bench_c/out}" \
-        RATTLE_C_FOLDER="$(dirname "$(rt doc)")/c" \
+    if ! (cd "$work_folder/bench" && LIBRARY_FOLDER="$root_folder/build" \
         RUSTFLAGS="-C target-cpu=x86-64-v2" CARGO_TARGET_DIR="$work_folder/target" \
         cargo "$@" >"$work_folder/cargo.log" 2>&1); then
         cat "$work_folder/cargo.log" >&2
@@ -33,11 +31,11 @@ run_cargo() {
     fi
 }
 
-# The peers, and what they use, are of Debian's packages; REGISTRY is the folder in which they are, where it is not Debian's.
+# The peers, and what they use, are of Debian's packages; REGISTRY is the folder in which they are, if it is not Debian's.
 peers=(bstr encoding_rs simdutf8 memchr cfg-if)
 registry=${REGISTRY:-/usr/share/cargo/registry}
 
-# Stops where one of them is missing, and names the packages. What takes minutes comes after this.
+# Stops if one of them is missing, and names the packages. What takes minutes comes after this.
 need_peers() {
     local crate missing=()
     for crate in "${peers[@]}"; do
@@ -50,7 +48,7 @@ need_valgrind() {
     command -v valgrind >/dev/null || die "valgrind is not on the path (apt-get install valgrind)"
 }
 
-# Copies their sources beside the copy of this folder. The attributes that are taken out of `simdutf8` name a lint that rustc has
+# Copies their sources next to the copy of this folder. The attributes that are taken out of `simdutf8` name a lint that rustc has
 # no more, or make rustc's newer warnings errors.
 copy_peers() {
     local crate folders
@@ -61,14 +59,14 @@ copy_peers() {
     find "$work_folder/simdutf8/src" -name '*.rs' -exec sed -i '/#\[allow(const_err)\]/d; /#!\[deny(warnings)\]/d' {} +
 }
 
-# Builds the Rust programs in a temporary folder beside a copy of the Rust crate, and sets `programs`. Where BENCH_FOLDER
+# Builds the Rust programs in a temporary folder next to a copy of the Rust crate, and sets `programs`. Where BENCH_FOLDER
 # names a folder, they are built there once, and stay for the next script: as long as no source changes.
 build_programs() {
     local rust_crate=$1
     [ -f "$rust_crate/Cargo.toml" ] || die "no Rust crate in '$rust_crate': there is no Cargo.toml"
     command -v cargo >/dev/null || die "cargo is not on the path"
     need_peers
-    build_crate bench_c lib libbench_c.a "the static library" || exit 2
+    build_library || exit 2
     work_folder=${BENCH_FOLDER:-$(mktemp -d)}
     [ -n "${BENCH_FOLDER-}" ] || trap 'rm -rf "$work_folder"' EXIT
     rm -f "$work_folder"/{raw,counts,times_?}
@@ -80,28 +78,15 @@ build_programs() {
 copy_sources() {
     mkdir -p "$work_folder/bench"
     cp -r "$bench_folder"/{Cargo.toml,build.rs,passages.txt,src} "$work_folder/bench/"
+    sed -i "s|\"\.\./rust\"|\"$root_folder/rust\"|" "$work_folder/bench/Cargo.toml"
     copy_peers
     mkdir "$work_folder/encode_unicode"
     tar -C "$1" --exclude=./target --exclude=./.git -cf - . | tar -C "$work_folder/encode_unicode" -xf -
 }
 
-# Builds the same programs over the library for a processor with AVX2, x86-64-v3, which is then set aside: others find that for
-# x86-64-v2 where it was.
-build_with_avx2() {
-    local made="$root_folder/crates/bench_c/out/libbench_c.a"
-    library_folder="$work_folder/avx2"
-    mkdir -p "$library_folder"
-    mv "$made" "$library_folder/kept.a"
-    (cd "$root_folder/crates/bench_c" && rt lib --cpu=x86-64-v3) >"$work_folder/rt.log" 2>&1 \
-        || { cat "$work_folder/rt.log" >&2 && die "the library could not be built for x86-64-v3"; }
-    mv "$made" "$library_folder/libbench_c.a"
-    mv "$library_folder/kept.a" "$made"
-    run_cargo build --release --offline
-}
-
 # time_at_places PROGRAM WORDS..: links the program at four places, 16 bytes apart, runs it with these words at each,
-# and keeps what it printed in times_0 to times_3. Where a loop lies decides a good part of its time: on some processors
-# a branch over a line of 32 bytes is slow. Sets `differs` where the program's status is not 0.
+# and keeps what it printed in times_0 to times_3. Where a loop lies decides a good part of its time: on some CPUs
+# a branch over a line of 32 bytes is slow. Sets `differs` if the program's status is not 0.
 time_at_places() {
     local program=$1 place
     shift
@@ -114,8 +99,8 @@ time_at_places() {
 # What `count_run` counts: instructions, or mispredictions.
 counted=instructions
 
-# count_run COMMAND WORDS..: runs it under callgrind, and sets `told` to what it printed and `count` to its instructions, or to
-# a thousand times the branches that valgrind's predictor foresees wrongly.
+# count_run COMMAND WORDS..: runs it under callgrind, and sets `told` to its output and `count` to its instructions, or to
+# a thousand times the branches that valgrind's predictor mispredicts.
 count_run() {
     local log="$work_folder/callgrind.log" options=() conditional indirect
     [ "$counted" = instructions ] || options=(--branch-sim=yes)
@@ -126,7 +111,7 @@ count_run() {
     [ "$counted" = instructions ] || count=$((1000 * (conditional + indirect)))
 }
 
-# say_count ROW COUNT AMONG: the raw line of a row and a side. A count is below 0 where a run with no call had more mispredictions.
+# say_count ROW COUNT AMONG: the raw line of a row and a side. A count is below 0 if a run with no call had more mispredictions.
 say_count() {
     awk -v row="$1" -v count="$2" -v among="$3" 'BEGIN { printf "%s %.5f\n", row, (count < 0 ? 0 : count) / among }'
 }

@@ -1,5 +1,5 @@
 /* What the program `pieces` prints of text, in C: for each character its offset, its length and its scalar in hexadecimal. The
- * digits of the offset are counted up, and all goes through one buffer. Text is decoded by utf8proc; where there is none, it
+ * digits of the offset are counted up, and all goes through one buffer. Text is decoded by utf8proc; if there is none, it
  * stops with status 2. */
 #include <stdint.h>
 #include <stdio.h>

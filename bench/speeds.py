@@ -10,7 +10,7 @@ NAMES = {"rust": "encode_unicode", "std": "std", "bstr": "bstr", "encoding_rs": 
 TEXTS = {"ascii": "ASCII", "latin": "Latin script", "cyrillic": "Cyrillic", "arabic": "Arabic", "chinese": "Chinese", "japanese": "Japanese",
          "three-byte": "characters of three bytes"}
 FORMS = {"utf8": "UTF-8", "utf16le": "UTF-16LE", "utf16be": "UTF-16BE", "utf16": "UTF-16"}
-# What each work of `bench/run` does, by the question that it answers.
+# What each work of `bench/run` does, by its question.
 WORKS = {
     "pieces": {"forward": "every piece, forward", "backward": "every piece, backward", "ends": "every piece, from both ends in turn",
                "starts": "`char::from_utf8_slice_start` along the bytes", "text_backward": "every piece of valid text, backward"},
@@ -71,7 +71,7 @@ def between(numbers):
 
 
 def cells(rows, side, shown, named):
-    """The cells of some rows beside one side: what both took in the shown row, the goals, the ratios, and where ours takes more."""
+    """The cells of some rows compared with one side: what both took in the shown row, the goals, the ratios, and where ours takes more."""
     rows = [it for it in rows if side in it.numbers]
     if not rows:
         return None
@@ -116,7 +116,7 @@ def recoding(name="recode"):
 
 
 def short(call):
-    """Parts of a few bytes beside encoding_rs: a row for each pair and input, a column for each size."""
+    """Parts of a few bytes, compared with encoding_rs: a row for each pair and input, a column for each size."""
     found = {it.key: it.ratio("encoding_rs") for it in stored("short", 5) if it.key[4] == call and "encoding_rs" in it.numbers}
     sizes = sorted({int(key[3]) for key in found})
     lines = []
@@ -139,7 +139,7 @@ def programs():
 
 
 def checking():
-    """What bench/nody took of valid text, and nody and cat of damaged text. (The others stop at the first fault, and file looks at the front alone.)"""
+    """What bench/nody took of valid text, and nody and cat of damaged text. (The others stop at the first fault, and file looks only at the front.)"""
     lines = []
     for line in (STORED / "nody").read_text(encoding="utf-8").splitlines():
         cells = [it.strip() for it in line.strip("|").split("|")]
@@ -162,10 +162,7 @@ def cores():
 OF_C = {"utf8-to-utf16le": ("UTF-8 to UTF-16LE, `nody_recoder_feed`", "nody"), "utf16le-to-utf8": ("UTF-16LE to UTF-8, `nody_recoder_feed`", "nody"),
         "valid-up-to": ("validate UTF-8, `nody_utf8_valid_up_to`", "nody"), "decode": ("every piece, `nody_utf8_next`", "nody_utf8_next"),
         "decode first": ("every piece, `nody_utf8_first`", "nody_utf8_first"), "decode at once": ("every piece, `nody_utf8_pieces`", "nody_utf8_pieces")}
-# The same in the words of README.md, called from C alone: the rows that a first reader asks for, all with Chinese text.
-IN_SHORT = {"decode at once": ("split into pieces, many at a time", "icu"), "valid-up-to": ("validate UTF-8", "simdutf"),
-            "utf8-to-utf16le": ("UTF-8 to UTF-16", "simdutf"), "utf16le-to-utf8": ("UTF-16 to UTF-8", "simdutf")}
-# Those of the summary, in its words.
+# The calls from C of the summary, in its words.
 OF_C_IN_SHORT = {"decode": "split into pieces, from C, one at a time", "decode first": "split into pieces, from C, by `nody_utf8_first`",
                  "decode at once": "split into pieces, from C, many at a time",
                  "valid-up-to": "validate UTF-8, from C", "utf8-to-utf16le": "UTF-8 to UTF-16, from C", "utf16le-to-utf8": "UTF-16 to UTF-8, from C"}
@@ -182,7 +179,7 @@ def of_c_bench():
 
 
 def from_c():
-    """The library for C beside others, without the sides in Rattle: those are measured above."""
+    """The library for C compared with others, without the sides in Rattle: those are measured above."""
     lines = []
     for work, (told, _) in OF_C.items():
         for side in PEERS_OF_C:
@@ -192,19 +189,19 @@ def from_c():
 
 
 def rows_of_c(work):
-    """A call from C over each of its inputs, beside those that do the same."""
+    """A call from C over each of its inputs, compared with equivalent ones."""
     ours = OF_C[work][1]
     return [Row((work, text), {"ours": float(it[ours]), **{side: float(it[side]) for side in PEERS_OF_C if side in it}}, {})
             for text, it in of_c_bench()[work.split()[0]]]
 
 
-# The works of c/bench/run in which calls of ours stand beside another of ours: that one.
+# The works of c/bench/run in which calls of ours are compared with another of ours: that one.
 OVER_ALL = {"over-utf8": "nody_utf8_valid_up_to", "over-utf16": "nody_utf16_valid_up_to", "pieces-in-parts": "nody_utf8_pieces", "pieces-in-few": "nody_utf8_pieces"}
 IN_PARTS = {"pieces-in-parts": ", parts of 4 KiB", "pieces-in-few": ", parts of 100 bytes"}
 
 
 def over_all():
-    """The calls from C that go over a text, beside our own validation, and those for input in parts beside the call for the whole."""
+    """The calls from C that scan a text, compared with our own validation, and those for input in parts with the call for the whole."""
     lines = []
     for work, base in OVER_ALL.items():
         of_work = of_c_bench()[work]
@@ -287,19 +284,6 @@ def one(name, keys, key, side):
 
 def worst_cells(task, text, row, side):
     return [task, f"{text} (our worst)", NAMES[side], f"{row.numbers['ours']:.2f} ns", f"{row.numbers[side]:.2f} ns", marked_ratio(row.ratio(side))]
-
-
-def in_short():
-    """The table of README.md: four rows called from C, and our worst."""
-    lines = []
-    for work, (task, side) in IN_SHORT.items():
-        row = next(it for it in rows_of_c(work) if it.key[1] == "chinese")
-        lines.append([task, "Chinese", NAMES[side], f"{row.numbers['ours']:.2f} ns", f"{row.numbers[side]:.2f} ns", marked_ratio(row.ratio(side))])
-    row, side = worst([it for work in OF_C_IN_SHORT for it in rows_of_c(work)])
-    lines.append(worst_cells(OF_C_IN_SHORT[row.key[0]].replace(", from C", ""), TEXTS.get(row.key[1], row.key[1]), row, side))
-    told = ("Nanoseconds for a byte, called from C. The ratio is our time divided by theirs: above 1 we are slower. The last row is our worst: "
-            "the highest ratio of all calls from C, with any input and beside any library.\n\n")
-    return told + table(["task", "input", "compared with", "Noddychest", "theirs", "ratio"], lines)
 
 
 def summary():

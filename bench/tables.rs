@@ -1,4 +1,4 @@
-//! `tables KIB ..`: what edits and look-ups cost in a `TextBuffer` and in a `PieceTable`, beside decoding all again. For each the median
+//! `tables KIB ..`: what edits and look-ups cost in a `TextBuffer` and in a `PieceTable`, compared with decoding all again. For each the median
 //! and the worst, in microseconds; then what the buffer takes to be made, and its memory.
 
 use noddychest::{pieces, PieceTable, TextBuffer};
@@ -57,7 +57,7 @@ impl Chance {
     }
 }
 
-/// What turns of a work take, each alone: the median and the worst, in microseconds.
+/// The time of each turn of a work: the median and the worst, in microseconds.
 fn timed(count: usize, mut work: impl FnMut()) -> (f64, f64) {
     let mut times: Vec<f64> = (0..count)
         .map(|_| {
@@ -74,7 +74,7 @@ fn say(kib: usize, what: &str, (median, worst): (f64, f64)) {
     println!("{kib:>8} {what:<22} {median:>12.2} {worst:>12.1}");
 }
 
-/// Edits at random places, in turn.
+/// Edits at random offsets, in turn.
 fn edits(count: usize, len: impl Fn() -> usize, chance: &mut Chance, mut replace: impl FnMut(Range<usize>, &[u8])) -> (f64, f64) {
     let steps: Vec<(u64, usize, Vec<u8>)> =
         (0..count).map(|_| (chance.next(), chance.below(9), chance.bytes_of_edit())).collect();

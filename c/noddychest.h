@@ -2,10 +2,10 @@
  * inline functions of this header are only tested.
  *
  * LANGUAGES AND PLATFORMS. C99 and later, C++98 and later. Linux on x86-64 (with x86-64-v2) and on 64-bit ARM, with glibc or
- * musl; README.md has other platforms. No call allocates memory, reads a locale, keeps anything, or takes more than 5 KiB of the
- * stack. (On x86-64 the library has one byte of its own, which says what the processor has. It is written when the library is
- * loaded, and never again.) What lasts from call to call is in structs of yours, which you may copy: each copy then goes on by
- * itself. Calls on different structs may run in different threads at the same time, and in the handler of a signal.
+ * musl; README.md has other platforms. No call allocates memory, reads a locale, has global state, or takes more than 5 KiB of the
+ * stack. (On x86-64 the library has one byte of its own, whether the CPU has AVX2. It is written when the library is loaded, and
+ * never again.) State from call to call is in structs of yours, which you may copy: each copy then continues independently.
+ * Calls on different structs may run in different threads at the same time, and in a signal handler.
  *
  * CALLS. A call that begins with nody_utf8_ has a twin for units that begins with nody_utf16_; nody_utf8_streamed_at,
  * nody_utf8_first_inline and nody_utf8_next_inline have none.
@@ -13,17 +13,17 @@
  *     one piece    nody_utf8_first, nody_utf8_last, nody_utf8_encode
  *     all pieces   nody_bytes or nody_units, then nody_utf8_next, nody_utf8_next_back, nody_utf8_pieces; nody_utf8_char_count
  *     all faults   nody_bytes or nody_units, then nody_utf8_faults
- *     numbers      nody_utf8_offset_of, nody_utf8_number_of; of bytes in any form nody_char_count, nody_offset_of, nody_number_of
+ *     numbers      nody_utf8_offset_of, nody_utf8_number_of; of bytes in any encoding nody_char_count, nody_offset_of, nody_number_of
  *     edit         nody_changed_range
  *     divide       nody_boundary_before, nody_boundary_after, nody_utf16_boundary_before, nody_utf16_boundary_after, nody_undecided_len
- *     which form   nody_form_of_bom
+ *     encoding     nody_encoding_of_bom: by a byte order mark
  *     recode       nody_recoded_len, nody_recoded_len_max, nody_recode, nody_recode_strict, nody_utf8_to_utf16, nody_utf16_to_utf8
- *     in parts     nody_recoder, nody_recoder_feed, nody_recoder_finish, nody_recoder_held; the same with _strict and _lossy;
+ *     in parts     nody_recoder, nody_recoder_feed, nody_recoder_finish, nody_recoder_held; also with _strict and _lossy;
  *                  nody_decoder, nody_decoder_feed, nody_decoder_finish: the pieces, with their offsets;
- *                  nody_decoder_feed_faults, nody_decoder_finish_faults: the faults alone
- *     words        nody_kind_name, nody_kind_sentence
+ *                  nody_decoder_feed_faults, nody_decoder_finish_faults: only the faults
+ *     messages     nody_kind_name, nody_kind_sentence
  *     library      nody_version, nody_supported, nody_lanes
- *     rarely       nody_shard_end (nody_boundary_before under another name), nody_utf8_streamed_at; nody_utf8_first_inline and
+ *     rarely       nody_shard_end (where to cut an input for several workers), nody_utf8_streamed_at; nody_utf8_first_inline and
  *                  nody_utf8_next_inline (what nody_utf8_first and nody_utf8_next are as macros); for languages that call C
  *                  nody_put_kind_name, nody_put_kind_sentence
  *
@@ -34,9 +34,9 @@
  *                  reason why it is invalid
  *     piece        a character or a fault. Every input is a row of pieces
  *     boundary     an offset that is not inside a character, and in UTF-16 not inside a unit
- *     form         an encoding of text in bytes: UTF-8, little-endian UTF-16 or big-endian UTF-16
- *     to recode    to convert from one form to another, or to the same
- *     room         how many bytes, units or pieces a call may write
+ *     encoding     of text in bytes: UTF-8, little-endian UTF-16 or big-endian UTF-16
+ *     to recode    to convert from one encoding to another, or to repair text in one encoding
+ *     capacity     how many bytes, units or pieces the output buffer can hold
  *
  * INVALID INPUT. Recoding writes one U+FFFD, the replacement character, for each fault: E2 82 41 becomes U+FFFD U+FFFD A.
  * Browsers and Python sometimes write one U+FFFD for several bytes: for E2 82 41 they write U+FFFD A. The calls whose names end
@@ -49,21 +49,22 @@
  * examples: E0 80 41 is INTERRUPTED_SEQUENCE, and not OVERLONG_ENCODING. F0 41 at the end is TOO_FEW_BYTES, and not
  * INTERRUPTED_SEQUENCE. ED A0 at the end is TOO_FEW_BYTES, although no third byte would make it a character.
  *
- * POINTERS. A pointer and the number after it belong together: the number is a length to read, or a room to write into. If the
- * number is 0, the pointer may be NULL, or point anywhere. Else it must be valid for that many bytes, units or pieces. A pointer to
- * bytes may have any address; one to units, pieces or a struct has to be aligned as its type asks. What a call writes must not overlap
- * what it reads, nor what else it writes: `read` and `written` are two variables. Any other pointer that a call takes must not be NULL,
- * and this is not checked. No call reads or writes out of bounds. An offset or a number may be above the length, up to SIZE_MAX.
+ * POINTERS. A pointer and the number after it belong together: the number is a length to read, or the capacity of an output. If the
+ * number is 0, the pointer may be NULL, or point anywhere. Otherwise it must be valid for that many. A pointer to
+ * bytes may have any address; one to units, pieces or a struct has to be aligned as its type asks. What a call writes must not
+ * overlap what it reads, nor what else it writes: `read` and `written` are two variables. Any other pointer that a call takes must
+ * not be NULL. None of this is checked; if it holds, no call reads or writes out of bounds. An offset or a number may be above the
+ * length, up to SIZE_MAX.
  *
  * STRUCTS. Make a cursor (nody_bytes_t, nody_units_t) by nody_bytes or nody_units, a recoder (nody_recoder_t) by nody_recoder, and
  * a decoder (nody_decoder_t) by nody_decoder. If you fill a cursor yourself, its pointer must not be NULL, even if `len` is 0, and
- * must be valid for `len`. Do not fill a recoder or a decoder yourself: the calls then refuse it, or write what has no meaning. They
- * stay within bounds.
+ * must be valid for `len`. Do not initialise a recoder or a decoder by hand: calls on it fail with NODY_STATUS_REFUSED or produce
+ * meaningless output, but never access memory out of bounds.
  *
  * ERRORS. A call fails only as its comment says. None sets errno. On x86-64 call nody_supported first.
  *
- * UNITS. A uint16_t is in the byte order of the machine: seen as bytes, an array of them has the form NODY_FORM_UTF16_NATIVE. For
- * UTF-16 in bytes, the form tells the byte order.
+ * UNITS. A uint16_t is in the byte order of the machine: seen as bytes, an array of them has the encoding NODY_UTF16_NATIVE. For
+ * UTF-16 in bytes, the encoding determines the byte order.
  *
  * COST. "Constant": the call looks at a few bytes, whatever the length. "Linear": the time grows with the length of the input,
  * which is read once. "In blocks" is faster than one character after another. c/README.md says how many machine instructions a byte
@@ -112,26 +113,26 @@ NODY_ENUM(nody_kind_t) {
     NODY_KIND_NONE = 11                          /* no piece: nothing is left */
 };
 
-/* The encoding of text in bytes. A byte order mark is the character U+FEFF at the front. nody_form_of_bom looks for one. No other call
- * does, and none adds one or takes one away. */
-NODY_ENUM(nody_form_t) {
-    NODY_FORM_UTF8 = 0,
-    NODY_FORM_UTF16LE = 1, /* little-endian: the low byte of each unit comes first */
-    NODY_FORM_UTF16BE = 2  /* big-endian: the high byte of each unit comes first */
+/* The encoding of text in bytes. A byte order mark is the character U+FEFF at the front. nody_encoding_of_bom looks for one. No other call
+ * does, and none adds or removes one. */
+NODY_ENUM(nody_encoding_t) {
+    NODY_UTF8 = 0,
+    NODY_UTF16LE = 1, /* little-endian: the low byte of each unit comes first */
+    NODY_UTF16BE = 2  /* big-endian: the high byte of each unit comes first */
 };
 
-/* The form of an array of uint16_t on this machine. */
+/* The encoding of an array of uint16_t on this machine. */
 #if defined(__BYTE_ORDER__) && __BYTE_ORDER__ == __ORDER_BIG_ENDIAN__
-#define NODY_FORM_UTF16_NATIVE NODY_FORM_UTF16BE
+#define NODY_UTF16_NATIVE NODY_UTF16BE
 #else
-#define NODY_FORM_UTF16_NATIVE NODY_FORM_UTF16LE
+#define NODY_UTF16_NATIVE NODY_UTF16LE
 #endif
 
-/* The result of a call that writes into a room. */
+/* The result of a call that writes into an output buffer. */
 NODY_ENUM(nody_status_t) {
     NODY_STATUS_DONE = 0,    /* the call read all of the input, and wrote all that it had to write */
-    NODY_STATUS_FULL = 1,    /* the next character, or piece, does not fit into the room that is left */
-    NODY_STATUS_REFUSED = 2, /* a form, or the `count` of a recoder or decoder, is too great. Nothing was read or written */
+    NODY_STATUS_FULL = 1,    /* the next character, or piece, does not fit into the output */
+    NODY_STATUS_REFUSED = 2, /* an encoding, or the `count` of a recoder or decoder, is too great. Nothing was read or written */
     NODY_STATUS_FAULT = 3    /* a strict call stopped at a fault. All before the fault was written */
 };
 
@@ -162,25 +163,25 @@ typedef struct {
 } nody_units_t;
 
 /* A recoder. It holds up to three bytes of input from one call to the next. It has read these bytes but not recoded them yet,
- * because the rest of a character has not come, or because the output did not fit into the room. A strict call also holds bytes
+ * because the rest of a character has not come, or because the output did not fit. A strict call also holds bytes
  * if it has to see the next ones to tell the kind of a fault. In big-endian UTF-16 a single byte is held, and a leading surrogate
  * before it, even if the byte cannot complete a pair. nody_recoder_held gives the bytes. `replaced` is the number of
  * faults that became U+FFFD. nody_recoder_finish does not reset it. The count stops at UINT64_MAX. You may read it, and set it to
  * 0. Leave the other fields alone. */
 typedef struct {
-    nody_form_t from;
-    nody_form_t to;
+    nody_encoding_t from;
+    nody_encoding_t to;
     uint8_t count;
     uint8_t held[3];
     uint64_t replaced; /* how many faults nody_recoder_feed and nody_recoder_finish replaced since nody_recoder */
 } nody_recoder_t;
 
 /* A decoder of input that comes in parts. It holds up to three bytes of input from one call to the next: those that
- * were read, but whose piece is not known yet, or did not fit into the room. `offset` is the offset of the first of them or, if
- * none is held, of the next byte. You may read it. You may set it before the first call, to count from another number than 0.
- * Leave the other fields alone. */
+ * were read, but whose piece is not known yet, or did not fit into the output. `offset` is the offset of the first of them or, if
+ * none is held, of the next byte. You may set it before the first call, to count from another number than 0. You may read all fields;
+ * change no other. */
 typedef struct {
-    nody_form_t form;
+    nody_encoding_t encoding;
     uint8_t count;
     uint8_t held[3];
     uint64_t offset;
@@ -227,9 +228,9 @@ typedef struct {
 nody_piece_t nody_utf8_first(const uint8_t *bytes, size_t len);
 nody_piece_t nody_utf16_first(const uint16_t *units, size_t len);
 
-/* nody_utf8_first for an ASCII character is in line, without a call: nody_utf8_first is a macro too, from C99 and C++11 on. It takes
- * each argument once, and answers what the function answers. `(nody_utf8_first)(bytes, len)` calls the function, and a pointer to
- * nody_utf8_first is one to that.
+/* In C99, C++11 and later, nody_utf8_first is also a macro that handles ASCII inline. It evaluates each argument once and returns what
+ * the function returns. `(nody_utf8_first)(bytes, len)` always calls the function, and a pointer to nody_utf8_first is one to the
+ * function.
  *
  * bytes, len: the input. Result, errors, cost: as for nody_utf8_first.
  */
@@ -248,7 +249,7 @@ static inline nody_piece_t nody_utf8_first_inline(const uint8_t *bytes, size_t l
 /* The last piece of some bytes, or units.
  *
  * bytes or units, len: the input. At most its last four bytes, or two units, matter.
- * Result: the piece, or NODY_KIND_NONE if len is 0. The kind of a fault is judged as if nothing came after these `len`
+ * Result: the piece, or NODY_KIND_NONE if len is 0. The kind of a fault is determined as if nothing came after these `len`
  * bytes or units. If your input goes on after len, a reader from the front may find another kind. If the input
  * ends inside a character, because it was cut there, the bytes of that character are faults.
  * Errors: none. Cost: constant.
@@ -261,15 +262,16 @@ nody_piece_t nody_utf16_last(const uint16_t *units, size_t len);
 /* Writes one character as UTF-8, or as UTF-16.
  *
  * scalar: the number of the character.
- * out, room: where to write. If the room is too small, nothing is written. Places after the character keep what they had.
- * Result: the length of the character, 1 to 4 bytes or 1 to 2 units. A result above `room` means that nothing was written.
+ * out, capacity: where to write. If the capacity is too small, nothing is written. What is after the character in `out` does not
+ * change.
+ * Result: the length of the character, 1 to 4 bytes or 1 to 2 units. A result above `capacity` means that nothing was written.
  * Errors: 0 if the number is not a character: it is a surrogate, or above 10FFFF. Cost: constant.
  *
  *     uint8_t euro[4];
  *     size_t len = nody_utf8_encode(0x20AC, euro, sizeof euro); // 3: E2 82 AC
  */
-size_t nody_utf8_encode(uint32_t scalar, uint8_t *out, size_t room);
-size_t nody_utf16_encode(uint32_t scalar, uint16_t *out, size_t room);
+size_t nody_utf8_encode(uint32_t scalar, uint8_t *out, size_t capacity);
+size_t nody_utf16_encode(uint32_t scalar, uint16_t *out, size_t capacity);
 
 /* ---- All characters --------------------------------------------------------------------------------------------------------- */
 
@@ -284,22 +286,23 @@ size_t nody_utf16_encode(uint32_t scalar, uint16_t *out, size_t room);
 size_t nody_utf8_valid_up_to(const uint8_t *bytes, size_t len);
 size_t nody_utf16_valid_up_to(const uint16_t *units, size_t len);
 
-/* How far some bytes are valid in a form.
+/* How far some bytes are valid in an encoding.
  *
- * form: the form. UTF-8 is allowed too, in spite of the name of the call. bytes, len: the input.
+ * encoding: the encoding. UTF-8 is allowed too, in spite of the name of the call. bytes, len: the input.
  * Result: the offset in bytes of the first fault, or len if all of the input is valid. A single byte at the end of UTF-16 is a
  * fault.
- * Errors: SIZE_MAX if the form is above 2. So compare by `!= len`: `< len` would take SIZE_MAX for valid. Cost: linear, in blocks.
+ * Errors: SIZE_MAX if the encoding is above 2. So compare by `!= len`: `< len` would take SIZE_MAX for valid. Cost: linear, in
+ * blocks.
  *
- *     if (nody_utf16_bytes_valid_up_to(NODY_FORM_UTF16BE, bytes, len) != len) return invalid();
+ *     if (nody_utf16_bytes_valid_up_to(NODY_UTF16BE, bytes, len) != len) return invalid();
  */
-size_t nody_utf16_bytes_valid_up_to(nody_form_t form, const uint8_t *bytes, size_t len);
+size_t nody_utf16_bytes_valid_up_to(nody_encoding_t encoding, const uint8_t *bytes, size_t len);
 
 /* The number of pieces: a character counts as one, and so does a fault.
  *
  * bytes or units, len: the input.
  * Result: the number.
- * Errors: none. Cost: linear; UTF-8 in blocks where it is text, UTF-16 in blocks.
+ * Errors: none. Cost: linear; UTF-8 in blocks if it is text, UTF-16 in blocks.
  *
  *     size_t count = nody_utf8_char_count((const uint8_t *)"\xe2\x82\xac!", 4); // 2
  */
@@ -310,7 +313,7 @@ size_t nody_utf16_char_count(const uint16_t *units, size_t len);
  *
  * bytes or units, len: the input. number: the number.
  * Result: the offset, in bytes or units. It is len if the input has no more pieces.
- * Errors: none. Cost: linear in the result; UTF-8 in blocks where it is text, UTF-16 in blocks.
+ * Errors: none. Cost: linear in the result; UTF-8 in blocks if it is text, UTF-16 in blocks.
  *
  *     size_t offset = nody_utf8_offset_of((const uint8_t *)"h\xc3\xa9\xe2\x82" "A", 6, 2); // 3: E2, after h and the two bytes of e with an accent
  */
@@ -321,28 +324,28 @@ size_t nody_utf16_offset_of(const uint16_t *units, size_t len, size_t number);
  *
  * bytes or units, len: the input. offset: the offset, in bytes or units. It may lie inside a character, which is counted then.
  * Result: how many. If `offset` is len or more, all pieces are counted.
- * Errors: none. Cost: linear in the offset; UTF-8 in blocks where it is text, UTF-16 in blocks.
+ * Errors: none. Cost: linear in the offset; UTF-8 in blocks if it is text, UTF-16 in blocks.
  *
  *     size_t column = nody_utf8_number_of(line, len, offset); // how many characters and faults of the line are before the offset
  */
 size_t nody_utf8_number_of(const uint8_t *bytes, size_t len, size_t offset);
 size_t nody_utf16_number_of(const uint16_t *units, size_t len, size_t offset);
 
-/* The same three for bytes in a form: so for UTF-16 in bytes, of either byte order. The pieces are those that a decoder gives
- * (nody_decoder_feed): in UTF-16 a single byte at the end is one more.
+/* nody_utf8_char_count, nody_utf8_offset_of and nody_utf8_number_of for bytes in any encoding, as UTF-16 in bytes. The pieces are those of
+ * a decoder (nody_decoder_feed): in UTF-16 a single byte at the end is one more.
  *
- * form: the form. bytes, len: the input. number: counted from 0. offset: in bytes. It may lie inside a character, or a unit, which is
- * counted then.
- * Result: the number of all pieces; the offset in bytes of the piece with a number, or len if there are no more; how many pieces begin
- * before an offset.
- * Errors: SIZE_MAX if the form is above 2. Cost: as for units, and for UTF-8 as above. nody_offset_of goes over the input twice where
+ * encoding: the encoding. bytes, len: the input. number: counted from 0. offset: in bytes. It may lie inside a character, or a unit,
+ * which is counted then.
+ * Result: the number of all pieces; the offset in bytes of the piece with a number, or len if there are no more; how many pieces
+ * begin before an offset.
+ * Errors: SIZE_MAX if the encoding is above 2. Cost: as for units, and for UTF-8 as above. nody_offset_of reads the input twice if
  * the result is its last byte or len, and its length is odd.
  *
- *     size_t count = nody_char_count(NODY_FORM_UTF16LE, (const uint8_t *)"\x3d\xd8\x00\xde!", 5); // 2: an emoji, and a single byte
+ *     size_t count = nody_char_count(NODY_UTF16LE, (const uint8_t *)"\x3d\xd8\x00\xde!", 5); // 2: an emoji, and a single byte
  */
-size_t nody_char_count(nody_form_t form, const uint8_t *bytes, size_t len);
-size_t nody_offset_of(nody_form_t form, const uint8_t *bytes, size_t len, size_t number);
-size_t nody_number_of(nody_form_t form, const uint8_t *bytes, size_t len, size_t offset);
+size_t nody_char_count(nody_encoding_t encoding, const uint8_t *bytes, size_t len);
+size_t nody_offset_of(nody_encoding_t encoding, const uint8_t *bytes, size_t len, size_t number);
+size_t nody_number_of(nody_encoding_t encoding, const uint8_t *bytes, size_t len, size_t offset);
 
 /* Makes a cursor over some bytes, or units.
  *
@@ -367,12 +370,12 @@ static inline nody_units_t nody_units(const uint16_t *units, size_t len) {
     return left;
 }
 
-/* Takes the first piece off a cursor (`next`), or the last piece (`next_back`). You may mix both: each piece comes once.
+/* Takes the first piece off a cursor (`next`), or the last piece (`next_back`). You may mix both: each piece is returned once.
  *
  * left: the cursor. After the call it has what is left. After `next`, left->bytes points just past the piece. After
  * `next_back`, left->bytes + left->len points to the first byte of the piece. (For units: left->units.)
- * Result: the piece. If nothing was left, NODY_KIND_NONE, and the cursor does not change. A piece is judged by what
- * the cursor had before the call, and by nothing else. In E0 80 41, for example, the kind of E0 is
+ * Result: the piece. If nothing was left, NODY_KIND_NONE, and the cursor does not change. The piece depends only
+ * on what the cursor had before the call. In E0 80 41, for example, the kind of E0 is
  * NODY_KIND_INTERRUPTED_SEQUENCE; once `next_back` took 41, it is NODY_KIND_TOO_FEW_BYTES. Only kinds change in this way, never
  * offsets.
  * Errors: none. Cost: constant.
@@ -389,9 +392,8 @@ nody_piece_t nody_utf8_next_back(nody_bytes_t *left);
 nody_piece_t nody_utf16_next(nody_units_t *left);
 nody_piece_t nody_utf16_next_back(nody_units_t *left);
 
-/* nody_utf8_next for an ASCII character is in line, without a call: nody_utf8_next is a macro too, from C99 and C++11 on. It takes its
- * argument once, and answers what the function answers. `(nody_utf8_next)(&left)` calls the function, and a pointer to nody_utf8_next
- * is one to that.
+/* In C99, C++11 and later, nody_utf8_next is also a macro that handles ASCII inline. It evaluates its argument once and returns what the
+ * function returns. `(nody_utf8_next)(&left)` always calls the function, and a pointer to nody_utf8_next is one to the function.
  *
  * left: the cursor. Result, errors, cost: as for nody_utf8_next.
  */
@@ -418,24 +420,24 @@ static inline nody_piece_t nody_utf8_next_inline(nody_bytes_t *left) {
 
 /* Takes many pieces off the front of a cursor.
  *
- * left: the cursor, as for `next`. out, room: where to write pieces, and how many. Places after them keep what they had.
- * Result: how many pieces were written: `room`, or fewer if nothing is left after them.
+ * left: the cursor, as for `next`. out, capacity: where to write pieces, and how many. What is after them in `out` does not change.
+ * Result: how many pieces were written: `capacity`, or fewer if nothing is left after them.
  * Errors: none. Cost: linear in the result.
  *
  *     while ((count = nody_utf8_pieces(&left, pieces, 256)) > 0) use(pieces, count);
  */
-size_t nody_utf8_pieces(nody_bytes_t *left, nody_piece_t *out, size_t room);
-size_t nody_utf16_pieces(nody_units_t *left, nody_piece_t *out, size_t room);
+size_t nody_utf8_pieces(nody_bytes_t *left, nody_piece_t *out, size_t capacity);
+size_t nody_utf16_pieces(nody_units_t *left, nody_piece_t *out, size_t capacity);
 
-/* The next faults, many at once, each with its offset: all that is invalid, and no character. Text between them is passed in blocks, at
- * the speed of nody_utf8_valid_up_to. The faults are those of nody_utf8_pieces, with the same kinds.
+/* The next faults, many in one call, each with its offset. Text between them is skipped in blocks, at the speed of
+ * nody_utf8_valid_up_to. The faults are those of nody_utf8_pieces, with the same kinds.
  *
  * left: the cursor. After the call it begins with the first fault that did not fit, or has nothing left.
- * offset: in and out. The offset of the first byte, or unit, of the cursor: 0 for the front of the input. The call adds what it
- * passed. In nody_utf16_faults offsets and lengths are in units.
- * out, room: where to write faults, and how many. Places after them keep what they had.
- * Result: how many faults were written: `room`, or fewer if nothing is left after them.
- * Errors: none. Cost: linear in what is passed, in blocks where it is text.
+ * offset: in and out. The offset of the first byte, or unit, of the cursor: 0 for the front of the input. The call adds the
+ * number of bytes, or units, that it took off the cursor. In nody_utf16_faults offsets and lengths are in units.
+ * out, capacity: where to write faults, and how many. What is after them in `out` does not change.
+ * Result: how many faults were written: `capacity`, or fewer if nothing is left after them.
+ * Errors: none. Cost: linear in what is skipped, in blocks if it is text.
  *
  *     nody_bytes_t left = nody_bytes(bytes, len);
  *     nody_located_t faults[64];
@@ -443,8 +445,8 @@ size_t nody_utf16_pieces(nody_units_t *left, nody_piece_t *out, size_t room);
  *     while ((count = nody_utf8_faults(&left, &offset, faults, 64)) > 0)
  *         for (size_t k = 0; k < count; k++) report(faults[k].offset, nody_kind_sentence(faults[k].kind));
  */
-size_t nody_utf8_faults(nody_bytes_t *left, uint64_t *offset, nody_located_t *out, size_t room);
-size_t nody_utf16_faults(nody_units_t *left, uint64_t *offset, nody_located_t *out, size_t room);
+size_t nody_utf8_faults(nody_bytes_t *left, uint64_t *offset, nody_located_t *out, size_t capacity);
+size_t nody_utf16_faults(nody_units_t *left, uint64_t *offset, nody_located_t *out, size_t capacity);
 
 /* ---- Where text may be divided ---------------------------------------------------------------------------------------------- */
 
@@ -453,14 +455,14 @@ size_t nody_utf16_faults(nody_units_t *left, uint64_t *offset, nody_located_t *o
  * (This does not hold for the lossy calls.) Only kinds may differ: a fault just before the boundary may have one kind in the
  * divided input, and another in the whole input.
  *
- * form: the form of the input. bytes, len: the input. at: the offset.
+ * encoding: the encoding of the input. bytes, len: the input. at: the offset.
  * Result: the boundary, at most three bytes from `at`. If `at` is len or more, it is len.
- * Errors: SIZE_MAX if the form is above 2: test for it before you use the result. Cost: constant.
+ * Errors: SIZE_MAX if the encoding is above 2: test for it before you use the result. Cost: constant.
  *
- *     size_t most = nody_boundary_before(NODY_FORM_UTF8, name, len, 255); // as much of a name as fits into 255 bytes
+ *     size_t most = nody_boundary_before(NODY_UTF8, name, len, 255); // as much of a name as fits into 255 bytes
  */
-size_t nody_boundary_before(nody_form_t form, const uint8_t *bytes, size_t len, size_t at);
-size_t nody_boundary_after(nody_form_t form, const uint8_t *bytes, size_t len, size_t at);
+size_t nody_boundary_before(nody_encoding_t encoding, const uint8_t *bytes, size_t len, size_t at);
+size_t nody_boundary_after(nody_encoding_t encoding, const uint8_t *bytes, size_t len, size_t at);
 
 /* The boundary near an offset, for units.
  *
@@ -474,149 +476,152 @@ size_t nody_utf16_boundary_before(const uint16_t *units, size_t len, size_t at);
 size_t nody_utf16_boundary_after(const uint16_t *units, size_t len, size_t at);
 
 /* The part of an input outside of which no piece changes if some bytes are replaced: what to decode again after an edit. The pieces
- * before its start stay as they are. Those from its end on stay too, and move with their bytes. It does not matter which bytes come in
- * place of the others, nor how many.
+ * before its start stay as they are. Those from its end on stay too, and move with their bytes. It does not matter which bytes come
+ * in place of the others, nor how many.
  *
  * In UTF-16, if the length of the input changes by an odd number of bytes, the pieces from the end on may change too, since each unit
  * has other bytes then.
  *
- * form: the form of the input. bytes, len: the input after the edit, and start, end: the new bytes in it, without the one at `end`. Or
- * the input before the edit, and the bytes that are to be replaced. Both give the same pieces: after the edit the end has moved by
- * as much as the length has grown.
- * Result: two boundaries. The start is at most six bytes before `start`, the end at most six bytes after `end`. Offsets above len count
- * as len, and a `start` above `end` counts as `end`.
- * Errors: both are SIZE_MAX if the form is above 2. Cost: constant.
+ * encoding: the encoding of the input. bytes, len: the input after the edit, and start, end: the new bytes in it, without the one at
+ * `end`. Or the input before the edit, and the bytes that are to be replaced. Both give the same pieces: after the edit the end has
+ * moved by as much as the length has grown.
+ * Result: two boundaries. The start is at most six bytes before `start`, the end at most six bytes after `end`. Offsets above len
+ * count as len, and a `start` above `end` counts as `end`.
+ * Errors: both are SIZE_MAX if the encoding is above 2. Cost: constant.
  *
  *     memmove(text + at + 1, text + at, len - at); // insert one byte
  *     text[at] = byte;
- *     nody_range_t changed = nody_changed_range(NODY_FORM_UTF8, text, ++len, at, at + 1);
+ *     nody_range_t changed = nody_changed_range(NODY_UTF8, text, ++len, at, at + 1);
  *     decode_again(text, changed.start, changed.end);
  */
-nody_range_t nody_changed_range(nody_form_t form, const uint8_t *bytes, size_t len, size_t start, size_t end);
+nody_range_t nody_changed_range(nody_encoding_t encoding, const uint8_t *bytes, size_t len, size_t start, size_t end);
 
-/* How many bytes at the end of some bytes depend on the bytes that follow. Keep them back if you read a large input in blocks, and put
- * them before the next block. It is how many bytes a decoder holds that was fed these bytes alone (nody_decoder_feed).
+/* The number of bytes at the end, 0 to 3, that cannot be decoded until more input arrives. If you read a large input in blocks, carry
+ * them over to the front of the next block. It is the number of bytes that a decoder holds which was fed only these bytes.
  *
  * They are the front of a character, or faults whose kind the next bytes decide: of ED A0 both are, although no third byte makes it a
- * character. All pieces before them are known. Their kinds are those of a decoder: of F0 41 the first byte is
- * NODY_KIND_INTERRUPTED_SEQUENCE whatever follows, and the result is 0. If no byte follows, all that is left are faults.
+ * character. All pieces before them are known: of F0 41 the first byte is a fault whatever follows, and the result is 0. If no byte
+ * follows, all that is left are faults. Pieces and offsets of such blocks are those of the whole input. For the kinds use a decoder: the
+ * calls for a whole input, as nody_utf8_faults, take the end of a block for the end of the input.
  *
- * form: the form of the input. bytes, len: the input, or a part of it that begins at a boundary.
+ * encoding: the encoding of the input. bytes, len: the input, or a part of it that begins at a boundary.
  * Result: 0 to 3.
- * Errors: SIZE_MAX if the form is above 2: test for it before you use the result. Cost: constant.
+ * Errors: SIZE_MAX if the encoding is above 2: test for it before you use the result. Cost: constant.
  *
- *     size_t whole = len - nody_undecided_len(NODY_FORM_UTF8, block, len); // of 61 E2 82 it is 1
+ *     size_t whole = len - nody_undecided_len(NODY_UTF8, block, len); // of 61 E2 82 it is 1
  */
-size_t nody_undecided_len(nody_form_t form, const uint8_t *bytes, size_t len);
+size_t nody_undecided_len(nody_encoding_t encoding, const uint8_t *bytes, size_t len);
 
-/* The form of an input that begins with a byte order mark, and the length of the mark. UTF-8 has EF BB BF, little-endian UTF-16 FF FE,
+/* The encoding of an input that begins with a byte order mark, and the length of the mark. UTF-8 has EF BB BF, little-endian UTF-16 FF FE,
  * and big-endian UTF-16 FE FF. Little-endian UTF-32 begins with FF FE too: this call takes it for UTF-16.
  *
  * bytes, len: the input. Its first three bytes are enough.
- * form: receives the form if there is a mark. Else it stays as it was: so set it before to the form that you assume without a mark.
+ * encoding: receives the encoding if there is a mark. Else it stays as it was: so set it before to the encoding that you assume
+ * without a mark.
  * Result: the length of the mark in bytes, 2 or 3; 0 if the input begins with none.
  * Errors: none. Cost: constant.
  *
- *     nody_form_t form = NODY_FORM_UTF8;
- *     size_t mark = nody_form_of_bom(in, len, &form); // the text is in + mark, of len - mark bytes
+ *     nody_encoding_t encoding = NODY_UTF8;
+ *     size_t mark = nody_encoding_of_bom(in, len, &encoding); // the text is in + mark, of len - mark bytes
  */
-size_t nody_form_of_bom(const uint8_t *bytes, size_t len, nody_form_t *form);
+size_t nody_encoding_of_bom(const uint8_t *bytes, size_t len, nody_encoding_t *encoding);
 
 /* ---- A whole input recoded -------------------------------------------------------------------------------------------------- */
 
 /* Recodes a whole input. Each fault becomes one U+FFFD. A single byte at the end of UTF-16 is a fault too.
  *
- * from, to: the forms, which may be the same. in, len: the input.
- * out, room: where to write, and how many bytes. nody_recoded_len gives a room that is enough.
- * written: receives how many bytes were written. After them, up to `room`, `out` may hold anything. Nothing outside of it is changed.
+ * from, to: the encodings, which may be the same. in, len: the input.
+ * out, capacity: where to write, and how many bytes. nody_recoded_len gives a sufficient capacity.
+ * written: receives how many bytes were written. After them, up to `capacity`, `out` may hold anything. Nothing outside of it is
+ * changed.
  * Result:
  *   NODY_STATUS_DONE: the whole input was recoded.
- *   NODY_STATUS_FULL: the room is too small. What was written ends after a whole character. You cannot go on from there: to recode
- *   part by part, use a recoder.
- * Errors: NODY_STATUS_REFUSED, with 0 in `*written`, if a form is above 2. Cost: linear.
+ *   NODY_STATUS_FULL: the capacity is too small. What was written ends after a whole character. You cannot go on from there: to
+ *   recode part by part, use a recoder.
+ * Errors: NODY_STATUS_REFUSED, with 0 in `*written`, if an encoding is above 2. Cost: linear.
  *
- *     size_t written, room = nody_recoded_len(from, to, bytes, len); // in bytes
- *     uint8_t *out = room < SIZE_MAX ? (uint8_t *)malloc(room + 1) : NULL;
- *     if (!out || nody_recode(from, to, bytes, len, out, room, &written) != NODY_STATUS_DONE) return failed();
+ *     size_t written, capacity = nody_recoded_len(from, to, bytes, len); // in bytes
+ *     uint8_t *out = capacity < SIZE_MAX ? (uint8_t *)malloc(capacity + 1) : NULL;
+ *     if (!out || nody_recode(from, to, bytes, len, out, capacity, &written) != NODY_STATUS_DONE) return failed();
  */
-nody_status_t nody_recode(nody_form_t from, nody_form_t to, const uint8_t *in, size_t len, uint8_t *out, size_t room,
+nody_status_t nody_recode(nody_encoding_t from, nody_encoding_t to, const uint8_t *in, size_t len, uint8_t *out, size_t capacity,
                           size_t *written);
 
 /* Recodes a whole input, but stops at the first fault.
  *
- * from, to, in, len, out, room: as for nody_recode. With two bytes of room for each byte of input the room is always enough.
+ * from, to, in, len, out, capacity: as for nody_recode. A capacity of 2 * len is always enough.
  * read: receives how many bytes of the input were recoded. These are valid.
- * written: receives how many bytes were written. After them, up to `room`, `out` may hold anything.
+ * written: receives how many bytes were written. After them, up to `capacity`, `out` may hold anything.
  * fault: receives the fault. Its `back` is 0.
  * Result:
  *   NODY_STATUS_DONE: the whole input is valid, and was recoded.
  *   NODY_STATUS_FAULT: there is a fault. `*read` is its offset.
- *   NODY_STATUS_FULL: the next character does not fit into the room. The input after `*read` was not judged.
- * Errors: NODY_STATUS_REFUSED, with 0 in `*read` and `*written`, if a form is above 2. Cost: linear.
+ *   NODY_STATUS_FULL: the next character does not fit. The input after `*read` was not examined.
+ * Errors: NODY_STATUS_REFUSED, with 0 in `*read` and `*written`, if an encoding is above 2. Cost: linear.
  *
- *     switch (nody_recode_strict(from, to, in, len, out, room, &read, &written, &fault)) {
+ *     switch (nody_recode_strict(from, to, in, len, out, capacity, &read, &written, &fault)) {
  *     case NODY_STATUS_DONE: return use(out, written);
  *     case NODY_STATUS_FAULT: return report(read, nody_kind_sentence(fault.kind)); // (offset and reason)
  *     default: return failed();
  *     }
  */
-nody_status_t nody_recode_strict(nody_form_t from, nody_form_t to, const uint8_t *in, size_t len, uint8_t *out, size_t room,
+nody_status_t nody_recode_strict(nody_encoding_t from, nody_encoding_t to, const uint8_t *in, size_t len, uint8_t *out, size_t capacity,
                                  size_t *read, size_t *written, nody_fault_t *fault);
 
-/* How many bytes nody_recode writes for this input, if the room is enough.
+/* The exact number of bytes that nody_recode writes for this input.
  *
- * from, to: the forms. in, len: the input.
+ * from, to: the encodings. in, len: the input.
  * Result: the number of bytes.
- * Errors: SIZE_MAX if a size_t cannot hold the number, or a form is above 2. Cost: linear. It recodes in parts, into
- * room on the stack.
+ * Errors: SIZE_MAX if a size_t cannot hold the number, or an encoding is above 2. Cost: linear. It recodes in parts, into
+ * a buffer on the stack.
  *
- *     size_t room = nody_recoded_len(NODY_FORM_UTF8, NODY_FORM_UTF16LE, bytes, len);
+ *     size_t capacity = nody_recoded_len(NODY_UTF8, NODY_UTF16LE, bytes, len);
  */
-size_t nody_recoded_len(nody_form_t from, nody_form_t to, const uint8_t *in, size_t len);
+size_t nody_recoded_len(nody_encoding_t from, nody_encoding_t to, const uint8_t *in, size_t len);
 
 /* The most bytes that any input of this length can become: at most three for each byte.
  *
- * from, to: the forms. len: the length of the input. For a part that you feed to a recoder, pass the length of
+ * from, to: the encodings. len: the length of the input. For a part that you feed to a recoder, pass the length of
  * the part plus the number of bytes that the recoder holds.
  * Result: the number of bytes.
- * Errors: SIZE_MAX if a size_t cannot hold the number, or a form is above 2. Cost: constant.
+ * Errors: SIZE_MAX if a size_t cannot hold the number, or an encoding is above 2. Cost: constant.
  *
- *     size_t most = nody_recoded_len_max(NODY_FORM_UTF8, NODY_FORM_UTF16LE, 100); // 200
+ *     size_t most = nody_recoded_len_max(NODY_UTF8, NODY_UTF16LE, 100); // 200
  */
-size_t nody_recoded_len_max(nody_form_t from, nody_form_t to, size_t len);
+size_t nody_recoded_len_max(nody_encoding_t from, nody_encoding_t to, size_t len);
 
 /* nody_recode between UTF-8 and an array of uint16_t.
  *
- * in, len, out, room, written: as for nody_recode. `len` counts what `in` points to: bytes or units. `room` and `*written`
- * count what `out` points to. `len` or `room`, whichever counts units, must be below SIZE_MAX / 2: this is not checked. Do not cast a
- * buffer of bytes to uint16_t *. For UTF-16 in bytes call nody_recode.
- * Result: NODY_STATUS_DONE, or NODY_STATUS_FULL if the room is too small.
+ * in, len, out, capacity, written: as for nody_recode. `len` counts what `in` points to: bytes or units. `capacity` and `*written`
+ * count what `out` points to. `len` or `capacity`, whichever counts units, must be below SIZE_MAX / 2: this is not checked. Do not
+ * cast a buffer of bytes to uint16_t *. For UTF-16 in bytes call nody_recode.
+ * Result: NODY_STATUS_DONE, or NODY_STATUS_FULL if the capacity is too small.
  * Errors: none. Cost: linear.
  *
- *     size_t count, size = nody_recoded_len(NODY_FORM_UTF8, NODY_FORM_UTF16_NATIVE, bytes, len); // in bytes
+ *     size_t count, size = nody_recoded_len(NODY_UTF8, NODY_UTF16_NATIVE, bytes, len); // in bytes
  *     uint16_t *units = size < SIZE_MAX ? (uint16_t *)malloc(size + 1) : NULL;
  *     if (!units || nody_utf8_to_utf16(bytes, len, units, size / 2, &count) != NODY_STATUS_DONE) return failed();
  */
-static inline nody_status_t nody_utf8_to_utf16(const uint8_t *in, size_t len, uint16_t *out, size_t room, size_t *written) {
-    nody_status_t status = nody_recode(NODY_FORM_UTF8, NODY_FORM_UTF16_NATIVE, in, len, NODY_CAST(uint8_t *, out), 2 * room, written);
+static inline nody_status_t nody_utf8_to_utf16(const uint8_t *in, size_t len, uint16_t *out, size_t capacity, size_t *written) {
+    nody_status_t status = nody_recode(NODY_UTF8, NODY_UTF16_NATIVE, in, len, NODY_CAST(uint8_t *, out), 2 * capacity, written);
     *written /= 2;
     return status;
 }
-static inline nody_status_t nody_utf16_to_utf8(const uint16_t *in, size_t len, uint8_t *out, size_t room, size_t *written) {
-    return nody_recode(NODY_FORM_UTF16_NATIVE, NODY_FORM_UTF8, NODY_CAST(const uint8_t *, in), 2 * len, out, room, written);
+static inline nody_status_t nody_utf16_to_utf8(const uint16_t *in, size_t len, uint8_t *out, size_t capacity, size_t *written) {
+    return nody_recode(NODY_UTF16_NATIVE, NODY_UTF8, NODY_CAST(const uint8_t *, in), 2 * len, out, capacity, written);
 }
 
 /* ---- Input that comes in parts ---------------------------------------------------------------------------------------------- */
 
 /* Makes a recoder, which holds nothing and has replaced nothing.
  *
- * from, to: the forms. They may be the same: then valid text is copied, and each fault becomes U+FFFD.
+ * from, to: the encodings. They may be the same: then valid text is copied, and each fault becomes U+FFFD.
  * Result: the recoder.
- * Errors: if a form is above 2, all calls refuse this recoder. Cost: constant.
+ * Errors: if an encoding is above 2, all calls refuse this recoder. Cost: constant.
  *
- *     nody_recoder_t recoder = nody_recoder(NODY_FORM_UTF8, NODY_FORM_UTF16LE);
+ *     nody_recoder_t recoder = nody_recoder(NODY_UTF8, NODY_UTF16LE);
  */
-nody_recoder_t nody_recoder(nody_form_t from, nody_form_t to);
+nody_recoder_t nody_recoder(nody_encoding_t from, nody_encoding_t to);
 
 /* Feeds the next part of the input to a recoder. The output of all calls, joined, does not depend on how the input is divided into
  * parts.
@@ -624,14 +629,15 @@ nody_recoder_t nody_recoder(nody_form_t from, nody_form_t to);
  * recoder: the recoder. For each fault that the call replaces, `recoder->replaced` grows by 1. A U+FFFD in the input does not
  * count.
  * in, in_len: the part.
- * out, room: where to write, and how many bytes. Give room for four bytes or more: with less, a loop may never end.
+ * out, capacity: where to write, and how many bytes. Give a capacity of 4 or more: with less, a loop may never end.
  * read: receives how many bytes of the part were read. The recoder may hold up to three of them: do not feed them again.
- * written: receives how many bytes were written. After them, up to `room`, `out` may hold anything. Nothing outside of it is changed.
+ * written: receives how many bytes were written. After them, up to `capacity`, `out` may hold anything. Nothing outside of it is
+ * changed.
  * Result:
- *   NODY_STATUS_DONE: the whole part was read, and nothing waits for room.
+ *   NODY_STATUS_DONE: the whole part was read, and all output was written.
  *   NODY_STATUS_FULL: the next character does not fit. Empty `out`, and call again with the rest of the part, even if that is
  *   empty.
- * Errors: NODY_STATUS_REFUSED, with 0 in `*read` and `*written`, if a form of the recoder is above 2, or its `count` is above 3
+ * Errors: NODY_STATUS_REFUSED, with 0 in `*read` and `*written`, if an encoding of the recoder is above 2, or its `count` is above 3
  * (only in a struct that nody_recoder did not make). Cost: linear.
  *
  *     do {
@@ -641,15 +647,15 @@ nody_recoder_t nody_recoder(nody_form_t from, nody_form_t to);
  *     } while (status == NODY_STATUS_FULL);
  *     if (status != NODY_STATUS_DONE) return failed();
  */
-nody_status_t nody_recoder_feed(nody_recoder_t *recoder, const uint8_t *in, size_t in_len, uint8_t *out, size_t room, size_t *read,
+nody_status_t nody_recoder_feed(nody_recoder_t *recoder, const uint8_t *in, size_t in_len, uint8_t *out, size_t capacity, size_t *read,
                                 size_t *written);
 
 /* Ends the input: recodes the bytes that the recoder still holds. That writes at most nine bytes. After NODY_STATUS_DONE you may
  * feed another input.
  *
  * recoder: the recoder. `recoder->replaced` grows as for nody_recoder_feed, and is not reset.
- * out, room: where to write, and how many bytes. Give room for four bytes or more.
- * written: receives how many bytes were written. After them, up to `room`, `out` may hold anything.
+ * out, capacity: where to write, and how many bytes. Give a capacity of 4 or more.
+ * written: receives how many bytes were written. After them, up to `capacity`, `out` may hold anything.
  * Result:
  *   NODY_STATUS_DONE: all was written. The recoder holds nothing.
  *   NODY_STATUS_FULL: the next character does not fit. Empty `out`, and call this again, and not nody_recoder_feed.
@@ -661,19 +667,19 @@ nody_status_t nody_recoder_feed(nody_recoder_t *recoder, const uint8_t *in, size
  *     } while (status == NODY_STATUS_FULL);
  *     if (status != NODY_STATUS_DONE) return failed();
  */
-nody_status_t nody_recoder_finish(nody_recoder_t *recoder, uint8_t *out, size_t room, size_t *written);
+nody_status_t nody_recoder_finish(nody_recoder_t *recoder, uint8_t *out, size_t capacity, size_t *written);
 
 /* Feeds the next part of the input, but stops at the first fault. What is written, and the faults, do not depend on how the
  * input is divided into parts.
  *
  * recoder: the recoder. `recoder->replaced` does not change. You may mix calls of this and of nody_recoder_feed.
- * in, in_len, out, room, written: as for nody_recoder_feed. When a call stops at a fault, all text before
+ * in, in_len, out, capacity, written: as for nody_recoder_feed. When a call stops at a fault, all text before
  * the fault was written, by this call and those before it.
  * read: receives how many bytes of the part were read. Bytes that the recoder now holds are included.
  * fault: receives the fault. It may lie in this part or, if the recoder held it, in an earlier one. Its offset in the whole input
  * is the sum of `*read` of all calls, this one included, minus `fault->back`.
  * Result:
- *   NODY_STATUS_DONE: the whole part was read. If the last bytes of the part cannot be judged without the
+ *   NODY_STATUS_DONE: the whole part was read. If the last bytes of the part cannot be decoded without the
  *   bytes after them, the recoder holds these last bytes, at most three. After E9 0A, for example, the kind of
  *   E9 is NODY_KIND_INTERRUPTED_SEQUENCE if a third byte comes, and NODY_KIND_TOO_FEW_BYTES if the input ends.
  *   NODY_STATUS_FAULT: the call stopped at a fault, which it has read. To go on after the fault, call again with the bytes of
@@ -688,13 +694,13 @@ nody_status_t nody_recoder_finish(nody_recoder_t *recoder, uint8_t *out, size_t 
  *     } while (status == NODY_STATUS_FULL);
  *     if (status == NODY_STATUS_FAULT) return report(total - fault.back, nody_kind_sentence(fault.kind));
  */
-nody_status_t nody_recoder_feed_strict(nody_recoder_t *recoder, const uint8_t *in, size_t in_len, uint8_t *out, size_t room,
+nody_status_t nody_recoder_feed_strict(nody_recoder_t *recoder, const uint8_t *in, size_t in_len, uint8_t *out, size_t capacity,
                                        size_t *read, size_t *written, nody_fault_t *fault);
 
 /* Ends the input, but stops at the first fault. An input that ends inside a character ends with a fault.
  *
  * recoder: the recoder. `recoder->replaced` does not change.
- * out, room, written: as for nody_recoder_finish.
+ * out, capacity, written: as for nody_recoder_finish.
  * fault: receives the fault. Its offset is the sum of `*read` of all calls, minus `fault->back`.
  * Result:
  *   NODY_STATUS_DONE, NODY_STATUS_FULL: as for nody_recoder_finish.
@@ -707,7 +713,7 @@ nody_status_t nody_recoder_feed_strict(nody_recoder_t *recoder, const uint8_t *i
  *     } while (status == NODY_STATUS_FULL);
  *     if (status == NODY_STATUS_FAULT) return report(total - fault.back, nody_kind_sentence(fault.kind));
  */
-nody_status_t nody_recoder_finish_strict(nody_recoder_t *recoder, uint8_t *out, size_t room, size_t *written, nody_fault_t *fault);
+nody_status_t nody_recoder_finish_strict(nody_recoder_t *recoder, uint8_t *out, size_t capacity, size_t *written, nody_fault_t *fault);
 
 /* Feeds the next part of the input, and writes one U+FFFD for each maximal subpart, and not for each fault. If a character is
  * not complete, because the input ends or because the next byte cannot continue it, then its one to three bytes are a maximal
@@ -721,21 +727,21 @@ nody_status_t nody_recoder_finish_strict(nody_recoder_t *recoder, uint8_t *out, 
  * nody_recoder_feed_strict. End the input by nody_recoder_finish_lossy.
  * in, in_len: the part. Parts that you feed to one recoder may end anywhere. nody_recoder_feed lets you divide the input at
  * nody_boundary_before and give the sides to two recoders. This call does not: the boundary may lie inside a maximal subpart.
- * out, room, read, written: as for nody_recoder_feed. Room for three bytes for each byte that is fed or held is always enough.
+ * out, capacity, read, written: as for nody_recoder_feed. Three bytes for each byte that is fed or held are always enough.
  * Result, errors, cost: as for nody_recoder_feed. The loop is the same.
  *
- *     nody_recoder_t recoder = nody_recoder(NODY_FORM_UTF8, NODY_FORM_UTF8);
+ *     nody_recoder_t recoder = nody_recoder(NODY_UTF8, NODY_UTF8);
  *     nody_recoder_feed_lossy(&recoder, (const uint8_t *)"\xe2\x82" "A", 3, out, sizeof out, &read, &written);
  *     // written is 4: EF BF BD 41
  */
-nody_status_t nody_recoder_feed_lossy(nody_recoder_t *recoder, const uint8_t *in, size_t in_len, uint8_t *out, size_t room,
+nody_status_t nody_recoder_feed_lossy(nody_recoder_t *recoder, const uint8_t *in, size_t in_len, uint8_t *out, size_t capacity,
                                       size_t *read, size_t *written);
 
 /* Ends the input after nody_recoder_feed_lossy. If the recoder holds the front of a character, that becomes one U+FFFD, in each
- * form.
+ * encoding.
  *
  * recoder: the recoder. `recoder->replaced` does not change.
- * out, room, written: as for nody_recoder_finish.
+ * out, capacity, written: as for nody_recoder_finish.
  * Result, errors, cost: as for nody_recoder_finish.
  *
  *     nody_recoder_feed_lossy(&recoder, (const uint8_t *)"\xf0\x9f\x98", 3, out, sizeof out, &read, &written);
@@ -743,34 +749,34 @@ nody_status_t nody_recoder_feed_lossy(nody_recoder_t *recoder, const uint8_t *in
  *     nody_recoder_finish_lossy(&recoder, out, sizeof out, &written);
  *     // written is 3: EF BF BD
  */
-nody_status_t nody_recoder_finish_lossy(nody_recoder_t *recoder, uint8_t *out, size_t room, size_t *written);
+nody_status_t nody_recoder_finish_lossy(nody_recoder_t *recoder, uint8_t *out, size_t capacity, size_t *written);
 
 /* The bytes that a recoder holds: those of the input that were read and not recoded yet.
  *
- * recoder: the recoder. out, room: where to write them. If the room is too small, nothing is written.
+ * recoder: the recoder. out, capacity: where to write them. If the capacity is too small, nothing is written.
  * Result: how many they are, 0 to 3.
- * Errors: SIZE_MAX if a form of the recoder is above 2, or its `count` is above 3 (only in a
+ * Errors: SIZE_MAX if an encoding of the recoder is above 2, or its `count` is above 3 (only in a
  * struct that nody_recoder did not make). Cost: constant.
  *
  *     uint8_t held[3];
  *     size_t count = nody_recoder_held(&recoder, held, sizeof held);
  */
-size_t nody_recoder_held(const nody_recoder_t *recoder, uint8_t *out, size_t room);
+size_t nody_recoder_held(const nody_recoder_t *recoder, uint8_t *out, size_t capacity);
 
 /* ---- Pieces of input in parts ----------------------------------------------------------------------------------------------- */
 
-/* Makes a decoder, which gives the pieces of input that comes in parts, each with its offset.
+/* Makes a decoder, which returns the pieces of input in parts, each with its offset.
  *
- * form: the form of the input.
- * Result: the decoder. It holds nothing, and counts offsets from 0. If the form is above 2, the other calls refuse it. It has 16
- * bytes, and you may copy it: both copies then go on by themselves.
+ * encoding: the encoding of the input.
+ * Result: the decoder. It holds nothing, and counts offsets from 0. If the encoding is above 2, the other calls refuse it. It has 16
+ * bytes, and you may copy it: both copies then continue independently.
  * Errors: none. Cost: constant.
  *
- *     nody_decoder_t decoder = nody_decoder(NODY_FORM_UTF8);
+ *     nody_decoder_t decoder = nody_decoder(NODY_UTF8);
  */
-nody_decoder_t nody_decoder(nody_form_t form);
+nody_decoder_t nody_decoder(nody_encoding_t encoding);
 
-/* Feeds the next part of the input. The pieces do not depend on how the input is divided into parts, nor on the room.
+/* Feeds the next part of the input. The pieces depend neither on how the input is divided into parts, nor on the capacity.
  *
  * They are those that nody_utf8_pieces gives of the whole input, with the same kinds, except in one case: a decoder names a byte that
  * breaks a character as soon as it sees that byte. So for the first byte of F0 41, at the end of the input, the kind is
@@ -779,14 +785,14 @@ nody_decoder_t nody_decoder(nody_form_t form);
  * decoder: the decoder. It holds the last bytes of the part, at most three, as long as the bytes after them decide which piece
  * they begin, and no byte that is decided.
  * in, in_len: the part. It may end anywhere, also inside a character or a unit, and may be empty.
- * out, room: where to write pieces, and how many. Places after those that were written keep what they had.
+ * out, capacity: where to write pieces, and how many. What is after them in `out` does not change.
  * read: receives how many bytes of the part were read. Bytes that the decoder now holds are included.
  * written: receives how many pieces were written.
  * Result:
  *   NODY_STATUS_DONE: the whole part was read.
- *   NODY_STATUS_FULL: the room is full, and the next piece is known already. Empty `out`, and call again with the bytes of the part
- *   after `*read`, even if there are none. With room for a piece, each call that is given a byte reads or writes something.
- * Errors: NODY_STATUS_REFUSED, with 0 in `*read` and `*written`, if the form is above 2, or `count` is above 3 (only in a
+ *   NODY_STATUS_FULL: the output is full, and the next piece is known already. Empty `out`, and call again with the bytes of the part
+ *   after `*read`, even if there are none. If the capacity is not 0, each call that is given a byte reads or writes something.
+ * Errors: NODY_STATUS_REFUSED, with 0 in `*read` and `*written`, if the encoding is above 2, or `count` is above 3 (only in a
  * struct that nody_decoder did not make). Cost: linear in what is read.
  *
  *     do {
@@ -796,35 +802,36 @@ nody_decoder_t nody_decoder(nody_form_t form);
  *         place += read;
  *     } while (status == NODY_STATUS_FULL);
  */
-nody_status_t nody_decoder_feed(nody_decoder_t *decoder, const uint8_t *in, size_t in_len, nody_located_t *out, size_t room,
+nody_status_t nody_decoder_feed(nody_decoder_t *decoder, const uint8_t *in, size_t in_len, nody_located_t *out, size_t capacity,
                                 size_t *read, size_t *written);
 
 /* Ends the input: gives the pieces of what the decoder holds. These are faults. In UTF-8 the first one has the kind
  * NODY_KIND_TOO_FEW_BYTES, and those after it NODY_KIND_UNEXPECTED_CONTINUATION_BYTE. In UTF-16 all have NODY_KIND_INCOMPLETE.
  *
- * decoder: the decoder. Its offset goes on from the end of the input. For other input make another decoder.
- * out, room, written: as for nody_decoder_feed. Room for three pieces is always enough.
+ * decoder: the decoder. Its offset goes on by the bytes that it no longer holds: after NODY_STATUS_DONE it is that of the end of the
+ * input. For other input make another decoder.
+ * out, capacity, written: as for nody_decoder_feed. A capacity of 3 is always enough.
  * Result:
  *   NODY_STATUS_DONE: all was written. The decoder holds nothing.
- *   NODY_STATUS_FULL: the room is full, and something is still held. Empty `out`, and call this again.
+ *   NODY_STATUS_FULL: the output is full, and something is still held. Empty `out`, and call this again.
  * Errors: NODY_STATUS_REFUSED, with 0 in `*written`, as for nody_decoder_feed. Cost: constant.
  *
  *     nody_located_t last[3];
  *     if (nody_decoder_finish(&decoder, last, 3, &written) != NODY_STATUS_DONE) return failed();
  */
-nody_status_t nody_decoder_finish(nody_decoder_t *decoder, nody_located_t *out, size_t room, size_t *written);
+nody_status_t nody_decoder_finish(nody_decoder_t *decoder, nody_located_t *out, size_t capacity, size_t *written);
 
-/* Feeds the next part of the input, and gives the faults alone: those of the pieces of nody_decoder_feed that are no characters, with
- * the same offsets and kinds. Text between them is passed in blocks, at the speed of nody_utf8_valid_up_to.
+/* Feeds the next part of the input, and returns only the faults: those of nody_decoder_feed, with the same offsets and kinds. Text
+ * between them is skipped in blocks, at the speed of nody_utf8_valid_up_to.
  *
  * decoder: the decoder. It is then as after nody_decoder_feed, so you may mix calls of both.
  * in, in_len, read: as for nody_decoder_feed.
- * out, room: where to write faults, and how many. Places after those that were written keep what they had.
- * written: receives how many faults were written.
+ * out, capacity: where to write faults, and how many. What is after them in `out` does not change.
+ * written: receives how many faults were written. A fault may lie up to three bytes before the part: keep these to show its value.
  * Result:
  *   NODY_STATUS_DONE: the whole part was read.
- *   NODY_STATUS_FULL: the room is full, and the next fault is known already. Empty `out`, and call again with the bytes of the part
- *   after `*read`, even if there are none. With a room of 0, `decoder->offset` is then the offset of that fault.
+ *   NODY_STATUS_FULL: the output is full, and the next fault is known already. Empty `out`, and call again with what is left of the
+ *   part after `*read`, even if that is empty. With a capacity of 0, `decoder->offset` is then the offset of that fault.
  * Errors: NODY_STATUS_REFUSED, as for nody_decoder_feed. Cost: linear in what is read.
  *
  *     do {
@@ -833,19 +840,21 @@ nody_status_t nody_decoder_finish(nody_decoder_t *decoder, nody_located_t *out, 
  *         place += read;
  *     } while (status == NODY_STATUS_FULL);
  */
-nody_status_t nody_decoder_feed_faults(nody_decoder_t *decoder, const uint8_t *in, size_t in_len, nody_located_t *out, size_t room,
+nody_status_t nody_decoder_feed_faults(nody_decoder_t *decoder, const uint8_t *in, size_t in_len, nody_located_t *out, size_t capacity,
                                        size_t *read, size_t *written);
 
-/* Ends the input: gives the faults of what the decoder holds, as nody_decoder_finish does. The two differ only if you changed the bytes
- * that the decoder holds.
+/* Ends the input: gives the faults of what the decoder holds, as nody_decoder_finish does.
  *
- * decoder, out, room, written: as for nody_decoder_finish.
- * Result, errors, cost: as for nody_decoder_finish.
+ * decoder, out, capacity, written: as for nody_decoder_finish.
+ * Result:
+ *   NODY_STATUS_DONE: all was written. The decoder holds nothing.
+ *   NODY_STATUS_FULL: the output is full, and what is still held begins with a fault. Empty `out`, and call this again.
+ * Errors, cost: as for nody_decoder_finish.
  *
  *     nody_located_t last[3];
  *     if (nody_decoder_finish_faults(&decoder, last, 3, &written) != NODY_STATUS_DONE) return failed();
  */
-nody_status_t nody_decoder_finish_faults(nody_decoder_t *decoder, nody_located_t *out, size_t room, size_t *written);
+nody_status_t nody_decoder_finish_faults(nody_decoder_t *decoder, nody_located_t *out, size_t capacity, size_t *written);
 
 /* ---- Kinds in words --------------------------------------------------------------------------------------------------------- */
 
@@ -915,34 +924,38 @@ uint32_t nody_version(void);
  */
 int nody_supported(void);
 
-/* How many bytes validation looks at at once. It tells which code the library has chosen for this processor.
+/* The vector width of validation, in bytes: which code the library has chosen for this CPU.
  *
- * Result: 32 on x86-64 if the processor has x86-64-v3 (AVX2 and what comes with it), else 16. Recoding is faster with 32 too. What
- * the calls answer is the same. The library asks the processor once, when it is loaded. Before that the result is 16.
+ * Result: 32 on x86-64 if the CPU has x86-64-v3 (AVX2 and related features), otherwise 16. Conversion is faster with 32 too. The
+ * results of calls do not depend on it. The library tests the CPU once, when it is loaded. Before that the result is 16.
  * Errors: none. Cost: constant.
  *
- *     printf("%d bytes at once\n", nody_lanes());
+ *     printf("vectors of %d bytes\n", nody_lanes());
  */
 int nody_lanes(void);
 
 /* ---- Rarely needed ---------------------------------------------------------------------------------------------------------- */
 
-/* nody_boundary_before under another name, for inputs that are divided among workers; new programs do not need it. If each shard ends
- * where this call says, and the last one at len, you may recode each by itself, also on several machines, and join the outputs.
+/* Where to cut an input for several workers: the last offset up to `at` that is not inside a character or a maximal subpart,
+ * and in UTF-16 not inside a unit. If each shard ends where this call says, and the last one at len, you may convert each
+ * separately, also on several machines, and join the outputs. They are what the whole becomes: by nody_recode, by the _lossy calls,
+ * and by the _strict calls up to the first shard with a fault. (nody_boundary_before may return an offset inside a maximal subpart:
+ * of E2 82 41, cut after E2, the _lossy calls write two U+FFFD, and of the whole one.)
  *
- * from: the form of the input. bytes, len: the input. at: about where the shard should end.
- * Result: where it ends, at most three bytes before `at`. If `at` is len or more, it is len.
- * Errors: SIZE_MAX if the form is above 2. Cost: constant: it looks at six bytes around `at`.
+ * from: the encoding of the input. bytes, len: the input. at: about where the shard should end.
+ * Result: where it ends, at most three bytes before `at`. If `at` is 0, it is 0. If `at` is len or more, it is len.
+ * Errors: SIZE_MAX if the encoding is above 2. Cost: constant: it looks at seven bytes around `at`.
  *
- *     size_t end = i + 1 < count ? nody_shard_end(NODY_FORM_UTF8, bytes, len, (i + 1) * (len / count)) : len;
+ *     size_t end = i + 1 < count ? nody_shard_end(NODY_UTF8, bytes, len, (i + 1) * (len / count)) : len;
  */
-size_t nody_shard_end(nody_form_t from, const uint8_t *bytes, size_t len, size_t at);
+size_t nody_shard_end(nody_encoding_t from, const uint8_t *bytes, size_t len, size_t at);
 
 /* The piece that begins at an offset, with the kind that the Rust crate encode_unicode reports when it decodes an iterator of
- * bytes. Its decoder takes one byte at a time. It reports a wrong byte at once, before it can know how much input is left.
+ * bytes. Its decoder takes one byte at a time. It reports an invalid byte as soon as it sees it, before it can know how much input
+ * is left.
  *
  * bytes, len: the input. place: the offset.
- * Result: what nody_utf8_first gives for the bytes from `place` on, but for one case. If fewer bytes are left than the first byte
+ * Result: what nody_utf8_first returns for the bytes from `place` on, except in one case. If fewer bytes are left than the first byte
  * needs, and one of the bytes after the first is not 80 to BF, the kind is NODY_KIND_INTERRUPTED_SEQUENCE, and not
  * NODY_KIND_TOO_FEW_BYTES. If `place` is len or more, the kind is NODY_KIND_NONE.
  * Errors: none. Cost: constant.
@@ -964,7 +977,7 @@ nody_piece_t nody_utf8_streamed_at(const uint8_t *bytes, size_t len, size_t plac
     }
 extern "C++" {
 NODY_SHOWN(nody_kind_t)
-NODY_SHOWN(nody_form_t)
+NODY_SHOWN(nody_encoding_t)
 NODY_SHOWN(nody_status_t)
 }
 #undef NODY_SHOWN

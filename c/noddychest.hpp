@@ -3,31 +3,33 @@
 // WORDS are those of noddychest.h: a piece is a character, or a fault: one invalid byte, or one invalid unit of UTF-16.
 //
 // CALLS, all in the namespace nody.
-//     all pieces   pieces, pieces_back: ranges for `for`, over UTF-8 (std::string_view) or units of UTF-16 (std::u16string_view)
-//     all faults   faults: the same ranges without the characters
+//     all pieces   pieces, pieces_back: ranges for `for`, over UTF-8 (nody::bytes) or units of UTF-16 (std::u16string_view)
+//     one piece    first, last, encode
+//     all faults   faults: ranges without the characters
 //     valid?       is_valid, valid_up_to, first_fault
 //     count        char_count, offset_of, number_of
 //     edit         changed_range
 //     divide       boundary_before, boundary_after, undecided_len
-//     which form   form_of_bom
+//     encoding     encoding_of_bom: by a byte order mark
 //     recode       recode, recode_strict, to_utf8, to_utf16, recoded_len
-//     in parts     recoder; decoder: the pieces, or the faults alone, with their offsets
-//     words        name, sentence
+//     in parts     recoder; decoder: the pieces, or only the faults, with their offsets
+//     messages     name, sentence
 //     library      supported, version
 //
-// BYTES. Text in bytes is taken as nody::bytes, which is made of a std::string_view, a std::string or std::pmr::string, a literal, and in
-// C++20 of a std::u8string, a std::u8string_view and a std::span of std::byte, of char or of unsigned char. Like a view it holds nothing: what it shows has to live as
-// long as it is used. So a text must be no view of the string to which a call adds what comes of it.
+// BYTES. Text in bytes is taken as nody::bytes, which is made of a literal and of all that has data() and size() over elements of one byte:
+// a std::string, std::string_view or std::pmr::string, a std::vector or std::array of char, unsigned char or std::byte, and in C++20 a
+// std::span of these, a std::u8string and a std::u8string_view. Like a view it owns nothing: the bytes have to live as long as it is
+// used. The input must not alias the string that the output is appended to.
 //
-// ERRORS. Invalid input throws no exception: std::optional and enums tell of it. Calls that make a std::string throw what that
-// throws (std::bad_alloc, std::length_error), and std::length_error where a form is none of enum form; the others are noexcept. Where a
-// compiler has no exceptions (-fno-exceptions), std::abort is called in place of std::length_error. Offsets and lengths count bytes, or
-// units where the text is in units.
+// ERRORS. Invalid input throws no exception: calls return a std::optional or an enum. Calls that make a std::string throw what that throws
+// (std::bad_alloc, std::length_error), and std::length_error if an encoding is none of enum encoding; the others are noexcept. With
+// -fno-exceptions std::abort is called in place of std::length_error. Offsets and lengths count bytes, or units if the text is in units.
 #ifndef NODDYCHEST_HPP
 #define NODDYCHEST_HPP
 
 #include "noddychest.h"
 
+#include <array>
 #include <cstddef>
 #include <cstdint>
 #include <cstdlib>
@@ -64,18 +66,18 @@ enum class kind : std::uint8_t {
 };
 
 // The encoding of text in bytes.
-enum class form : std::uint8_t {
-    utf8 = NODY_FORM_UTF8,
-    utf16le = NODY_FORM_UTF16LE,
-    utf16be = NODY_FORM_UTF16BE,
-    utf16_native = NODY_FORM_UTF16_NATIVE,
+enum class encoding : std::uint8_t {
+    utf8 = NODY_UTF8,
+    utf16le = NODY_UTF16LE,
+    utf16be = NODY_UTF16BE,
+    utf16_native = NODY_UTF16_NATIVE,
 };
 
-// Whether a call that fills a room wrote all.
+// Whether a call that fills a buffer wrote all.
 enum class status : std::uint8_t {
-    done = NODY_STATUS_DONE,   // all of the input was read, and what comes of it written
+    done = NODY_STATUS_DONE,   // all of the input was read, and its output written
     full = NODY_STATUS_FULL,   // the next character, or piece, does not fit
-    refused = NODY_STATUS_REFUSED, // a form is none of enum form
+    refused = NODY_STATUS_REFUSED, // an encoding is none of enum encoding
     fault = NODY_STATUS_FAULT, // a strict call stopped at a fault
 };
 
@@ -118,9 +120,9 @@ struct fault {
     nody::kind kind = nody::kind::ok;
 };
 
-// A byte order mark: the form that it tells, and its length in bytes.
+// The encoding that a byte order mark means, and the length of the mark in bytes.
 struct bom {
-    nody::form form = nody::form::utf8;
+    nody::encoding encoding = nody::encoding::utf8;
     std::size_t length = 0;
 };
 
@@ -130,23 +132,42 @@ struct byte_range {
     std::size_t end = 0;
 };
 
+namespace detail {
+
+// Types of one byte, of which text may be made.
+template <class Element> struct has_one_byte : std::bool_constant<sizeof(Element) == 1> {};
+template <class Element> inline constexpr bool is_byte =
+    std::conjunction_v<std::disjunction<std::is_integral<Element>, std::is_enum<Element>>, std::negation<std::is_same<std::remove_cv_t<Element>, bool>>, has_one_byte<Element>>;
+
+// What data() of a text points to: of a string, a vector, an array, a span, and what is like these.
+template <class Text> using element_of = std::remove_pointer_t<decltype(std::declval<Text &>().data())>;
+
+// Whether a text has data() and size(), over bytes.
+template <class Text, class = void, class = void> struct has_bytes : std::false_type {};
+template <class Text>
+struct has_bytes<Text, std::enable_if_t<std::is_convertible_v<decltype(std::declval<const Text &>().size()), std::size_t>>, std::enable_if_t<is_byte<element_of<const Text>>>>
+    : std::true_type {};
+
+// Whether a text has no such data() and size(), but converts to a std::string_view.
+template <class Text> struct is_shown : std::conjunction<std::is_class<Text>, std::negation<has_bytes<Text>>, std::is_convertible<const Text &, std::string_view>> {};
+
+} // namespace detail
+
 // Text in bytes, whatever type it has.
 class bytes {
 public:
     constexpr bytes() noexcept = default;
     constexpr bytes(const std::uint8_t *data, std::size_t size) noexcept : data_(data), size_(size) {}
-    bytes(std::string_view text) noexcept : bytes(text.data(), text.size()) {}
-    bytes(const std::string &text) noexcept : bytes(text.data(), text.size()) {}
-    template <class Char, class Allocator, class = std::enable_if_t<sizeof(Char) == 1>>
-    bytes(const std::basic_string<Char, std::char_traits<Char>, Allocator> &text) noexcept : data_(reinterpret_cast<const std::uint8_t *>(text.data())), size_(text.size()) {}
+    bytes(const char *data, std::size_t size) noexcept : bytes(reinterpret_cast<const std::uint8_t *>(data), size) {}
+    bytes(const std::byte *data, std::size_t size) noexcept : bytes(reinterpret_cast<const std::uint8_t *>(data), size) {}
     bytes(const char *text) noexcept : bytes(std::string_view(text)) {}
-    bytes(const char *data, std::size_t size) noexcept : data_(reinterpret_cast<const std::uint8_t *>(data)), size_(size) {}
-    bytes(const std::byte *data, std::size_t size) noexcept : data_(reinterpret_cast<const std::uint8_t *>(data)), size_(size) {}
-#ifdef NODY_HAS_SPAN
-    template <class T, std::size_t N, class = std::enable_if_t<sizeof(T) == 1 && std::is_trivial_v<T>>>
-    bytes(std::span<T, N> text) noexcept : data_(reinterpret_cast<const std::uint8_t *>(text.data())), size_(text.size()) {}
-    bytes(std::u8string_view text) noexcept : data_(reinterpret_cast<const std::uint8_t *>(text.data())), size_(text.size()) {}
+#ifdef __cpp_lib_char8_t
+    bytes(const char8_t *text) noexcept : bytes(std::u8string_view(text)) {}
 #endif
+    template <class Text, std::enable_if_t<detail::has_bytes<Text>::value, int> = 0>
+    bytes(const Text &text) noexcept : bytes(reinterpret_cast<const std::uint8_t *>(text.data()), text.size()) {}
+    template <class Text, std::enable_if_t<detail::is_shown<Text>::value, int> = 0>
+    bytes(const Text &text) noexcept(noexcept(static_cast<std::string_view>(text))) : bytes(static_cast<std::string_view>(text)) {}
     constexpr const std::uint8_t *data() const noexcept { return data_; }
     constexpr std::size_t size() const noexcept { return size_; }
 
@@ -157,17 +178,17 @@ private:
 
 namespace detail {
 
-inline nody_form_t c(form it) noexcept { return static_cast<nody_form_t>(it); }
+inline nody_encoding_t c(encoding it) noexcept { return static_cast<nody_encoding_t>(it); }
 
 inline std::optional<std::size_t> below(std::size_t offset, std::size_t size) noexcept { return offset < size ? std::optional(offset) : std::nullopt; }
 
-inline std::uint8_t *room_of(std::string &text) noexcept { return reinterpret_cast<std::uint8_t *>(text.data()); }
+inline std::uint8_t *bytes_of(std::string &text) noexcept { return reinterpret_cast<std::uint8_t *>(text.data()); }
 
 // How UTF-8, and units of UTF-16, are taken piece by piece.
 struct utf8 {
-    using view = std::string_view;
+    using view = bytes;
     using cursor = nody_bytes_t;
-    static cursor open(view text) noexcept { return nody_bytes(reinterpret_cast<const std::uint8_t *>(text.data()), text.size()); }
+    static cursor open(view text) noexcept { return nody_bytes(text.data(), text.size()); }
     static nody_piece_t next(cursor *left) noexcept { return nody_utf8_next(left); }
     static nody_piece_t next_back(cursor *left) noexcept { return nody_utf8_next_back(left); }
     static void pass_text(cursor *left) noexcept {
@@ -205,7 +226,11 @@ inline piece at(const nody_piece_t &it, std::size_t offset) noexcept {
     return {offset, it.len, static_cast<char32_t>(it.scalar), static_cast<kind>(it.kind)};
 }
 
-// A place in a range of pieces, which holds the piece that is there.
+inline std::optional<piece> some(const nody_piece_t &it, std::size_t offset) noexcept {
+    return it.kind == NODY_KIND_NONE ? std::nullopt : std::optional<piece>(at(it, offset));
+}
+
+// An iterator of a range of pieces, which holds its piece.
 template <class Code, way taken> class iterator {
 public:
     using iterator_category = std::input_iterator_tag;
@@ -215,7 +240,7 @@ public:
     using value_type = piece;
     using difference_type = std::ptrdiff_t;
     using pointer = const piece *;
-    using reference = piece; // (no reference: a place that goes would take what that is to with it)
+    using reference = piece; // (no reference: it would dangle after the iterator)
 
     iterator() noexcept : iterator(typename Code::view()) {}
     explicit iterator(typename Code::view text) noexcept : left_(Code::open(text)), whole_(text.size()) { take(); }
@@ -230,7 +255,7 @@ public:
         take();
         return before;
     }
-    // Two places of one range are equal where as much is left, the piece itself included.
+    // Two iterators of one range are equal if the same length is left, the piece itself included.
     friend bool operator==(const iterator &a, const iterator &b) noexcept { return a.left_.len + a.piece_.length == b.left_.len + b.piece_.length; }
     friend bool operator!=(const iterator &a, const iterator &b) noexcept { return !(a == b); }
 
@@ -258,9 +283,16 @@ private:
     typename Code::view text_;
 };
 
-// Calls that would keep a view of a temporary string are refused, and so of any temporary that gives something back when it goes: a view
-// does not, and what does may own the text. (Text is a reference where it is no temporary)
-template <class Text> using if_temporary = std::enable_if_t<!std::is_trivially_destructible_v<Text>>;
+// Whether a text has its bytes inside: an array has, and so has a type whose data() gives constants only if the object is constant. (a view gives the
+// same type in both cases)
+template <class Text, class = void> struct has_bytes_inside : std::is_array<Text> {};
+template <class Text> struct has_bytes_inside<Text, std::void_t<element_of<Text>, element_of<const Text>>> : std::negation<std::is_same<element_of<Text>, element_of<const Text>>> {};
+template <class Element, std::size_t size> struct has_bytes_inside<std::array<Element, size>, void> : std::true_type {};
+
+// Calls that would keep a view of a temporary text are rejected: of a string, of any type that gives something back when it goes, since a view
+// does not, and of what has the bytes inside. (Text is a reference if it is no temporary)
+template <class Text> using if_temporary =
+    std::enable_if_t<!std::is_reference_v<Text> && (!std::is_trivially_destructible_v<Text> || has_bytes_inside<std::remove_cv_t<Text>>::value)>;
 
 } // namespace detail
 
@@ -271,47 +303,84 @@ template <class Text> using if_temporary = std::enable_if_t<!std::is_trivially_d
 //     for (const nody::piece &it : nody::pieces(text))
 //         if (!it.is_ok()) report(it.offset, nody::sentence(it.kind));
 //
-// A temporary string is refused: the range has only a view of it.
-inline detail::range<detail::utf8, detail::way::front> pieces(std::string_view text) noexcept { return detail::range<detail::utf8, detail::way::front>(text); }
+// A temporary that owns its text, as a string, a vector or an array, is rejected: the range has only a view of it.
+inline detail::range<detail::utf8, detail::way::front> pieces(bytes text) noexcept { return detail::range<detail::utf8, detail::way::front>(text); }
 inline detail::range<detail::utf16, detail::way::front> pieces(std::u16string_view text) noexcept { return detail::range<detail::utf16, detail::way::front>(text); }
 template <class Text, class = detail::if_temporary<Text>> void pieces(Text &&) = delete;
 
-// The same pieces from the back. Where a fault lies is the same; its kind is judged without the bytes after it.
-inline detail::range<detail::utf8, detail::way::back> pieces_back(std::string_view text) noexcept { return detail::range<detail::utf8, detail::way::back>(text); }
+// All pieces backward. Their offsets are those of pieces(). The kind of a fault is that of a text which ends with its byte: E2 in E2 82 41 is
+// too_few_bytes here, and interrupted_sequence in pieces(). For the kind in the whole text, call first() on the text from it.offset on.
+inline detail::range<detail::utf8, detail::way::back> pieces_back(bytes text) noexcept { return detail::range<detail::utf8, detail::way::back>(text); }
 inline detail::range<detail::utf16, detail::way::back> pieces_back(std::u16string_view text) noexcept { return detail::range<detail::utf16, detail::way::back>(text); }
 template <class Text, class = detail::if_temporary<Text>> void pieces_back(Text &&) = delete;
 
-// The faults alone, from the front: the pieces that are no characters, with the same offsets and kinds. Text between them is passed as fast
+// Only the faults, from the front: the pieces that are no characters, with the same offsets and kinds. Text between them is passed as fast
 // as it is validated, and no further than to the fault that is asked for.
 // (where much is invalid, nody_utf8_faults of noddychest.h is faster: it fills an array)
 //
 //     for (const nody::piece &it : nody::faults(text)) report(it.offset, nody::sentence(it.kind));
-inline detail::range<detail::utf8, detail::way::faults> faults(std::string_view text) noexcept { return detail::range<detail::utf8, detail::way::faults>(text); }
+inline detail::range<detail::utf8, detail::way::faults> faults(bytes text) noexcept { return detail::range<detail::utf8, detail::way::faults>(text); }
 inline detail::range<detail::utf16, detail::way::faults> faults(std::u16string_view text) noexcept { return detail::range<detail::utf16, detail::way::faults>(text); }
 template <class Text, class = detail::if_temporary<Text>> void faults(Text &&) = delete;
 
+// ---- One piece
+
+// The first piece, and the last one, or nothing if the text is empty. The kind of the last one is determined as if nothing came after the text.
+//
+//     while (auto it = nody::last(text); it && it->scalar == U' ') text.remove_suffix(it->length);
+inline std::optional<piece> first(bytes text) noexcept { return detail::some(nody_utf8_first(text.data(), text.size()), 0); }
+inline std::optional<piece> first(std::u16string_view text) noexcept {
+    return detail::some(nody_utf16_first(reinterpret_cast<const std::uint16_t *>(text.data()), text.size()), 0);
+}
+inline std::optional<piece> last(bytes text) noexcept {
+    nody_piece_t it = nody_utf8_last(text.data(), text.size());
+    return detail::some(it, text.size() - it.len);
+}
+inline std::optional<piece> last(std::u16string_view text) noexcept {
+    nody_piece_t it = nody_utf16_last(reinterpret_cast<const std::uint16_t *>(text.data()), text.size());
+    return detail::some(it, text.size() - it.len);
+}
+
+// Adds a character to `out`, as UTF-8 or as UTF-16. If the number is no character, which is so of a surrogate and above 10FFFF, nothing is
+// added, and the result is false.
+//
+//     std::string out;
+//     if (!nody::encode(0x20AC, out)) refuse();
+inline bool encode(char32_t scalar, std::string &out) {
+    std::uint8_t buffer[4];
+    std::size_t len = nody_utf8_encode(scalar, buffer, sizeof buffer);
+    out.append(buffer, buffer + len);
+    return len != 0;
+}
+inline bool encode(char32_t scalar, std::u16string &out) {
+    std::uint16_t buffer[2];
+    std::size_t len = nody_utf16_encode(scalar, buffer, 2);
+    out.append(buffer, buffer + len);
+    return len != 0;
+}
+
 // ---- Whether text is valid
 
-// The offset of the first fault, or the length of the text where it has none.
-inline std::size_t valid_up_to(std::string_view text) noexcept {
-    return nody_utf8_valid_up_to(reinterpret_cast<const std::uint8_t *>(text.data()), text.size());
+// The offset of the first fault, or the length of the text if it has none.
+inline std::size_t valid_up_to(bytes text) noexcept {
+    return nody_utf8_valid_up_to(text.data(), text.size());
 }
 inline std::size_t valid_up_to(std::u16string_view text) noexcept {
     return nody_utf16_valid_up_to(reinterpret_cast<const std::uint16_t *>(text.data()), text.size());
 }
-inline std::size_t valid_up_to(form from, bytes text) noexcept { return nody_utf16_bytes_valid_up_to(detail::c(from), text.data(), text.size()); }
+inline std::size_t valid_up_to(encoding from, bytes text) noexcept { return nody_utf16_bytes_valid_up_to(detail::c(from), text.data(), text.size()); }
 
-inline bool is_valid(std::string_view text) noexcept { return valid_up_to(text) == text.size(); }
+inline bool is_valid(bytes text) noexcept { return valid_up_to(text) == text.size(); }
 inline bool is_valid(std::u16string_view text) noexcept { return valid_up_to(text) == text.size(); }
-inline bool is_valid(form from, bytes text) noexcept { return valid_up_to(from, text) == text.size(); }
+inline bool is_valid(encoding from, bytes text) noexcept { return valid_up_to(from, text) == text.size(); }
 
-// The first fault, or nothing where the text is valid.
+// The first fault, or nothing if the text is valid.
 //
 //     if (auto it = nody::first_fault(text)) report(it->offset, nody::sentence(it->kind));
-inline std::optional<piece> first_fault(std::string_view text) noexcept {
+inline std::optional<piece> first_fault(bytes text) noexcept {
     std::size_t offset = valid_up_to(text);
     if (offset == text.size()) return std::nullopt;
-    return detail::at(nody_utf8_first(reinterpret_cast<const std::uint8_t *>(text.data()) + offset, text.size() - offset), offset);
+    return detail::at(nody_utf8_first(text.data() + offset, text.size() - offset), offset);
 }
 inline std::optional<piece> first_fault(std::u16string_view text) noexcept {
     std::size_t offset = valid_up_to(text);
@@ -320,36 +389,36 @@ inline std::optional<piece> first_fault(std::u16string_view text) noexcept {
 }
 
 // The number of pieces.
-inline std::size_t char_count(std::string_view text) noexcept {
-    return nody_utf8_char_count(reinterpret_cast<const std::uint8_t *>(text.data()), text.size());
+inline std::size_t char_count(bytes text) noexcept {
+    return nody_utf8_char_count(text.data(), text.size());
 }
 inline std::size_t char_count(std::u16string_view text) noexcept {
     return nody_utf16_char_count(reinterpret_cast<const std::uint16_t *>(text.data()), text.size());
 }
 
-inline std::size_t char_count(form from, bytes text) noexcept { return nody_char_count(detail::c(from), text.data(), text.size()); }
+inline std::size_t char_count(encoding from, bytes text) noexcept { return nody_char_count(detail::c(from), text.data(), text.size()); }
 
-// The offset of the piece with a number, counted from 0, or nothing where the text has no more pieces.
+// The offset of the piece with a number, counted from 0, or nothing if the text has no more pieces.
 //
 //     std::string_view rest = line.substr(nody::offset_of(line, 80).value_or(line.size())); // what follows the first 80
-inline std::optional<std::size_t> offset_of(std::string_view text, std::size_t number) noexcept {
-    return detail::below(nody_utf8_offset_of(reinterpret_cast<const std::uint8_t *>(text.data()), text.size(), number), text.size());
+inline std::optional<std::size_t> offset_of(bytes text, std::size_t number) noexcept {
+    return detail::below(nody_utf8_offset_of(text.data(), text.size(), number), text.size());
 }
 inline std::optional<std::size_t> offset_of(std::u16string_view text, std::size_t number) noexcept {
     return detail::below(nody_utf16_offset_of(reinterpret_cast<const std::uint16_t *>(text.data()), text.size(), number), text.size());
 }
-inline std::optional<std::size_t> offset_of(form from, bytes text, std::size_t number) noexcept {
+inline std::optional<std::size_t> offset_of(encoding from, bytes text, std::size_t number) noexcept {
     return detail::below(nody_offset_of(detail::c(from), text.data(), text.size(), number), text.size());
 }
 
-// How many pieces begin before an offset: where a piece begins at it, its number, counted from 0. All of them where the offset is above the size.
-inline std::size_t number_of(std::string_view text, std::size_t offset) noexcept {
-    return nody_utf8_number_of(reinterpret_cast<const std::uint8_t *>(text.data()), text.size(), offset);
+// How many pieces begin before an offset: if a piece begins at it, its number, counted from 0. All of them if the offset is above the size.
+inline std::size_t number_of(bytes text, std::size_t offset) noexcept {
+    return nody_utf8_number_of(text.data(), text.size(), offset);
 }
 inline std::size_t number_of(std::u16string_view text, std::size_t offset) noexcept {
     return nody_utf16_number_of(reinterpret_cast<const std::uint16_t *>(text.data()), text.size(), offset);
 }
-inline std::size_t number_of(form from, bytes text, std::size_t offset) noexcept {
+inline std::size_t number_of(encoding from, bytes text, std::size_t offset) noexcept {
     return nody_number_of(detail::c(from), text.data(), text.size(), offset);
 }
 
@@ -357,11 +426,11 @@ inline std::size_t number_of(form from, bytes text, std::size_t offset) noexcept
 
 // The last boundary up to an offset, and the first one from it on. noddychest.h says what a boundary is.
 //
-//     std::string_view short_name = name.substr(0, nody::boundary_before(nody::form::utf8, name, 255));
-inline std::size_t boundary_before(form from, bytes text, std::size_t offset) noexcept {
+//     std::string_view short_name = name.substr(0, nody::boundary_before(nody::encoding::utf8, name, 255));
+inline std::size_t boundary_before(encoding from, bytes text, std::size_t offset) noexcept {
     return nody_boundary_before(detail::c(from), text.data(), text.size(), offset);
 }
-inline std::size_t boundary_after(form from, bytes text, std::size_t offset) noexcept {
+inline std::size_t boundary_after(encoding from, bytes text, std::size_t offset) noexcept {
     return nody_boundary_after(detail::c(from), text.data(), text.size(), offset);
 }
 inline std::size_t boundary_before(std::u16string_view text, std::size_t offset) noexcept {
@@ -375,8 +444,8 @@ inline std::size_t boundary_after(std::u16string_view text, std::size_t offset) 
 // again after an edit. The text is that after the edit, or that before it: noddychest.h says more.
 //
 //     text.insert(at, "x");
-//     nody::byte_range changed = nody::changed_range(nody::form::utf8, text, at, at + 1);
-inline byte_range changed_range(form from, bytes text, std::size_t start, std::size_t end) noexcept {
+//     nody::byte_range changed = nody::changed_range(nody::encoding::utf8, text, at, at + 1);
+inline byte_range changed_range(encoding from, bytes text, std::size_t start, std::size_t end) noexcept {
     nody_range_t it = nody_changed_range(detail::c(from), text.data(), text.size(), start, end);
     return byte_range{it.start, it.end};
 }
@@ -384,26 +453,26 @@ inline byte_range changed_range(form from, bytes text, std::size_t start, std::s
 // How many bytes at the end of some bytes, at most three, depend on the bytes that follow. Keep them back of a block of a large input, and
 // put them before the next block. noddychest.h says which they are. The text should begin at a boundary.
 //
-//     std::size_t whole = block.size() - nody::undecided_len(nody::form::utf8, block);
-inline std::size_t undecided_len(form from, bytes text) noexcept { return nody_undecided_len(detail::c(from), text.data(), text.size()); }
+//     std::size_t whole = block.size() - nody::undecided_len(nody::encoding::utf8, block);
+inline std::size_t undecided_len(encoding from, bytes text) noexcept { return nody_undecided_len(detail::c(from), text.data(), text.size()); }
 
-// ---- Which form
+// ---- Which encoding
 
-// The byte order mark that begins the bytes, or nothing where none does. Little-endian UTF-32 is taken for UTF-16, whose mark it begins with.
+// The byte order mark that begins the bytes, or nothing if none does. Little-endian UTF-32 is taken for UTF-16, whose mark it begins with.
 //
-//     nody::bom mark = nody::form_of_bom(text).value_or(nody::bom{}); // (where there is none, UTF-8)
+//     nody::bom mark = nody::encoding_of_bom(text).value_or(nody::bom{}); // (if there is none, UTF-8)
 //     text.remove_prefix(mark.length);
-inline std::optional<bom> form_of_bom(bytes text) noexcept {
-    nody_form_t told = NODY_FORM_UTF8;
-    std::size_t len = nody_form_of_bom(text.data(), text.size(), &told);
+inline std::optional<bom> encoding_of_bom(bytes text) noexcept {
+    nody_encoding_t told = NODY_UTF8;
+    std::size_t len = nody_encoding_of_bom(text.data(), text.size(), &told);
     if (len == 0) return std::nullopt;
-    return bom{static_cast<form>(told), len};
+    return bom{static_cast<encoding>(told), len};
 }
 
-// ---- Recoding
+// ---- Transcoding
 
-// How many bytes recode gives; nothing where a std::size_t cannot hold the number.
-inline std::optional<std::size_t> recoded_len(form from, form to, bytes text) noexcept {
+// How many bytes recode gives; nothing if a std::size_t cannot hold the number.
+inline std::optional<std::size_t> recoded_len(encoding from, encoding to, bytes text) noexcept {
     std::size_t len = nody_recoded_len(detail::c(from), detail::c(to), text.data(), text.size());
     return len == SIZE_MAX ? std::nullopt : std::optional<std::size_t>(len);
 }
@@ -412,19 +481,19 @@ namespace detail {
 
 [[noreturn]] inline void refuse_length() {
 #if defined(__cpp_exceptions) || defined(_CPPUNWIND)
-    throw std::length_error("nody: the text is too long, or in no form");
+    throw std::length_error("nody: the text is too long, or in no encoding");
 #else
     std::abort();
 #endif
 }
 
-inline std::size_t most_of(form from, form to, std::size_t len) {
+inline std::size_t most_of(encoding from, encoding to, std::size_t len) {
     std::size_t most = nody_recoded_len_max(c(from), c(to), len);
     if (most == SIZE_MAX) refuse_length();
     return most;
 }
 
-inline std::size_t len_of(form from, form to, bytes text) {
+inline std::size_t len_of(encoding from, encoding to, bytes text) {
     std::optional<std::size_t> len = recoded_len(from, to, text);
     if (!len) refuse_length();
     return *len;
@@ -434,33 +503,33 @@ inline std::size_t len_of(form from, form to, bytes text) {
 template <class Write> auto append(std::string &out, std::size_t most, Write write) {
     std::size_t had = out.size(), written = 0;
     out.resize(had + most);
-    auto told = write(room_of(out) + had, most, &written);
+    auto told = write(bytes_of(out) + had, most, &written);
     out.resize(had + written);
     return told;
 }
 
 } // namespace detail
 
-// Recodes all of a text. Each fault becomes one U+FFFD.
+// Transcodes all of a text. Each fault becomes one U+FFFD.
 //
-//     std::string utf16 = nody::recode(nody::form::utf8, nody::form::utf16be, text);
-inline std::string recode(form from, form to, bytes text) {
+//     std::string utf16 = nody::recode(nody::encoding::utf8, nody::encoding::utf16be, text);
+inline std::string recode(encoding from, encoding to, bytes text) {
     std::string out;
-    detail::append(out, detail::len_of(from, to, text), [&](std::uint8_t *into, std::size_t room, std::size_t *written) {
-        return nody_recode(detail::c(from), detail::c(to), text.data(), text.size(), into, room, written);
+    detail::append(out, detail::len_of(from, to, text), [&](std::uint8_t *into, std::size_t capacity, std::size_t *written) {
+        return nody_recode(detail::c(from), detail::c(to), text.data(), text.size(), into, capacity, written);
     });
     return out;
 }
 
-// Recodes a text up to its first fault, and adds that to `out`. The answer is the fault, or nothing where all is valid.
+// Transcodes a text up to its first fault, and appends that to `out`. Returns the fault, or nothing if all is valid.
 //
 //     std::string out;
-//     if (auto it = nody::recode_strict(nody::form::utf8, nody::form::utf16le, text, out)) report(it->offset, nody::sentence(it->kind));
-inline std::optional<fault> recode_strict(form from, form to, bytes text, std::string &out) {
+//     if (auto it = nody::recode_strict(nody::encoding::utf8, nody::encoding::utf16le, text, out)) report(it->offset, nody::sentence(it->kind));
+inline std::optional<fault> recode_strict(encoding from, encoding to, bytes text, std::string &out) {
     std::size_t read = 0;
     nody_fault_t found = {0, 0, NODY_KIND_NONE};
-    detail::append(out, detail::most_of(from, to, text.size()), [&](std::uint8_t *into, std::size_t room, std::size_t *written) {
-        return nody_recode_strict(detail::c(from), detail::c(to), text.data(), text.size(), into, room, &read, written, &found);
+    detail::append(out, detail::most_of(from, to, text.size()), [&](std::uint8_t *into, std::size_t capacity, std::size_t *written) {
+        return nody_recode_strict(detail::c(from), detail::c(to), text.data(), text.size(), into, capacity, &read, written, &found);
     });
     if (found.kind == NODY_KIND_NONE) return std::nullopt;
     return fault{read, found.len, static_cast<kind>(found.kind)};
@@ -469,35 +538,35 @@ inline std::optional<fault> recode_strict(form from, form to, bytes text, std::s
 // UTF-8 as UTF-16 in units, and the other way about, with U+FFFD for each fault.
 //
 //     std::u16string wide = nody::to_utf16("na\xC3\xAFve");
-inline std::u16string to_utf16(std::string_view text) {
+inline std::u16string to_utf16(bytes text) {
     std::size_t count = 0;
-    std::u16string out(detail::len_of(form::utf8, form::utf16_native, text) / 2, u'\0');
-    nody_utf8_to_utf16(reinterpret_cast<const std::uint8_t *>(text.data()), text.size(), reinterpret_cast<std::uint16_t *>(out.data()), out.size(), &count);
+    std::u16string out(detail::len_of(encoding::utf8, encoding::utf16_native, text) / 2, u'\0');
+    nody_utf8_to_utf16(text.data(), text.size(), reinterpret_cast<std::uint16_t *>(out.data()), out.size(), &count);
     return out;
 }
 inline std::string to_utf8(std::u16string_view text) {
     std::size_t count = 0;
-    std::string out(detail::len_of(form::utf16_native, form::utf8, {reinterpret_cast<const std::byte *>(text.data()), 2 * text.size()}), '\0');
-    nody_utf16_to_utf8(reinterpret_cast<const std::uint16_t *>(text.data()), text.size(), detail::room_of(out), out.size(), &count);
+    std::string out(detail::len_of(encoding::utf16_native, encoding::utf8, {reinterpret_cast<const std::byte *>(text.data()), 2 * text.size()}), '\0');
+    nody_utf16_to_utf8(reinterpret_cast<const std::uint16_t *>(text.data()), text.size(), detail::bytes_of(out), out.size(), &count);
     return out;
 }
 
-// Recodes input that comes in parts. What comes of it does not depend on how it is divided. A recoder is moved, and copied only by copy():
-// two of them would go on from the same bytes. One that was moved from is as new.
+// Transcodes input that comes in parts. The output does not depend on how it is divided. A recoder is movable, and copied only by copy():
+// two copies would each continue after the bytes read so far. A recoder that was moved from is as new.
 //
-//     nody::recoder recoder(nody::form::utf8, nody::form::utf16le);
+//     nody::recoder recoder(nody::encoding::utf8, nody::encoding::utf16le);
 //     std::string out;
 //     while (read_some(part)) recoder.feed(part, out);
 //     recoder.finish(out);
 class recoder {
 public:
-    // What a call that fills a room did.
+    // What a call that fills a buffer did.
     struct progress {
         nody::status status;
         std::size_t read, written;
     };
 
-    recoder(form from, form to) noexcept : state_(nody_recoder(detail::c(from), detail::c(to))) {}
+    recoder(encoding from, encoding to) noexcept : state_(nody_recoder(detail::c(from), detail::c(to))) {}
     recoder(const recoder &) = delete;
     recoder &operator=(const recoder &) = delete;
     recoder(recoder &&other) noexcept : state_(other.state_), read_(other.read_) { other.reset(); }
@@ -519,37 +588,37 @@ public:
         read_ = 0;
     }
 
-    // Adds to `out` what comes of a part, and at the end of the input what comes of the bytes that are held.
+    // Appends to `out` the output of a part, and at the end of the input that of the bytes that are held.
     void feed(bytes part, std::string &out) {
         std::size_t read = 0;
-        append(part.size(), out, [&](std::uint8_t *into, std::size_t room, std::size_t *written) {
-            return nody_recoder_feed(&state_, part.data(), part.size(), into, room, &read, written);
+        append(part.size(), out, [&](std::uint8_t *into, std::size_t capacity, std::size_t *written) {
+            return nody_recoder_feed(&state_, part.data(), part.size(), into, capacity, &read, written);
         });
         read_ += read;
     }
     void finish(std::string &out) {
-        append(0, out, [&](std::uint8_t *into, std::size_t room, std::size_t *written) { return nody_recoder_finish(&state_, into, room, written); });
+        append(0, out, [&](std::uint8_t *into, std::size_t capacity, std::size_t *written) { return nody_recoder_finish(&state_, into, capacity, written); });
     }
 
-    // The same, with one U+FFFD for each maximal subpart, as browsers and Python write.
+    // Transcodes with one U+FFFD for each maximal subpart, as browsers and Python do.
     void feed_lossy(bytes part, std::string &out) {
         std::size_t read = 0;
-        append(part.size(), out, [&](std::uint8_t *into, std::size_t room, std::size_t *written) {
-            return nody_recoder_feed_lossy(&state_, part.data(), part.size(), into, room, &read, written);
+        append(part.size(), out, [&](std::uint8_t *into, std::size_t capacity, std::size_t *written) {
+            return nody_recoder_feed_lossy(&state_, part.data(), part.size(), into, capacity, &read, written);
         });
         read_ += read;
     }
     void finish_lossy(std::string &out) {
-        append(0, out, [&](std::uint8_t *into, std::size_t room, std::size_t *written) { return nody_recoder_finish_lossy(&state_, into, room, written); });
+        append(0, out, [&](std::uint8_t *into, std::size_t capacity, std::size_t *written) { return nody_recoder_finish_lossy(&state_, into, capacity, written); });
     }
 
-    // The same up to the first fault, which is the answer. To go on after it, feed what follows the first `*read` bytes of the part. At the
-    // end of the input call finish_strict until it tells of none.
+    // Transcodes up to the first fault, and returns it. To go on after it, feed what follows the first `*read` bytes of the part. At the
+    // end of the input call finish_strict until it returns none.
     std::optional<fault> feed_strict(bytes part, std::string &out, std::size_t *read = nullptr) {
         nody_fault_t found = {0, 0, NODY_KIND_NONE};
         std::size_t taken = 0;
-        append(part.size(), out, [&](std::uint8_t *into, std::size_t room, std::size_t *written) {
-            return nody_recoder_feed_strict(&state_, part.data(), part.size(), into, room, &taken, written, &found);
+        append(part.size(), out, [&](std::uint8_t *into, std::size_t capacity, std::size_t *written) {
+            return nody_recoder_feed_strict(&state_, part.data(), part.size(), into, capacity, &taken, written, &found);
         });
         read_ += taken;
         if (read) *read = taken;
@@ -557,21 +626,21 @@ public:
     }
     std::optional<fault> finish_strict(std::string &out) {
         nody_fault_t found = {0, 0, NODY_KIND_NONE};
-        append(0, out, [&](std::uint8_t *into, std::size_t room, std::size_t *written) { return nody_recoder_finish_strict(&state_, into, room, written, &found); });
+        append(0, out, [&](std::uint8_t *into, std::size_t capacity, std::size_t *written) { return nody_recoder_finish_strict(&state_, into, capacity, written, &found); });
         return told(found);
     }
 
-    // Into a room, without memory: where it is full, empty it, and feed the rest of the part. After the bytes that were written the room
+    // Into a buffer, without allocating: if it is full, empty it, and feed the rest of the part. After the bytes that were written the buffer
     // may hold anything.
-    progress feed_into(bytes part, std::uint8_t *out, std::size_t room) noexcept {
+    progress feed_into(bytes part, std::uint8_t *out, std::size_t capacity) noexcept {
         progress it = {status::done, 0, 0};
-        it.status = static_cast<status>(nody_recoder_feed(&state_, part.data(), part.size(), out, room, &it.read, &it.written));
+        it.status = static_cast<status>(nody_recoder_feed(&state_, part.data(), part.size(), out, capacity, &it.read, &it.written));
         read_ += it.read;
         return it;
     }
-    progress finish_into(std::uint8_t *out, std::size_t room) noexcept {
+    progress finish_into(std::uint8_t *out, std::size_t capacity) noexcept {
         progress it = {status::done, 0, 0};
-        it.status = static_cast<status>(nody_recoder_finish(&state_, out, room, &it.written));
+        it.status = static_cast<status>(nody_recoder_finish(&state_, out, capacity, &it.written));
         return it;
     }
 
@@ -579,17 +648,17 @@ public:
     std::uint64_t replaced() const noexcept { return state_.replaced; }
     std::uint64_t read() const noexcept { return read_; }
     std::size_t held() const noexcept {
-        std::uint8_t room[3];
-        return nody_recoder_held(&state_, room, sizeof room);
+        std::uint8_t buffer[3];
+        return nody_recoder_held(&state_, buffer, sizeof buffer);
     }
 
 private:
     recoder(const nody_recoder_t &state, std::uint64_t read) noexcept : state_(state), read_(read) {}
 
-    // (three bytes may be held. The string is made before anything is read, so that nothing is lost where there is no memory)
+    // (three bytes may be held. The string is made before anything is read, so that nothing is lost if there is no memory)
     template <class Write> void append(std::size_t len, std::string &out, Write write) {
         if (len > SIZE_MAX - sizeof state_.held) detail::refuse_length();
-        detail::append(out, detail::most_of(static_cast<form>(state_.from), static_cast<form>(state_.to), len + sizeof state_.held), write);
+        detail::append(out, detail::most_of(static_cast<encoding>(state_.from), static_cast<encoding>(state_.to), len + sizeof state_.held), write);
     }
 
     std::optional<fault> told(const nody_fault_t &found) const noexcept {
@@ -613,16 +682,16 @@ struct decoding {
     std::uint64_t changes;
 };
 
-// How the calls for all pieces, and those for faults alone, are named in C.
-template <way taken> nody_status_t decode(nody_decoder_t *state, bytes part, nody_located_t *out, std::size_t room, std::size_t *read, std::size_t *written) noexcept {
-    return (taken == way::faults ? nody_decoder_feed_faults : nody_decoder_feed)(state, part.data(), part.size(), out, room, read, written);
+// How the calls for all pieces, and those only for faults, are named in C.
+template <way taken> nody_status_t decode(nody_decoder_t *state, bytes part, nody_located_t *out, std::size_t capacity, std::size_t *read, std::size_t *written) noexcept {
+    return (taken == way::faults ? nody_decoder_feed_faults : nody_decoder_feed)(state, part.data(), part.size(), out, capacity, read, written);
 }
-template <way taken> nody_status_t decode_end(nody_decoder_t *state, nody_located_t *out, std::size_t room, std::size_t *written) noexcept {
-    return (taken == way::faults ? nody_decoder_finish_faults : nody_decoder_finish)(state, out, room, written);
+template <way taken> nody_status_t decode_end(nody_decoder_t *state, nody_located_t *out, std::size_t capacity, std::size_t *written) noexcept {
+    return (taken == way::faults ? nody_decoder_finish_faults : nody_decoder_finish)(state, out, capacity, written);
 }
 
-// The pieces of one part, or of what is held at the end of the input. Some are asked for ahead. The decoder stands after the piece at hand
-// all the same, as if it had been asked for that alone; where somebody else changed it, those ahead are asked for again.
+// The pieces of one part, or of what is held at the end of the input. Some are decoded ahead. Yet the decoder is always after the current
+// piece, as if only that had been decoded; if somebody else changed it, those ahead are decoded again.
 template <way taken> class located_range {
 public:
     class iterator {
@@ -656,7 +725,7 @@ public:
             range_->take();
             return had;
         }
-        // (a range has one place alone, and the end)
+        // (a range has only one iterator, and the end)
         friend bool operator==(const iterator &a, const iterator &b) noexcept { return a.is_end() == b.is_end(); }
         friend bool operator!=(const iterator &a, const iterator &b) noexcept { return !(a == b); }
 
@@ -666,6 +735,22 @@ public:
     };
 
     located_range(decoding *of, bytes part, bool is_end) noexcept : of_(of), part_(part), is_end_(is_end) {}
+    // (views of C++20 take a range by moving it. Nothing is left of what it was moved from, and iterators stay there)
+    located_range(located_range &&other) noexcept
+        : of_(other.of_), part_(other.rest()), is_end_(other.is_end_), is_begun_(other.is_begun_), is_over_(other.is_over_), piece_(other.piece_) {
+        other.leave();
+    }
+    located_range &operator=(located_range &&other) noexcept {
+        located_range it(std::move(other));
+        leave();
+        of_ = it.of_;
+        part_ = it.part_;
+        is_end_ = it.is_end_;
+        is_begun_ = it.is_begun_;
+        is_over_ = it.is_over_;
+        piece_ = it.piece_;
+        return *this;
+    }
     located_range(const located_range &) = delete;
     located_range &operator=(const located_range &) = delete;
     ~located_range() = default;
@@ -676,29 +761,37 @@ public:
     }
     iterator end() const noexcept { return {}; }
 
-    // The bytes of the part that the decoder has not read: where the loop was left, feed these to go on.
+    // The bytes of the part that the decoder has not read: if the loop was left, feed these to go on.
     bytes rest() const noexcept {
-        // (where the piece at hand ends in bytes that were held, so much less than nothing is passed)
+        // (if the piece at hand ends in bytes that were held, so much less than nothing is passed)
         std::size_t read = read_ + (passed_ <= part_.size() - read_ ? static_cast<std::size_t>(passed_) : 0);
         return bytes(part_.data() + read, part_.size() - read);
     }
 
 private:
-    static constexpr std::size_t ROOM = 32;
+    static constexpr std::size_t most_ahead = 32;
+
+    // Ends the range: no piece is left, and no rest. (pieces that were asked for ahead are forgotten, since the decoder is before them)
+    void leave() noexcept {
+        part_ = {};
+        read_ = next_ = count_ = 0;
+        passed_ = 0;
+        is_begun_ = is_over_ = true;
+    }
 
     // Goes to the next piece.
     void take() noexcept {
-        if (next_ < count_ && changes_ == of_->changes) show(room_[next_++]);
+        if (next_ < count_ && changes_ == of_->changes) show(buffer_[next_++]);
         else take_more();
     }
 
-    // Where all that were asked for are taken, the decoder is as the call left it. Those that others outdated are forgotten.
+    // If all that were asked for are taken, the decoder is as the call left it. Those that others outdated are forgotten.
     void take_more() noexcept {
         is_begun_ = true;
         if (count_ && changes_ == of_->changes) end_call();
         if (is_over_) return;
         ask();
-        if (count_) show(room_[next_++]);
+        if (count_) show(buffer_[next_++]);
         else end_call();
     }
 
@@ -707,7 +800,7 @@ private:
         std::size_t read = 0;
         bytes left = rest();
         after_ = of_->state;
-        nody_status_t told = is_end_ ? decode_end<taken>(&after_, room_, ROOM, &count_) : decode<taken>(&after_, left, room_, ROOM, &read, &count_);
+        nody_status_t told = is_end_ ? decode_end<taken>(&after_, buffer_, most_ahead, &count_) : decode<taken>(&after_, left, buffer_, most_ahead, &read, &count_);
         is_more_ = told == NODY_STATUS_FULL;
         next_ = 0;
         read_ = part_.size() - left.size();
@@ -724,7 +817,7 @@ private:
         is_over_ = !is_more_;
     }
 
-    // Lets the decoder stand after a piece: bytes that it held were read before, and the others are of this part.
+    // Moves the decoder to after a piece: bytes that it held were read before, and the others are of this part.
     void show(const nody_located_t &it) noexcept {
         nody_decoder_t &state = of_->state;
         std::uint64_t end = it.offset + it.len;
@@ -750,42 +843,42 @@ private:
     // The offset of the first byte that is not read of the part, when pieces were asked for; how much of it those that are taken pass; and which
     // change of the decoder that was.
     std::uint64_t from_ = 0, passed_ = 0, changes_ = 0;
-    nody_decoder_t after_ = {NODY_FORM_UTF8, 0, {0, 0, 0}, 0};
+    nody_decoder_t after_ = {NODY_UTF8, 0, {0, 0, 0}, 0};
     bool is_end_, is_begun_ = false, is_more_ = false, is_over_ = false;
     located piece_;
-    nody_located_t room_[ROOM];
+    nody_located_t buffer_[most_ahead];
 };
 
 } // namespace detail
 
-// Gives the pieces of input that comes in parts, with offsets from its first byte. They do not depend on how it is divided. A part may end
-// anywhere, also inside a character: at most three bytes are held until the next part tells which piece they begin. What goes from call to
-// call is in the decoder: no call takes memory. A decoder is moved, and copied only by copy(): two of them would go on from the same bytes.
-// One that was moved from is as new.
+// The pieces of input in parts, with offsets from its first byte. They do not depend on how it is divided. A part may end anywhere, also
+// inside a character: at most three bytes are held until the next part decides which piece they begin. No call allocates. A decoder is
+// moved, and copied only by copy(). One that was moved from is as new.
 //
-//     nody::decoder decoder(nody::form::utf8);
+//     nody::decoder decoder(nody::encoding::utf8);
 //     while (read_some(part))
 //         for (const nody::located &it : decoder.feed(part))
 //             if (!it.is_ok()) report(it.offset, nody::sentence(it.kind));
 //     for (const nody::located &it : decoder.finish()) report(it.offset, nody::sentence(it.kind));
 //
-// A part is read as its range is gone through, once: a range that nobody goes through reads nothing. At each piece the decoder stands after
-// it: offset() is that of the next piece, and copy() goes on from there. So a loop may be left, by an exception too: what was not read is
-// the range's rest(). If the decoder is fed inside of such a loop, those bytes come after the piece at hand, and the rest of the part after
-// them. Decoder and part have to live as long as the range: with a decoder or a string that is a temporary it does not compile, and of
-// a range that is dropped compilers warn.
+// A part is read while its range is iterated over, once. At each piece the decoder is after it: offset() is that of the next piece, and
+// copy() continues from there. So a loop may be left, by an exception too: what was not read is the range's rest(). If the decoder is fed
+// inside of such a loop, those bytes are decoded next, before the rest of the part. Decoder and part have to live as long as the range: a
+// temporary decoder, or a temporary text that owns its bytes, does not compile, and compilers warn if a range is dropped. With C++20 views:
 //
-// The kinds are those of pieces() of the whole but in one case, which noddychest.h tells at nody_decoder_feed.
+//     for (const nody::located &it : decoder.feed(part) | std::views::filter([](const auto &it) { return !it.is_ok(); })) ..
+//
+// The kinds are those of pieces() of the whole except in one case: see nody_decoder_feed in noddychest.h.
 class decoder {
 public:
-    // What a call that fills a room did.
+    // What a call that fills a buffer did.
     struct progress {
         nody::status status;
         std::size_t read, written;
     };
 
     // (offsets may begin at another number than 0, as in the middle of a file)
-    explicit decoder(form from, std::uint64_t offset = 0) noexcept : it_{nody_decoder(detail::c(from)), 0} { it_.state.offset = offset; }
+    explicit decoder(encoding from, std::uint64_t offset = 0) noexcept : it_{nody_decoder(detail::c(from)), 0} { it_.state.offset = offset; }
     decoder(const decoder &) = delete;
     decoder &operator=(const decoder &) = delete;
     decoder(decoder &&other) noexcept : it_{other.it_.state, 0} { other.reset(); }
@@ -801,7 +894,7 @@ public:
 
     // Forgets what is held, and counts anew.
     void reset(std::uint64_t offset = 0) noexcept {
-        change() = nody_decoder(it_.state.form);
+        change() = nody_decoder(it_.state.encoding);
         it_.state.offset = offset;
     }
 
@@ -810,17 +903,17 @@ public:
     [[nodiscard]] detail::located_range<detail::way::front> finish() & noexcept { return {&it_, {}, true}; }
     template <class Text, class = detail::if_temporary<Text>> void feed(Text &&) & = delete;
 
-    // The same ranges without the characters. Text between faults is passed as fast as it is validated. You may mix both.
+    // Only the faults. Text between them is skipped as fast as it is validated. You may mix both.
     [[nodiscard]] detail::located_range<detail::way::faults> feed_faults(bytes part) & noexcept { return {&it_, part, false}; }
     [[nodiscard]] detail::located_range<detail::way::faults> finish_faults() & noexcept { return {&it_, {}, true}; }
     template <class Text, class = detail::if_temporary<Text>> void feed_faults(Text &&) & = delete;
 
-    // Into a room: where it is full, empty it, and feed the rest of the part, even if nothing is left of it. Places after the pieces that
-    // were written keep what they had.
-    progress feed_into(bytes part, located *out, std::size_t room) noexcept { return fill<detail::way::front>(part, out, room); }
-    progress feed_faults_into(bytes part, located *out, std::size_t room) noexcept { return fill<detail::way::faults>(part, out, room); }
-    progress finish_into(located *out, std::size_t room) noexcept { return fill_end<detail::way::front>(out, room); }
-    progress finish_faults_into(located *out, std::size_t room) noexcept { return fill_end<detail::way::faults>(out, room); }
+    // Into a buffer: if it is full, empty it, and feed the rest of the part, even if nothing is left of it. What is after
+    // the pieces that were written does not change.
+    progress feed_into(bytes part, located *out, std::size_t capacity) noexcept { return fill<detail::way::front>(part, out, capacity); }
+    progress feed_faults_into(bytes part, located *out, std::size_t capacity) noexcept { return fill<detail::way::faults>(part, out, capacity); }
+    progress finish_into(located *out, std::size_t capacity) noexcept { return fill_end<detail::way::front>(out, capacity); }
+    progress finish_faults_into(located *out, std::size_t capacity) noexcept { return fill_end<detail::way::faults>(out, capacity); }
 
     // The offset of the next piece, and how many bytes from there on were read and are held: 0 to 3. What is fed next begins at the sum.
     std::uint64_t offset() const noexcept { return it_.state.offset; }
@@ -829,34 +922,34 @@ public:
 private:
     explicit decoder(const nody_decoder_t &state) noexcept : it_{state, 0} {}
 
-    // The state, of which ranges that are open are told that it changes.
+    // The state; open ranges see that it changes.
     nody_decoder_t &change() noexcept {
         it_.changes++;
         return it_.state;
     }
 
-    template <detail::way taken> progress fill(bytes part, located *out, std::size_t room) noexcept {
-        return filled(out, room, [&](std::size_t from, nody_located_t *into, std::size_t most, std::size_t *read, std::size_t *count) {
+    template <detail::way taken> progress fill(bytes part, located *out, std::size_t capacity) noexcept {
+        return filled(out, capacity, [&](std::size_t from, nody_located_t *into, std::size_t most, std::size_t *read, std::size_t *count) {
             return detail::decode<taken>(&change(), bytes(part.data() + from, part.size() - from), into, most, read, count);
         });
     }
-    template <detail::way taken> progress fill_end(located *out, std::size_t room) noexcept {
-        return filled(out, room, [&](std::size_t, nody_located_t *into, std::size_t most, std::size_t *, std::size_t *count) {
+    template <detail::way taken> progress fill_end(located *out, std::size_t capacity) noexcept {
+        return filled(out, capacity, [&](std::size_t, nody_located_t *into, std::size_t most, std::size_t *, std::size_t *count) {
             return detail::decode_end<taken>(&change(), into, most, count);
         });
     }
 
-    // Fills a room by calls that fill a small one.
-    template <class Call> static progress filled(located *out, std::size_t room, Call call) noexcept {
+    // Fills a buffer by calls that fill a small one.
+    template <class Call> static progress filled(located *out, std::size_t capacity, Call call) noexcept {
         nody_located_t some[32];
         progress it = {status::full, 0, 0};
         do {
-            std::size_t most = room - it.written < 32 ? room - it.written : 32, read = 0, count = 0;
+            std::size_t most = capacity - it.written < 32 ? capacity - it.written : 32, read = 0, count = 0;
             it.status = static_cast<nody::status>(call(it.read, some, most, &read, &count));
             for (std::size_t i = 0; i < count; i++) out[it.written + i] = detail::at(some[i]);
             it.read += read;
             it.written += count;
-        } while (it.status == status::full && it.written < room);
+        } while (it.status == status::full && it.written < capacity);
         return it;
     }
 
@@ -865,7 +958,7 @@ private:
 
 // ---- The library
 
-// Whether the library runs on this processor, and its version: major * 1000000 + minor * 1000 + patch.
+// Whether the library runs on this CPU, and its version: major * 1000000 + minor * 1000 + patch.
 inline bool supported() noexcept { return nody_supported() != 0; }
 inline std::uint32_t version() noexcept { return nody_version(); }
 

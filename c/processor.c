@@ -1,9 +1,9 @@
-/* What this processor has: whether the library runs on it, and which code the calls take that validate, count and recode. */
+/* What this CPU has: whether the library runs on it, and which code the calls take that validate, count and recode. */
 #include "noddychest.h"
 
 #if defined(__x86_64__) || defined(_M_X64)
 
-/* How the compiler asks the processor, and calls something when the library is loaded. By its number that comes before the constructors
+/* How the compiler asks the CPU, and calls something when the library is loaded. By its number that comes before the constructors
  * of a program, which mostly have none. */
 #if defined(_MSC_VER) && !defined(__clang__)
 #include <intrin.h>
@@ -77,7 +77,7 @@ static int has_v3(void) {
     return !(V3_LEAF_7 & ~ebx) && (kept_registers() & V3_KEPT) == V3_KEPT;
 }
 
-/* 1 once it was seen, when the library is loaded, that the processor has x86-64-v3. Before that 0, which is right too. */
+/* 1 once it was seen, when the library is loaded, that the CPU has x86-64-v3. Before that 0, which is right too. */
 static unsigned char is_v3;
 
 AT_LOAD choose(void) {
@@ -99,30 +99,30 @@ __declspec(allocate(".CRT$XCT")) void(__cdecl *const nody_choose_at_load)(void) 
         return is_v3 ? name##_v3 arguments : name##_v2 arguments; \
     }
 
-#define FORMS nody_form_t from, nody_form_t to
+#define ENCODINGS nody_encoding_t from, nody_encoding_t to
 #define INPUT const uint8_t *in, size_t len
 #define ROOM uint8_t *out, size_t room
 #define FOUND nody_located_t *out, size_t room
 
 CHOSEN(size_t, nody_utf8_valid_up_to, (const uint8_t *bytes, size_t len), (bytes, len))
 CHOSEN(size_t, nody_utf16_valid_up_to, (const uint16_t *units, size_t len), (units, len))
-CHOSEN(size_t, nody_utf16_bytes_valid_up_to, (nody_form_t form, const uint8_t *bytes, size_t len), (form, bytes, len))
+CHOSEN(size_t, nody_utf16_bytes_valid_up_to, (nody_encoding_t encoding, const uint8_t *bytes, size_t len), (encoding, bytes, len))
 CHOSEN(size_t, nody_utf8_char_count, (const uint8_t *bytes, size_t len), (bytes, len))
 CHOSEN(size_t, nody_utf8_offset_of, (const uint8_t *bytes, size_t len, size_t number), (bytes, len, number))
 CHOSEN(size_t, nody_utf8_number_of, (const uint8_t *bytes, size_t len, size_t offset), (bytes, len, offset))
 CHOSEN(size_t, nody_utf16_char_count, (const uint16_t *units, size_t len), (units, len))
 CHOSEN(size_t, nody_utf16_offset_of, (const uint16_t *units, size_t len, size_t number), (units, len, number))
 CHOSEN(size_t, nody_utf16_number_of, (const uint16_t *units, size_t len, size_t offset), (units, len, offset))
-CHOSEN(size_t, nody_char_count, (nody_form_t form, const uint8_t *bytes, size_t len), (form, bytes, len))
-CHOSEN(size_t, nody_offset_of, (nody_form_t form, const uint8_t *bytes, size_t len, size_t number), (form, bytes, len, number))
-CHOSEN(size_t, nody_number_of, (nody_form_t form, const uint8_t *bytes, size_t len, size_t offset), (form, bytes, len, offset))
+CHOSEN(size_t, nody_char_count, (nody_encoding_t encoding, const uint8_t *bytes, size_t len), (encoding, bytes, len))
+CHOSEN(size_t, nody_offset_of, (nody_encoding_t encoding, const uint8_t *bytes, size_t len, size_t number), (encoding, bytes, len, number))
+CHOSEN(size_t, nody_number_of, (nody_encoding_t encoding, const uint8_t *bytes, size_t len, size_t offset), (encoding, bytes, len, offset))
 CHOSEN(size_t, nody_utf8_faults, (nody_bytes_t *left, uint64_t *offset, FOUND), (left, offset, out, room))
 CHOSEN(size_t, nody_utf16_faults, (nody_units_t *left, uint64_t *offset, FOUND), (left, offset, out, room))
 CHOSEN(nody_status_t, nody_decoder_feed_faults, (nody_decoder_t *decoder, INPUT, FOUND, size_t *read, size_t *written),
        (decoder, in, len, out, room, read, written))
-CHOSEN(size_t, nody_recoded_len, (FORMS, INPUT), (from, to, in, len))
-CHOSEN(nody_status_t, nody_recode, (FORMS, INPUT, ROOM, size_t *written), (from, to, in, len, out, room, written))
-CHOSEN(nody_status_t, nody_recode_strict, (FORMS, INPUT, ROOM, size_t *read, size_t *written, nody_fault_t *fault),
+CHOSEN(size_t, nody_recoded_len, (ENCODINGS, INPUT), (from, to, in, len))
+CHOSEN(nody_status_t, nody_recode, (ENCODINGS, INPUT, ROOM, size_t *written), (from, to, in, len, out, room, written))
+CHOSEN(nody_status_t, nody_recode_strict, (ENCODINGS, INPUT, ROOM, size_t *read, size_t *written, nody_fault_t *fault),
        (from, to, in, len, out, room, read, written, fault))
 CHOSEN(nody_status_t, nody_recoder_feed, (nody_recoder_t *recoder, INPUT, ROOM, size_t *read, size_t *written),
        (recoder, in, len, out, room, read, written))
@@ -131,7 +131,7 @@ CHOSEN(nody_status_t, nody_recoder_feed_lossy, (nody_recoder_t *recoder, INPUT, 
 CHOSEN(nody_status_t, nody_recoder_feed_strict, (nody_recoder_t *recoder, INPUT, ROOM, size_t *read, size_t *written, nody_fault_t *fault),
        (recoder, in, len, out, room, read, written, fault))
 
-/* (chosen as the others are, so that it tells what they take) */
+/* (chosen as the other calls are, so that it returns the width that they use) */
 CHOSEN(int, nody_lanes, (void), ())
 
 int nody_lanes_v2(void) {

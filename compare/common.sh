@@ -37,24 +37,24 @@ std = []
 MANIFEST
 }
 
-# prepare PATH: the static library, the Rust crate and this folder, side by side in `work`, which is new and goes
-# when the script ends.
+# prepare PATH: the library for C, and in `work`, which is new and goes when the script ends, the Rust crate and a copy of this folder,
+# side by side. The copy names the crate for Cargo where it is.
 prepare() {
     [ -f "$1/src/lib.rs" ] || die "no Rust crate in $1"
     command -v cargo >/dev/null || die "cargo is not on the path"
     work=$(mktemp -d)
     trap 'rm -rf "$work"' EXIT
-    build_crate compare_c lib libcompare_c.a "the library" || exit 2
+    build_library || exit 2
     copy_crate "$1"
     cp -R "$compare_folder" "$work/compare"
-    cp "$root_folder/crates/compare_c/out/libcompare_c.a" "$work/"
+    sed -i "s|\"\.\./rust\"|\"$root_folder/rust\"|" "$work/compare/Cargo.toml"
 }
 
 # run_cargo COMMAND ARGUMENTS: cargo in that copy of this folder.
 run_cargo() {
     local command=$1
     shift
-    if ! (cd "$work/compare" && RATTLE_C_FOLDER="$(dirname "$(rt doc)")/c" \
+    if ! (cd "$work/compare" && LIBRARY_FOLDER="$root_folder/build" \
         cargo "$command" --release --offline --target-dir "$work/target" "$@" >"$work/log" 2>&1); then
         cat "$work/log" >&2
         die "the comparison could not be built"

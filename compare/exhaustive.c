@@ -1,13 +1,13 @@
-/* Asks the library for every input of one to four bytes, and of one or two units, and compares what it answers with a
+/* Calls the library for every input of one to four bytes, and of one or two units, and compares the results with a
  * matcher that is written here by hand: of bytes from the grammar of RFC 3629, section 4, of units from RFC 2781, section
  * 2.2. It shares nothing with the library.
  *
  *   exhaustive bytes FIRST LAST    inputs whose first byte is FIRST to LAST
  *   exhaustive units FIRST LAST    inputs whose first unit has FIRST to LAST as its high byte
  *
- * For each input: the run from the front, the piece at its end, the first kind of a reader of one byte at a time, the first
- * fault, and the input recoded. What the other pieces are from the back, or to such a reader, is asked of the shorter inputs
- * that are left then. Prints each input that differs, up to twenty, and then `N inputs, M differ`.
+  * For each input: the run from the front, the piece at its end, the first kind of a reader of one byte at a time, the first
+  * fault, and the converted input. The other pieces from the end, or for such a reader, are tested with the shorter inputs
+  * that are left then. Prints each input that differs, up to twenty, and then `N inputs, M differ`.
  */
 #include "noddychest.h"
 
@@ -44,7 +44,7 @@ static int utf8_4(const uint8_t *b) {
            (b[0] == 0xF4 && in(b[1], 0x80, 0x8F) && tail(b[2]) && tail(b[3]));
 }
 
-/* How many bytes the UTF8-char at the front has, or 0 where none is there. */
+/* How many bytes the UTF8-char at the front has, or 0 if none is there. */
 static size_t utf8_char(const uint8_t *b, size_t len) {
     if (len >= 1 && in(b[0], 0x00, 0x7F)) return 1;
     if (len >= 2 && in(b[0], 0xC2, 0xDF) && tail(b[1])) return 2;
@@ -53,7 +53,7 @@ static size_t utf8_char(const uint8_t *b, size_t len) {
     return 0;
 }
 
-/* The bits of a character of so many bytes, as section 3 of the RFC lays them out. */
+/* The scalar of a character of `len` bytes, as section 3 of the RFC lays out its bits. */
 static uint32_t utf8_scalar(const uint8_t *b, size_t len) {
     static const uint8_t payload[5] = {0, 0x7F, 0x1F, 0x0F, 0x07};
     uint32_t scalar = b[0] & payload[len];
@@ -61,12 +61,12 @@ static uint32_t utf8_scalar(const uint8_t *b, size_t len) {
     return scalar;
 }
 
-/* How many bytes a first byte announces, or 0 where no character begins with it. */
+/* How many bytes a first byte announces, or 0 if no character begins with it. */
 static size_t announced(uint8_t byte) {
     return byte < 0x80 ? 1 : byte < 0xC2 ? 0 : byte < 0xE0 ? 2 : byte < 0xF0 ? 3 : byte < 0xF5 ? 4 : 0;
 }
 
-/* What is wrong where no character begins; `early` is for a reader that sees a wrong byte before it sees the end. */
+/* What is wrong if no character begins; `early` is for a reader that sees a wrong byte before it sees the end. */
 static uint8_t utf8_fault(const uint8_t *b, size_t len, int early) {
     size_t asked = announced(b[0]);
     if (tail(b[0])) return NODY_KIND_UNEXPECTED_CONTINUATION_BYTE;
@@ -101,7 +101,7 @@ static size_t cut_bytes(const uint8_t *b, size_t len, piece *cut) {
     return count;
 }
 
-/* The same of units, by the steps of RFC 2781, section 2.2. */
+/* The pieces of UTF-16, by the steps of RFC 2781, section 2.2. */
 static size_t cut_units(const uint16_t *w, size_t len, piece *cut) {
     size_t count = 0;
     for (size_t at = 0; at < len; count++) {
@@ -152,17 +152,17 @@ static size_t put_utf16(uint32_t s, int is_big, uint8_t *out) {
     return first + put_unit(0xDC00 | ((s - 0x10000) & 0x3FF), is_big, out + first);
 }
 
-/* What the pieces are recoded as, U+FFFD for each fault. */
+/* What the pieces are converted to, U+FFFD for each fault. */
 static size_t recoded(const piece *cut, size_t count, uint8_t to, uint8_t *out) {
     size_t made = 0;
     for (size_t i = 0; i < count; i++) {
         uint32_t s = cut[i].kind == NODY_KIND_OK ? cut[i].scalar : 0xFFFD;
-        made += to == NODY_FORM_UTF8 ? put_utf8(s, out + made) : put_utf16(s, to == NODY_FORM_UTF16BE, out + made);
+        made += to == NODY_UTF8 ? put_utf8(s, out + made) : put_utf16(s, to == NODY_UTF16BE, out + made);
     }
     return made;
 }
 
-/* The library's recoding of the bytes, or more than there is room for where it does not read all of them. */
+/* The library's transcoding of the bytes, or more than there is room for where it does not read all of them. */
 static size_t recode(uint8_t from, uint8_t to, const uint8_t *bytes, size_t len, uint8_t *out) {
     nody_recoder_t recoder = nody_recoder(from, to);
     size_t read, made, written;
@@ -193,7 +193,7 @@ static int is_bytes_right(const uint8_t *b, size_t len) {
     for (size_t i = 0; holds && i < count; i++) holds = same(given[i], &cut[i], cut[i].kind);
     holds = holds && same(nody_utf8_next_back(&ends), last, last->back) && ends.len == last->start;
     holds = holds && same(nody_utf8_streamed_at(b, len, 0), &cut[0], cut[0].merged);
-    return holds && nody_utf8_valid_up_to(b, len) == first_fault(cut, count, len) && recodes(NODY_FORM_UTF8, NODY_FORM_UTF16LE, b, len, cut, count);
+    return holds && nody_utf8_valid_up_to(b, len) == first_fault(cut, count, len) && recodes(NODY_UTF8, NODY_UTF16LE, b, len, cut, count);
 }
 
 static int is_units_right(const uint16_t *w, size_t len) {
@@ -207,7 +207,7 @@ static int is_units_right(const uint16_t *w, size_t len) {
     for (size_t i = 0; holds && i < count; i++) holds = same(given[i], &cut[i], cut[i].kind);
     holds = holds && same(nody_utf16_next_back(&ends), last, last->back) && ends.len == last->start;
     for (size_t i = 0; i < len; i++) size += put_unit(w[i], 1, bytes + size);
-    return holds && nody_utf16_valid_up_to(w, len) == first_fault(cut, count, len) && recodes(NODY_FORM_UTF16BE, NODY_FORM_UTF8, bytes, size, cut, count);
+    return holds && nody_utf16_valid_up_to(w, len) == first_fault(cut, count, len) && recodes(NODY_UTF16BE, NODY_UTF8, bytes, size, cut, count);
 }
 
 static void add(int holds, const char *what, uint32_t input, size_t len) {

@@ -1,4 +1,4 @@
-/* Reads random bytes by ICU's macros from the front and from the back, and counts the inputs on which the pieces differ.
+/* Reads random bytes by ICU's macros from the front and from the end, and counts the inputs on which the pieces differ.
  *
  * usage: peers COUNT */
 #include <stdio.h>

@@ -1,4 +1,4 @@
-//! Reads random bytes by bstr from the front, from the back and from both ends, and counts the inputs on which the pieces differ.
+//! Reads random bytes by bstr from the front, from the end and from both ends, and counts the inputs on which the pieces differ.
 //!
 //! usage: peers COUNT
 use bstr::ByteSlice;

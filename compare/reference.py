@@ -45,7 +45,7 @@ def pair_value(w):
 
 
 def stands(code, xs, p):
-    """The scalar whose code stands in xs at the place p and the length of the code, or None."""
+    """The scalar encoded in xs at the offset p and its length, or None."""
     guess, most = (value, 4) if code is utf8 else (pair_value, 2)
     for n in range(1, min(most, len(xs) - p) + 1):
         s = guess(xs[p:p + n])
@@ -66,7 +66,7 @@ def cut(code, xs):
 
 
 def asked(b):
-    """How many bytes a code has that begins with b, or 0 where none does."""
+    """How many bytes a code has that begins with b, or 0 if none does."""
     return 1 if b < 0x80 else 0 if b < 0xC2 or b > 0xF4 else 2 if b < 0xE0 else 3 if b < 0xF0 else 4
 
 
@@ -95,7 +95,7 @@ def forward_kind(w):
 
 
 def merger_kind(w):
-    """The same as a reader says it that gets one byte at a time: it sees a byte that breaks a code first."""
+    """The kind of a fault for a reader of one byte at a time: it sees a byte that breaks a sequence first."""
     is_broken = any(not is_continuation(b) for b in w[1:asked(w[0])])
     return 'InterruptedSequence' if is_broken else forward_kind(w)
 
@@ -115,7 +115,7 @@ def merged(xs):
 
 
 def walk(xs, word):
-    """The pieces that the letters take, F from the front of what is left and B from its back; None where none is left.
+    """The pieces that the letters take, F from the front of what is left and B from its back; None if none is left.
 
     >>> walk([0xE0, 0x80, 0x80], 'FBFF')
     [(0, 1, 'OverlongEncoding'), (2, 1, 'UnexpectedContinuationByte'), (1, 1, 'UnexpectedContinuationByte'), None]
@@ -158,7 +158,7 @@ def answer_text(answer):
 
 
 def lines(mode, xs, word=''):
-    """The lines of `pieces`: of the pieces, of a merger's answers, or of a walk."""
+    """The lines of `pieces`: of the pieces, of a merger's items, or of a walk."""
     if mode == 'merge':
         return [answer_text(it) for it in merged(xs)]
     items = forward(xs) if mode == 'forward' else walk(xs, word)

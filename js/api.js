@@ -1,60 +1,14 @@
-// The calls of the package, over a module that node.js or web.js has loaded. index.d.ts says what they take and return.
-import { Codec, FEW, FORMS, INCOMPLETE, MAXIMAL, NONE, NO_BYTES, NO_PIECES, OK, REPLACE, ROOM, SEEN, STRICT, TOO_FEW, UTF16LE, UTF8, joined, own } from "./codec.js";
+// The calls of the package. index.d.ts says what they take and return.
+import { bytesOf, copyOf, hold, own, partOf, unshared } from "./bytes.js";
+import { FEW, FORMS, INCOMPLETE, LOSSY, NONE, NO_BYTES, NO_PIECES, OK, REPLACE, ROOM, SEEN, STRICT, TOO_FEW, UTF16LE, UTF8, joined } from "./codec.js";
 
-// Bytes whose pieces are asked for at once.
+// How many bytes are scanned for pieces in one call of the module.
 const BLOCK = 4096;
 const MEGABYTE = 1 << 20;
-let codec;
-
-// An instance, and its module, where another is to take its place once it is broken.
-export function use(instance, module) {
-    codec = new Codec(instance.exports, module && (() => new WebAssembly.Instance(module).exports));
-}
-
-// What the language itself says of an object, also of one of another realm, and so that no code of the caller runs.
-const getter = (prototype, name) => Object.getOwnPropertyDescriptor(prototype, name).get;
-const ARRAY = Object.getPrototypeOf(Uint8Array.prototype);
-const arrayName = getter(ARRAY, Symbol.toStringTag);
-const [OF_ARRAY, OF_VIEW] = [ARRAY, DataView.prototype].map((it) => ["buffer", "byteOffset", "byteLength"].map((name) => getter(it, name)));
-const LENGTHS = [ArrayBuffer, ...(typeof SharedArrayBuffer === "function" ? [SharedArrayBuffer] : [])].map((it) => getter(it.prototype, "byteLength"));
-
-// The bytes of a view; it throws where they do not lie in its buffer. (An array of such bytes says that it is empty, and `values` throws.)
-function bytesOfView(view) {
-    const isArray = arrayName.call(view) !== undefined;
-    if (isArray) ARRAY.values.call(view);
-    return new Uint8Array(...(isArray ? OF_ARRAY : OF_VIEW).map((it) => it.call(view)));
-}
-
-// The bytes of a buffer, which throws where it is detached; undefined of other objects.
-function bytesOfBuffer(buffer) {
-    for (const length of LENGTHS) {
-        let count;
-        try {
-            count = length.call(buffer);
-        } catch {
-            continue;
-        }
-        return new Uint8Array(buffer, 0, count);
-    }
-    return undefined;
-}
-
-// Throws where bytes that were there are no more.
-function hold(isThere) {
-    if (!isThere) throw new TypeError("noddychest: the bytes are gone: their buffer was detached, or made smaller");
-}
-
-// Any bytes as a plain Uint8Array over the same memory, which keeps its length unless its buffer is detached or made smaller.
-function bytesOf(data) {
-    let bytes;
-    try {
-        bytes = ArrayBuffer.isView(data) ? bytesOfView(data) : bytesOfBuffer(data);
-    } catch {
-        hold(false);
-    }
-    if (bytes) return bytes;
-    throw new TypeError("noddychest: bytes are a Uint8Array, another view or an ArrayBuffer; encode a string by TextEncoder first");
-}
+// Every engine allows strings of this many code units.
+const UNITS = 1 << 27;
+// Bytes of UTF-16 that a TextDecoder gets in one call: Node's fails for 2^28.
+const AT_ONCE = 1 << 25;
 
 // The labels of the Encoding Standard, and those that the programs take.
 const LABELS = [
@@ -94,14 +48,14 @@ function optionOf(options, name) {
 }
 
 // What options ask to do with invalid bytes. `fatal: true` is how TextDecoder says "strict".
-const WAYS = { replace: REPLACE, maximal: MAXIMAL, strict: STRICT };
+const WAYS = { replace: REPLACE, lossy: LOSSY, strict: STRICT };
 
 function wayOf(options = {}) {
     const given = objectOf(options, "{ fatal: true }");
     const [errors, fatal] = [optionOf(given, "errors"), optionOf(given, "fatal")];
     if (errors === undefined) return fatal ? STRICT : REPLACE;
     const name = String(errors);
-    if (!Object.keys(WAYS).includes(name)) throw new RangeError(`noddychest: errors is "replace", "maximal" or "strict", and not ${name}`);
+    if (!Object.keys(WAYS).includes(name)) throw new RangeError(`noddychest: errors is "replace", "lossy" or "strict", and not ${name}`);
     if (fatal && WAYS[name] !== STRICT) throw new TypeError(`noddychest: fatal is the same as errors: "strict", and here errors is "${name}"`);
     return WAYS[name];
 }
@@ -112,477 +66,55 @@ function wholeOf(at) {
     throw new RangeError(`noddychest: an offset is a whole number from 0 on, and ${typeof at === "number" ? `not ${at}` : `no ${typeof at}`}`);
 }
 
-// A piece of the codec, which began at the offset `base`, as callers see it.
-function shown({ place, len, scalar, kind }, base = 0) {
-    const isValid = kind === OK;
-    return { offset: base + place, length: len, char: isValid ? String.fromCodePoint(scalar) : null, error: isValid ? null : codec.names[kind] };
-}
-
-export function sentence(error) {
-    const kind = codec.names.indexOf(error);
-    if (kind <= OK || kind >= NONE) throw new RangeError(`noddychest: no error has the name ${String(error)}`);
-    return codec.sentences[kind];
-}
-
-// The pieces of some bytes that begin before `end`, with offsets from `base` on.
-function* piecesIn(bytes, form, base = 0, end = bytes.length) {
-    const { length } = bytes;
-    for (let at = 0; at < end; ) {
-        hold(bytes.length === length);
-        const isLast = length - at <= BLOCK;
-        codec.fill(bytes.subarray(at, at + BLOCK), form);
-        const stop = Math.min(isLast ? codec.len : BLOCK - SEEN + 1, end - at);
-        // (a copy, of which objects are made one by one: such as live for a block cost more)
-        const row = codec.copies(codec.run(0).count);
-        let place = 0;
-        while (place < stop) {
-            const piece = row.take(place);
-            hold(bytes.length === length);
-            yield shown(piece, base + at);
-            place += piece.len;
-        }
-        at += place;
-    }
-}
-
-// The invalid ones of them, of which about so many are looked for at once.
-function* faultsIn(bytes, form, settings) {
-    const { base = 0, end = bytes.length, most = BLOCK } = own(settings);
-    const { length } = bytes;
-    let [begin, front, filled, limit] = [0, 0, 0, 0];
-    while (begin + front < end) {
-        hold(bytes.length === length);
-        if (!codec.holds(filled) || front === limit) {
-            [begin, front] = [begin + front, 0];
-            filled = codec.fill(bytes.subarray(begin, begin + MEGABYTE), form);
-            // (a piece is judged by the bytes after it: those at the end of this window come again)
-            limit = begin + codec.len === length ? codec.len : codec.boundary(codec.len - SEEN);
-        }
-        const block = [];
-        const told = codec.faults(front, most, (place, len, kind) => place < limit && begin + place < end && block.push(shown({ place, len, scalar: 0, kind }, base + begin)));
-        front = Math.min(told, limit);
-        for (const it of block) {
-            hold(bytes.length === length);
-            yield it;
-        }
-    }
-}
-
-export const pieces = (data, encoding = "utf-8") => piecesIn(...textOfForm(data, encoding));
-
-export const piecesBack = (data, encoding = "utf-8") => piecesBefore(...textOfForm(data, encoding));
-
-function* piecesBefore(bytes, form) {
-    const { length } = bytes;
-    for (let back = length; back > 0; ) {
-        hold(bytes.length === length);
-        const base = startBefore(back, BLOCK, form);
-        codec.fill(bytes.subarray(base, back), form);
-        const [block, left] = [[], { front: 0, back: codec.len }];
-        while (left.back > 0 && (base === 0 || left.back >= SEEN)) block.push(shown(codec.step("B", left), base));
-        back = base + left.back;
-        for (const it of block) {
-            hold(bytes.length === length);
-            yield it;
-        }
-    }
-}
-
-// Where a window of about so many bytes before an offset begins: not inside a unit.
-function startBefore(back, size, form) {
-    const start = Math.max(back - size, 0);
-    return form === UTF8 ? start : start - (start % 2);
-}
-
-export class Ends {
-    #bytes;
-    #form;
-    #length;
-    #front = 0;
-    #back;
-
-    constructor(data, encoding = "utf-8") {
-        [this.#bytes, this.#form] = textOfForm(data, encoding);
-        this.#back = this.#length = this.#bytes.length;
-    }
-
-    // One piece, of the bytes near that end alone.
-    #step(letter, from, to) {
-        codec.fill(this.#part(from, to), this.#form);
-        const left = { front: 0, back: codec.len };
-        const piece = codec.step(letter, left);
-        if (piece.kind === NONE) return null;
-        const made = shown(piece, from);
-        if (letter === "F") this.#front += piece.len;
-        else this.#back -= piece.len;
-        return made;
-    }
-
-    next() {
-        return this.#step("F", this.#front, Math.min(this.#front + SEEN, this.#back));
-    }
-
-    nextBack() {
-        return this.#step("B", Math.max(startBefore(this.#back, SEEN, this.#form), this.#front), this.#back);
-    }
-
-    // (code that V8 optimized may see the old length of an array that was detached, and then this throws)
-    #part(from, to) {
-        hold(this.#bytes.length === this.#length);
-        try {
-            return this.#bytes.subarray(from, to);
-        } catch {
-            return hold(false);
-        }
-    }
-
-    get remaining() {
-        return this.#part(this.#front, this.#back);
-    }
-}
-
-export const faults = (data, encoding = "utf-8") => faultsIn(...textOfForm(data, encoding));
-
-export const firstFault = (data, encoding = "utf-8") => faultsIn(...textOfForm(data, encoding), { most: 1 }).next().value ?? null;
-
-export const isValid = (data, encoding) => firstFault(data, encoding) === null;
-
-// Takes a window of the bytes, at most so long. Returns the boundary at which it ends.
-function windowEnd(bytes, at, size, form) {
-    codec.fill(bytes.subarray(at, at + size), form);
-    return at + codec.len === bytes.length ? codec.len : codec.boundary(codec.len - SEEN);
-}
-
-// The sum of what a call tells of windows that end at boundaries, one after the other.
-function summed(bytes, form, call) {
-    let sum = 0;
-    for (let at = 0; at < bytes.length; ) {
-        const end = windowEnd(bytes, at, MEGABYTE, form);
-        sum += call(bytes.subarray(at, at + end), end, at);
-        at += end;
-    }
-    return sum;
-}
-
-export const charCount = (data, encoding = "utf-8") => summed(...textOfForm(data, encoding), (_, end) => codec.countBetween(0, end));
-
-export function recodedLength(data, from, to) {
-    const [form, target] = [formOf(from), formOf(to)];
-    return summed(bytesOf(data), form, (part) => {
-        codec.fill(part, form);
-        return codec.recodedLength(target);
-    });
-}
-
-// Takes the bytes near an offset, which decide what pieces lie there. Returns where they begin.
-function standNear(bytes, place, form) {
-    const start = startBefore(place, 2 * SEEN, form);
-    codec.fill(bytes.subarray(start, place + 2 * SEEN), form);
-    return start;
-}
-
-// The boundary near an offset.
-function boundaryOf(data, at, encoding, isAfter) {
-    const [bytes, form, place] = [...textOfForm(data, encoding), wholeOf(at)];
-    if (place >= bytes.length) return bytes.length;
-    const start = standNear(bytes, place, form);
-    return start + codec.boundary(place - start, isAfter);
-}
-
-export const boundaryBefore = (data, at, encoding = "utf-8") => boundaryOf(data, at, encoding, false);
-export const boundaryAfter = (data, at, encoding = "utf-8") => boundaryOf(data, at, encoding, true);
-
-// The offset of the piece with a number: counted window by window, of which the first is short.
-export function offsetOf(data, number, encoding = "utf-8") {
-    const [bytes, form] = textOfForm(data, encoding);
-    let [left, size] = [wholeOf(number), BLOCK];
-    for (let at = 0; at < bytes.length; size = Math.min(2 * size, MEGABYTE)) {
-        const end = windowEnd(bytes, at, size, form);
-        const count = codec.countBetween(0, end);
-        if (left < count) return at + codec.offsetOf(left);
-        left -= count;
-        at += end;
-    }
-    return null;
-}
-
-// (what is far after an offset does not change what begins before it)
-export function numberOf(data, offset, encoding = "utf-8") {
-    const [[bytes, form], place] = [textOfForm(data, encoding), wholeOf(offset)];
-    return summed(bytes.subarray(0, place + 2 * SEEN), form, (_, end, at) => codec.numberOf(Math.max(Math.min(place - at, end), 0)));
-}
-
-// (the bytes near each end decide)
-export function changedRange(data, start, end, encoding = "utf-8") {
-    const [bytes, form] = textOfForm(data, encoding);
-    const last = Math.min(wholeOf(end), bytes.length);
-    const [before, after] = [Math.min(wholeOf(start), last), last].map((place) => {
-        const base = standNear(bytes, place, form);
-        const range = codec.changedRange(place - base);
-        return { start: base + range.start, end: base + range.end };
-    });
-    return { start: before.start, end: after.end };
-}
-
-// (the last bytes decide)
-export function undecidedLength(data, encoding = "utf-8") {
-    const [bytes, form] = textOfForm(data, encoding);
-    codec.fill(bytes.subarray(startBefore(bytes.length, 2 * SEEN, form)));
-    return codec.undecidedLength(form);
-}
-
-export function encodingOfBom(data) {
-    codec.fill(bytesOf(data).subarray(0, SEEN));
-    const mark = codec.formOfBom();
-    return mark && { encoding: FORMS[mark.form], length: mark.len };
-}
-
-// That text which had to be valid is not. A TypeError, as TextDecoder throws. (Of an error structuredClone and postMessage keep the
-// message and the cause alone.)
-export class FaultError extends TypeError {
-    offset;
-    length;
-    error;
-    name = "FaultError";
-
-    constructor({ offset, length, error }, form) {
-        const told = { offset, length, error };
-        super(`noddychest: invalid ${FORMS[form].toUpperCase()} at offset ${offset}: ${error}`, { cause: told });
-        // (where an Error takes no cause yet)
-        if (!has(this, "cause")) Object.defineProperty(this, "cause", own({ value: told, configurable: true, writable: true, enumerable: false }));
-        Object.assign(this, told);
-    }
-}
-
-// What comes of bytes that are fed to a recoder, at whose first an offset stands; after the last ones its input ends. It throws where it is
-// strict and meets an invalid byte.
-function recoded(state, bytes, settings) {
-    const { form, mode, base = 0, isLast } = own(settings);
-    const chunks = [];
-    const { fault } = codec.feed(state, bytes, chunks, { mode, isLast });
-    if (fault) throw new FaultError(shown(fault, base), form);
-    return joined(chunks);
-}
-
-export function recode(data, from, to, options) {
-    const [form, target, mode] = [formOf(from), formOf(to), wayOf(options)];
-    return recoded(codec.newRecoder(form, target), bytesOf(data), { form, mode, isLast: true });
-}
-
-export class Recoder {
-    #from;
-    #way;
-    #state;
-    #count = 0;
-
-    constructor(from, to, options) {
-        const forms = [formOf(from), formOf(to)];
-        this.#from = forms[0];
-        this.#way = wayOf(options);
-        this.#state = codec.newRecoder(...forms);
-    }
-
-    get replaced() {
-        return codec.replacedBy(this.#state);
-    }
-
-    // (where it throws, nothing has changed)
-    #put(bytes, isLast) {
-        const state = this.#state.slice();
-        const made = recoded(state, bytes, { form: this.#from, mode: this.#way, base: this.#count, isLast });
-        this.#state = state;
-        this.#count += bytes.length;
-        return made;
-    }
-
-    feed(data) {
-        return this.#put(bytesOf(data), false);
-    }
-
-    finish() {
-        return this.#put(NO_BYTES, true);
-    }
-}
-
-export function recoderStream(from, to, options) {
-    const recoder = new Recoder(from, to, options);
-    const put = (bytes, controller) => bytes.length && controller.enqueue(bytes);
-    const feed = (part, controller) => void put(recoder.feed(part), controller);
-    const finish = (controller) => void put(recoder.finish(), controller);
-    return new TransformStream(own({ transform: feed, flush: finish }));
-}
-
 // The offset from which options ask to count.
 function startOf(options = {}) {
     const offset = optionOf(objectOf(options, "{ offset: 0 }"), "offset");
     return wholeOf(offset === undefined ? 0 : offset);
 }
 
-// A part of the input that a decoder reads, or the end of the input, which has no bytes.
-class Part {
-    at = 0;
-    isOver = false;
-    base = 0;
-    filled = 0;
-    next = null;
+// The start of a window of about `size` bytes before an offset: not inside a code unit.
+function startBefore(back, size, form) {
+    const start = Math.max(back - size, 0);
+    return form === UTF8 ? start : start - (start % 2);
+}
 
-    constructor(bytes, isEnd) {
-        this.bytes = bytes;
-        this.isEnd = isEnd;
-    }
+// The fault that an error reports.
+function faultOf(given) {
+    const { offset, length, error } = Object(given);
+    if (Number.isSafeInteger(offset) && offset >= 0 && (length === 1 || length === 2) && typeof error === "string") return { offset, length, error };
+    throw new TypeError('noddychest: a FaultError is made of a fault, as { offset: 3, length: 1, error: "NonUtf8Byte" }, and its encoding');
+}
 
-    // Copies what is left to read, so that it does not matter what becomes of the caller's buffer.
-    keep() {
-        this.bytes = new Uint8Array(this.bytes.subarray(this.at));
-        [this.base, this.at] = [this.base - this.at, 0];
-    }
+// That text which had to be valid is not. A TypeError, as TextDecoder throws. (Of an error structuredClone and postMessage keep the
+// only the message and the cause.)
+export class FaultError extends TypeError {
+    offset;
+    length;
+    error;
+    name = "FaultError";
 
-    // The place in the module's memory where the rest stands, of which so many bytes are put there at once.
-    stand(size) {
-        if (!codec.holds(this.filled) || this.at === this.base + codec.len) {
-            this.base = this.at;
-            this.filled = codec.fill(this.bytes.subarray(this.at, this.at + size));
-        }
-        return this.at - this.base;
+    constructor(fault, encoding = "utf-8") {
+        const told = faultOf(fault);
+        super(`noddychest: invalid ${FORMS[formOf(encoding)].toUpperCase()} at offset ${told.offset}: ${told.error}`, { cause: told });
+        // (where an Error takes no cause yet)
+        if (!has(this, "cause")) Object.defineProperty(this, "cause", own({ value: told, configurable: true, writable: true, enumerable: false }));
+        Object.assign(this, told);
     }
 }
 
-// A decoder has parts that are not read to their end, linked by `next`; the state of the module's decoder; and a row of pieces that this
-// gave and nobody has taken. All iterators take from there, so that each piece is given once, in order, whoever asks.
-export class Decoder {
-    #form;
-    #state;
-    #row = NO_PIECES;
-    #front = null;
-    #last = null;
-    // The offset at which all that was fed ends.
-    #end;
-    // Pieces that are asked for at once where invalid bytes are looked for.
-    #most = FEW;
-
-    constructor(encoding = "utf-8", options) {
-        this.#form = formOf(encoding);
-        this.#end = startOf(options);
-        this.#state = codec.newDecoder(this.#form, this.#end);
-    }
-
-    get encoding() {
-        return FORMS[this.#form];
-    }
-
-    get offset() {
-        return this.#row.isTaken ? this.#state.offset : this.#row.offset;
-    }
-
-    get held() {
-        return this.#end - this.offset;
-    }
-
-    feed(part) {
-        return this.#put(new Part(bytesOf(part), false), false);
-    }
-
-    finish() {
-        return this.#put(new Part(NO_BYTES, true), false);
-    }
-
-    feedFaults(part) {
-        return this.#put(new Part(bytesOf(part), false), true);
-    }
-
-    finishFaults() {
-        return this.#put(new Part(NO_BYTES, true), true);
-    }
-
-    // Reads a part up to its first pieces, and keeps the rest. (So what has no invalid bytes is not copied, where they are looked for.)
-    #put(part, isFaults) {
-        const [{ length }, state, row, most] = [part.bytes, this.#state, this.#row, this.#most];
-        if (length > Number.MAX_SAFE_INTEGER - this.#end) throw new RangeError(`noddychest: offsets go up to ${Number.MAX_SAFE_INTEGER}, and this part ends beyond`);
-        try {
-            if (!this.#front) this.#readUntilSome(part, isFaults);
-            if (!part.isOver) part.keep();
-        } catch (error) {
-            this.#state = state;
-            this.#row = row;
-            this.#most = most;
-            throw error;
-        }
-        if (!part.isOver) this.#add(part);
-        this.#end += length;
-        return this.#taken(isFaults);
-    }
-
-    #add(part) {
-        if (this.#front) this.#last.next = part;
-        else this.#front = part;
-        this.#last = part;
-    }
-
-    *#taken(isFaults) {
-        for (let it; (it = this.#next(isFaults)); ) yield it;
-    }
-
-    #next(isFaults) {
-        for (;;) {
-            if (isFaults) this.#row.passText();
-            if (!this.#row.isTaken) return this.#row.take(shown);
-            if (!this.#front) return null;
-            this.#readUntilSome(this.#front, isFaults);
-            if (this.#front.isOver) this.#front = this.#front.next;
-            if (!this.#front) this.#last = null;
-        }
-    }
-
-    #readUntilSome(part, isFaults) {
-        while (this.#row.isTaken && !part.isOver) this.#read(part, isFaults);
-    }
-
-    #read(part, isFaults) {
-        if (isFaults && this.#most === FEW && !this.#state.held && !part.isEnd) this.#skip(part);
-        const told = part.isEnd ? codec.decodeLast(this.#state) : codec.decode(this.#state, part.stand(isFaults ? MEGABYTE : BLOCK), isFaults ? this.#most : ROOM);
-        this.#state = told.state;
-        this.#row = told.row;
-        part.at += told.read;
-        part.isOver = part.at === part.bytes.length && !told.isFull;
-        if (isFaults) this.#passText();
-    }
-
-    // (where invalid bytes are dense, more pieces are asked for at once)
-    #passText() {
-        const { faults, count } = this.#row;
-        this.#most = faults > count / 8 ? Math.min(2 * this.#most, ROOM) : FEW;
-        this.#row.passText();
-    }
-
-    // Passes valid text over: a decoder that holds nothing may as well begin after it.
-    #skip(part) {
-        const len = codec.validFrom(this.#form, part.stand(MEGABYTE));
-        if (!len) return;
-        this.#state = codec.newDecoder(this.#form, this.#state.offset + len);
-        part.at += len;
-    }
-}
-
-// The text of whole pieces, in one way or another.
-function textOf(bytes, form, way) {
-    const units = joined(codec.recode(form, UTF16LE, bytes, { mode: way }));
-    const decoder = new TextDecoder("utf-16le", own({ ignoreBOM: true }));
+// Whether a string of this length is possible here. (one that repeats another takes no memory for its units)
+function fitsInString(units) {
+    if (units <= UNITS) return true;
     try {
-        return decoder.decode(units, own({ stream: false }));
+        return Boolean("ab".repeat(Math.floor(units / 2)) + "a".repeat(units % 2));
     } catch {
-        // (these units are valid: V8 says of those that fit in no string that they are not)
-        throw new RangeError(`noddychest: a text of ${units.length / 2} units of UTF-16 is too long for a string here: take streamText, or recode`);
+        return false;
     }
 }
 
-export function decode(data, encoding = "utf-8", options) {
-    const [form, way, bytes] = [formOf(encoding), wayOf(options), bytesOf(data)];
-    const found = [...faultsIn(bytes, form, way === STRICT ? { most: 1 } : {})];
-    if (way === STRICT && found.length) throw new FaultError(found[0], form);
-    return { text: textOf(bytes, form, way === STRICT ? REPLACE : way), faults: found };
-}
+const tooLong = (units) => new RangeError(`noddychest: a text of ${units} units of UTF-16 is too long for a string here: take streamText, or recode`);
 
-// The parts of a stream, or of anything that one can go through. A stream that is left before its end is told so.
+// The parts of a stream or of any iterable. A stream that is left before its end is cancelled.
 async function* partsOf(stream) {
     if (typeof stream?.getReader !== "function") {
         if (ArrayBuffer.isView(stream) || (!stream?.[Symbol.asyncIterator] && !stream?.[Symbol.iterator])) throw new TypeError("noddychest: a stream is a ReadableStream, or another iterable, of bytes in parts");
@@ -605,43 +137,504 @@ async function* partsOf(stream) {
     }
 }
 
-// How many of some bytes are decided, when more may follow: all but the beginning of a character at the end, with what is after it. Three
-// at most are not.
-function decidedOf(bytes, form) {
-    const start = startBefore(bytes.length, 2 * SEEN, form);
-    codec.fill(bytes.subarray(start), form);
-    const open = codec.pieces(0, codec.len).find((it) => it.place > codec.len - SEEN && (it.kind === TOO_FEW || it.kind === INCOMPLETE));
-    return open ? start + open.place : bytes.length;
-}
-
-// The input of a stream in windows: the bytes, how many of them are decided, and the offset at which they begin.
-async function* windowsOf(stream, form) {
-    let [base, held] = [0, new Uint8Array(0)];
-    for await (const part of partsOf(stream)) {
-        const bytes = joined([held, bytesOf(part)]);
-        const end = decidedOf(bytes, form);
-        if (end) yield { bytes, end, base };
-        [base, held] = [base + end, bytes.slice(end)];
+// The calls over one instance of the module, which no others use.
+export function callsOf(codec) {
+    // A piece of the codec, which began at the offset `base`, as callers see it.
+    function shown({ place, len, scalar, kind }, base = 0) {
+        const isValid = kind === OK;
+        return { offset: base + place, length: len, char: isValid ? String.fromCodePoint(scalar) : null, error: isValid ? null : codec.names[kind] };
     }
-    if (held.length) yield { bytes: held, end: held.length, base };
-}
 
-export async function* streamPieces(stream, encoding = "utf-8") {
-    const form = formOf(encoding);
-    for await (const { bytes, end, base } of windowsOf(stream, form)) yield* piecesIn(bytes, form, base, end);
-}
-
-export async function* streamFaults(stream, encoding = "utf-8") {
-    const form = formOf(encoding);
-    for await (const { bytes, end, base } of windowsOf(stream, form)) yield* faultsIn(bytes, form, { base, end });
-}
-
-export async function* streamText(stream, encoding = "utf-8", options) {
-    const [form, way] = [formOf(encoding), wayOf(options)];
-    for await (const { bytes, end, base } of windowsOf(stream, form)) {
-        const found = [...faultsIn(bytes, form, { base, end, ...(way === STRICT ? { most: 1 } : {}) })];
-        const stop = way === STRICT && found.length ? found[0].offset - base : end;
-        if (stop) yield { offset: base, text: textOf(bytes.subarray(0, stop), form, way === STRICT ? REPLACE : way), faults: way === STRICT ? [] : found };
-        if (stop < end) throw new FaultError(found[0], form);
+    function sentence(error) {
+        const kind = codec.names.indexOf(error);
+        if (kind <= OK || kind >= NONE) throw new RangeError(`noddychest: no error has the name ${String(error)}`);
+        return codec.sentences[kind];
     }
+
+    // The pieces of some bytes that begin before `end`, with offsets from `base` on.
+    function* piecesIn(bytes, form, base = 0, end = bytes.length) {
+        const { length } = bytes;
+        for (let at = 0; at < end; ) {
+            hold(bytes.length === length);
+            const isLast = length - at <= BLOCK;
+            codec.fill(partOf(bytes, at, at + BLOCK), form);
+            const stop = Math.min(isLast ? codec.len : BLOCK - SEEN + 1, end - at);
+            // (a copy, of which objects are made one by one: such as live for a block cost more)
+            const row = codec.copies(codec.run(0).count);
+            let place = 0;
+            while (place < stop) {
+                const piece = row.take(place);
+                hold(bytes.length === length);
+                yield shown(piece, base + at);
+                place += piece.len;
+            }
+            at += place;
+        }
+    }
+
+    // The invalid ones of the pieces; the setting is about how many one call looks for.
+    function* faultsIn(bytes, form, settings) {
+        const { base = 0, end = bytes.length, most = BLOCK } = own(settings);
+        const { length } = bytes;
+        let [begin, front, filled, limit] = [0, 0, 0, 0];
+        while (begin + front < end) {
+            hold(bytes.length === length);
+            if (!codec.holds(filled) || front === limit) {
+                [begin, front] = [begin + front, 0];
+                filled = codec.fill(partOf(bytes, begin, begin + MEGABYTE), form);
+                // (the kind of a piece depends on the bytes after it: those at the end of this window come again)
+                limit = begin + codec.len === length ? codec.len : codec.boundary(codec.len - SEEN);
+            }
+            const block = [];
+            const told = codec.faults(front, most, (place, len, kind) => place < limit && begin + place < end && block.push(shown({ place, len, scalar: 0, kind }, base + begin)));
+            front = Math.min(told, limit);
+            for (const it of block) {
+                hold(bytes.length === length);
+                yield it;
+            }
+        }
+    }
+
+    const pieces = (data, encoding = "utf-8") => piecesIn(...textOfForm(data, encoding));
+
+    const piecesBack = (data, encoding = "utf-8") => piecesBefore(...textOfForm(data, encoding));
+
+    function* piecesBefore(bytes, form) {
+        const { length } = bytes;
+        for (let back = length; back > 0; ) {
+            hold(bytes.length === length);
+            const base = startBefore(back, BLOCK, form);
+            codec.fill(partOf(bytes, base, back), form);
+            const [block, left] = [[], { front: 0, back: codec.len }];
+            while (left.back > 0 && (base === 0 || left.back >= SEEN)) block.push(shown(codec.step("B", left), base));
+            back = base + left.back;
+            for (const it of block) {
+                hold(bytes.length === length);
+                yield it;
+            }
+        }
+    }
+
+    class Ends {
+        #bytes;
+        #form;
+        #length;
+        #front = 0;
+        #back;
+
+        constructor(data, encoding = "utf-8") {
+            [this.#bytes, this.#form] = textOfForm(data, encoding);
+            this.#back = this.#length = this.#bytes.length;
+        }
+
+        // One piece, decoded only from the bytes near that end.
+        #step(letter, from, to) {
+            codec.fill(this.#part(from, to), this.#form);
+            const left = { front: 0, back: codec.len };
+            const piece = codec.step(letter, left);
+            if (piece.kind === NONE) return null;
+            const made = shown(piece, from);
+            if (letter === "F") this.#front += piece.len;
+            else this.#back -= piece.len;
+            return made;
+        }
+
+        next() {
+            return this.#step("F", this.#front, Math.min(this.#front + SEEN, this.#back));
+        }
+
+        nextBack() {
+            return this.#step("B", Math.max(startBefore(this.#back, SEEN, this.#form), this.#front), this.#back);
+        }
+
+        // (code that V8 optimized may see the old length of an array that was detached, and then this throws)
+        #part(from, to) {
+            hold(this.#bytes.length === this.#length);
+            try {
+                return partOf(this.#bytes, from, to);
+            } catch {
+                return hold(false);
+            }
+        }
+
+        get remaining() {
+            return this.#part(this.#front, this.#back);
+        }
+    }
+
+    const faults = (data, encoding = "utf-8") => faultsIn(...textOfForm(data, encoding));
+
+    const firstFault = (data, encoding = "utf-8") => faultsIn(...textOfForm(data, encoding), { most: 1 }).next().value ?? null;
+
+    const isValid = (data, encoding) => firstFault(data, encoding) === null;
+
+    // Takes a window of the bytes, at most so long. Returns the boundary at which it ends.
+    function windowEnd(bytes, at, size, form) {
+        codec.fill(partOf(bytes, at, at + size), form);
+        return at + codec.len === bytes.length ? codec.len : codec.boundary(codec.len - SEEN);
+    }
+
+    // The sum of a call's results over consecutive windows that end at boundaries.
+    function summed(bytes, form, call) {
+        let sum = 0;
+        for (let at = 0; at < bytes.length; ) {
+            const end = windowEnd(bytes, at, MEGABYTE, form);
+            sum += call(partOf(bytes, at, at + end), end, at);
+            at += end;
+        }
+        return sum;
+    }
+
+    const charCount = (data, encoding = "utf-8") => summed(...textOfForm(data, encoding), (_, end) => codec.countBetween(0, end));
+
+    function recodedLength(data, from, to) {
+        const [form, target] = [formOf(from), formOf(to)];
+        return recodedLengthOf(bytesOf(data), form, target);
+    }
+
+    const recodedLengthOf = (bytes, form, target) => summed(bytes, form, (part) => {
+        codec.fill(part, form);
+        return codec.recodedLength(target);
+    });
+
+    // Takes the bytes near an offset, which decide the pieces there. Returns where they begin.
+    function standNear(bytes, place, form) {
+        const start = startBefore(place, 2 * SEEN, form);
+        codec.fill(partOf(bytes, start, place + 2 * SEEN), form);
+        return start;
+    }
+
+    // An offset near another, which `find` returns for one in the bytes near it.
+    function offsetNear(data, at, encoding, find) {
+        const [bytes, form, place] = [...textOfForm(data, encoding), wholeOf(at)];
+        if (place >= bytes.length) return bytes.length;
+        const start = standNear(bytes, place, form);
+        return start + find(place - start);
+    }
+
+    const boundaryBefore = (data, at, encoding = "utf-8") => offsetNear(data, at, encoding, (place) => codec.boundary(place));
+    const boundaryAfter = (data, at, encoding = "utf-8") => offsetNear(data, at, encoding, (place) => codec.boundary(place, true));
+    const shardEnd = (data, at, encoding = "utf-8") => offsetNear(data, at, encoding, (place) => codec.shardEnd(place));
+
+    // The offset of the piece with a number: counted window by window, of which the first is short.
+    function offsetOf(data, number, encoding = "utf-8") {
+        const [bytes, form] = textOfForm(data, encoding);
+        let [left, size] = [wholeOf(number), BLOCK];
+        for (let at = 0; at < bytes.length; size = Math.min(2 * size, MEGABYTE)) {
+            const end = windowEnd(bytes, at, size, form);
+            const count = codec.countBetween(0, end);
+            if (left < count) return at + codec.offsetOf(left);
+            left -= count;
+            at += end;
+        }
+        return null;
+    }
+
+    // (what is far after an offset does not change what begins before it)
+    function numberOf(data, offset, encoding = "utf-8") {
+        const [[bytes, form], place] = [textOfForm(data, encoding), wholeOf(offset)];
+        return summed(partOf(bytes, 0, place + 2 * SEEN), form, (_, end, at) => codec.numberOf(Math.max(Math.min(place - at, end), 0)));
+    }
+
+    // (the bytes near each end decide)
+    function changedRange(data, start, end, encoding = "utf-8") {
+        const [bytes, form] = textOfForm(data, encoding);
+        const last = Math.min(wholeOf(end), bytes.length);
+        const [before, after] = [Math.min(wholeOf(start), last), last].map((place) => {
+            const base = standNear(bytes, place, form);
+            const range = codec.changedRange(place - base);
+            return { start: base + range.start, end: base + range.end };
+        });
+        return { start: before.start, end: after.end };
+    }
+
+    // (the last bytes decide)
+    function undecidedLength(data, encoding = "utf-8") {
+        const [bytes, form] = textOfForm(data, encoding);
+        codec.fill(partOf(bytes, startBefore(bytes.length, 2 * SEEN, form)));
+        return codec.undecidedLength(form);
+    }
+
+    function encodingOfBom(data) {
+        codec.fill(partOf(bytesOf(data), 0, SEEN));
+        const mark = codec.formOfBom();
+        return mark && { encoding: FORMS[mark.form], length: mark.len };
+    }
+
+    // The output of a recoder for these bytes, whose first one is at an offset of the input; the input ends after the last ones. It throws in
+    // strict mode at the first invalid byte.
+    function recoded(state, bytes, settings) {
+        const { form, mode, base = 0, isLast } = own(settings);
+        const chunks = [];
+        const { fault } = codec.feed(state, bytes, chunks, { mode, isLast });
+        if (fault) throw new FaultError(shown(fault, base), FORMS[form]);
+        return joined(chunks);
+    }
+
+    function recode(data, from, to, options) {
+        const [form, target, mode] = [formOf(from), formOf(to), wayOf(options)];
+        return recoded(codec.newRecoder(form, target), bytesOf(data), { form, mode, isLast: true });
+    }
+
+    class Recoder {
+        #from;
+        #way;
+        #state;
+        #count = 0;
+
+        constructor(from, to, options) {
+            const forms = [formOf(from), formOf(to)];
+            this.#from = forms[0];
+            this.#way = wayOf(options);
+            this.#state = codec.newRecoder(...forms);
+        }
+
+        get replaced() {
+            return codec.replacedBy(this.#state);
+        }
+
+        // (if it throws, nothing has changed)
+        #put(bytes, isLast) {
+            const [state, end] = [copyOf(this.#state), this.#count + bytes.length];
+            const made = recoded(state, bytes, { form: this.#from, mode: this.#way, base: this.#count, isLast });
+            this.#state = state;
+            this.#count = end;
+            return made;
+        }
+
+        feed(data) {
+            return this.#put(bytesOf(data), false);
+        }
+
+        finish() {
+            return this.#put(NO_BYTES, true);
+        }
+    }
+
+    function recoderStream(from, to, options) {
+        const recoder = new Recoder(from, to, options);
+        const put = (bytes, controller) => bytes.length && controller.enqueue(bytes);
+        const feed = (part, controller) => void put(recoder.feed(part), controller);
+        const finish = (controller) => void put(recoder.finish(), controller);
+        return new TransformStream(own({ transform: feed, flush: finish }));
+    }
+
+    // A part of the input that a decoder reads, or the end of the input, which has no bytes.
+    class Part {
+        at = 0;
+        isOver = false;
+        base = 0;
+        filled = 0;
+        next = null;
+
+        constructor(bytes, isEnd) {
+            this.bytes = bytes;
+            this.isEnd = isEnd;
+        }
+
+        // Copies what is left to read, so that it does not matter what becomes of the caller's buffer.
+        keep() {
+            this.bytes = new Uint8Array(partOf(this.bytes, this.at));
+            [this.base, this.at] = [this.base - this.at, 0];
+        }
+
+        // The offset of the rest in the module's memory, to which up to `size` bytes are copied in one step.
+        stand(size) {
+            if (!codec.holds(this.filled) || this.at === this.base + codec.len) {
+                this.filled = codec.fill(partOf(this.bytes, this.at, this.at + size));
+                this.base = this.at;
+            }
+            return this.at - this.base;
+        }
+    }
+
+    // A decoder has parts that are not read to their end, linked by `next`; the state of the module's decoder; and a row of pieces that this
+    // gave and nobody has taken. All iterators take from there, so that each piece is given once, in order, whoever asks.
+    class Decoder {
+        #form;
+        #state;
+        #row = NO_PIECES;
+        #front = null;
+        #last = null;
+        // The offset at which all that was fed ends.
+        #end;
+        // How many pieces one call asks for in a search for invalid bytes.
+        #most = FEW;
+
+        constructor(encoding = "utf-8", options) {
+            this.#form = formOf(encoding);
+            this.#end = startOf(options);
+            this.#state = codec.newDecoder(this.#form, this.#end);
+        }
+
+        get encoding() {
+            return FORMS[this.#form];
+        }
+
+        get offset() {
+            return this.#row.isTaken ? this.#state.offset : this.#row.offset;
+        }
+
+        get held() {
+            return this.#end - this.offset;
+        }
+
+        feed(part) {
+            return this.#put(new Part(bytesOf(part), false), false);
+        }
+
+        finish() {
+            return this.#put(new Part(NO_BYTES, true), false);
+        }
+
+        feedFaults(part) {
+            return this.#put(new Part(bytesOf(part), false), true);
+        }
+
+        finishFaults() {
+            return this.#put(new Part(NO_BYTES, true), true);
+        }
+
+        // Reads a part up to its first pieces, and keeps the rest. (So what has no invalid bytes is not copied, if they are looked for.)
+        #put(part, isFaults) {
+            const [{ length }, state, row, most] = [part.bytes, this.#state, this.#row, this.#most];
+            if (length > Number.MAX_SAFE_INTEGER - this.#end) throw new RangeError(`noddychest: offsets go up to ${Number.MAX_SAFE_INTEGER}, and this part ends beyond`);
+            let given;
+            try {
+                if (!this.#front) this.#readUntilSome(part, isFaults);
+                if (!part.isOver) part.keep();
+                given = this.#taken(isFaults);
+            } catch (error) {
+                this.#state = state;
+                this.#row = row;
+                this.#most = most;
+                throw error;
+            }
+            // (from here on nothing is called: on stack overflow that would throw with half of it done)
+            if (!part.isOver) {
+                if (this.#front) this.#last.next = part;
+                else this.#front = part;
+                this.#last = part;
+            }
+            this.#end += length;
+            return given;
+        }
+
+        *#taken(isFaults) {
+            for (let it; (it = this.#next(isFaults)); ) yield it;
+        }
+
+        #next(isFaults) {
+            for (;;) {
+                if (isFaults) this.#row.passText();
+                if (!this.#row.isTaken) return this.#row.take(shown);
+                if (!this.#front) return null;
+                this.#readUntilSome(this.#front, isFaults);
+                if (this.#front.isOver) this.#front = this.#front.next;
+                if (!this.#front) this.#last = null;
+            }
+        }
+
+        #readUntilSome(part, isFaults) {
+            while (this.#row.isTaken && !part.isOver) this.#read(part, isFaults);
+        }
+
+        #read(part, isFaults) {
+            if (isFaults && this.#most === FEW && !this.#state.held && !part.isEnd) this.#skip(part);
+            const told = part.isEnd ? codec.decodeLast(this.#state) : codec.decode(this.#state, part.stand(isFaults ? MEGABYTE : BLOCK), isFaults ? this.#most : ROOM);
+            this.#state = told.state;
+            this.#row = told.row;
+            part.at += told.read;
+            part.isOver = part.at === part.bytes.length && !told.isFull;
+            if (isFaults) this.#passText();
+        }
+
+        // (if invalid bytes are dense, one call asks for more pieces)
+        #passText() {
+            const { faults, count } = this.#row;
+            this.#most = faults > count / 8 ? Math.min(2 * this.#most, ROOM) : FEW;
+            this.#row.passText();
+        }
+
+        // Passes valid text over: a decoder that holds nothing may as well begin after it.
+        #skip(part) {
+            const len = codec.validFrom(this.#form, part.stand(MEGABYTE));
+            if (!len) return;
+            this.#state = codec.newDecoder(this.#form, this.#state.offset + len);
+            part.at += len;
+        }
+    }
+
+    // Throws if the text of some bytes fits in no string: they are counted only if there are very many.
+    function holdLength(bytes, form, way) {
+        if (fitsInString(form === UTF8 ? bytes.length : Math.ceil(bytes.length / 2))) return;
+        const units = (way === LOSSY ? codec.feed(codec.newRecoder(form, UTF16LE), bytes, null, { mode: way, isLast: true }).total : recodedLengthOf(bytes, form, UTF16LE)) / 2;
+        if (!fitsInString(units)) throw tooLong(units);
+    }
+
+    // The text of whole pieces, in one way or another.
+    function textOf(bytes, form, way) {
+        const units = recoded(codec.newRecoder(form, UTF16LE), bytes, { form, mode: way, isLast: true });
+        const decoder = new TextDecoder("utf-16le", own({ ignoreBOM: true }));
+        let text = "";
+        try {
+            for (let at = 0; at < units.length; at += AT_ONCE) text += decoder.decode(partOf(units, at, at + AT_ONCE), own({ stream: at + AT_ONCE < units.length }));
+        } catch {
+            // (these units are valid: V8 says of those that fit in no string that they are not)
+            throw tooLong(units.length / 2);
+        }
+        return text;
+    }
+
+    function decode(data, encoding = "utf-8", options) {
+        const [form, way, bytes] = [formOf(encoding), wayOf(options), unshared(bytesOf(data))];
+        const fault = way === STRICT ? faultsIn(bytes, form, { most: 1 }).next().value : undefined;
+        if (fault) throw new FaultError(fault, FORMS[form]);
+        holdLength(bytes, form, way);
+        return { text: textOf(bytes, form, way), faults: way === STRICT ? [] : [...faultsIn(bytes, form)] };
+    }
+
+    // How many of some bytes are decided, when more may follow: all but the beginning of a character at the end, with what is after it. Three
+    // at most are not.
+    function decidedOf(bytes, form) {
+        const start = startBefore(bytes.length, 2 * SEEN, form);
+        codec.fill(partOf(bytes, start), form);
+        const open = codec.pieces(0, codec.len).find((it) => it.place > codec.len - SEEN && (it.kind === TOO_FEW || it.kind === INCOMPLETE));
+        return open ? start + open.place : bytes.length;
+    }
+
+    // The input of a stream in windows: the bytes, how many of them are decided, and the offset at which they begin.
+    async function* windowsOf(stream, form) {
+        let [base, held] = [0, new Uint8Array(0)];
+        for await (const part of partsOf(stream)) {
+            const bytes = joined([held, bytesOf(part)]);
+            const end = decidedOf(bytes, form);
+            if (end) yield { bytes, end, base };
+            [base, held] = [base + end, copyOf(bytes, end)];
+        }
+        if (held.length) yield { bytes: held, end: held.length, base };
+    }
+
+    async function* streamPieces(stream, encoding = "utf-8") {
+        const form = formOf(encoding);
+        for await (const { bytes, end, base } of windowsOf(stream, form)) yield* piecesIn(bytes, form, base, end);
+    }
+
+    async function* streamFaults(stream, encoding = "utf-8") {
+        const form = formOf(encoding);
+        for await (const { bytes, end, base } of windowsOf(stream, form)) yield* faultsIn(bytes, form, { base, end });
+    }
+
+    async function* streamText(stream, encoding = "utf-8", options) {
+        const [form, way] = [formOf(encoding), wayOf(options)];
+        for await (const { bytes, end, base } of windowsOf(stream, form)) {
+            const found = [...faultsIn(bytes, form, { base, end, ...(way === STRICT ? { most: 1 } : {}) })];
+            const stop = way === STRICT && found.length ? found[0].offset - base : end;
+            holdLength(partOf(bytes, 0, stop), form, way);
+            if (stop) yield { offset: base, text: textOf(partOf(bytes, 0, stop), form, way), faults: way === STRICT ? [] : found };
+            if (stop < end) throw new FaultError(found[0], FORMS[form]);
+        }
+    }
+
+    return { Decoder, Ends, FaultError, Recoder, boundaryAfter, boundaryBefore, changedRange, charCount, decode, encodingOfBom, faults, firstFault, isValid, numberOf, offsetOf, pieces, piecesBack, recode, recodedLength, recoderStream, sentence, shardEnd, streamFaults, streamPieces, streamText, undecidedLength };
 }

@@ -1,42 +1,42 @@
-// The calls of the proved module, as plain numbers. This is the one file that knows their names and what stands where. There are two
-// modules with the same calls: one with vectors, and one for who has none.
+// The calls of the proved module, as plain numbers. This is the only file that knows their names and the layout of the memory. There
+// are two modules with the same calls: one with SIMD, and one for engines without.
 //
-// Offsets and lengths are in bytes, in UTF-16 too. Big-endian UTF-16 stands in the module's memory as it came until a call needs units: then
-// it is made little-endian, and the bytes as they came are made again where somebody asks for them.
+// Offsets and lengths are in bytes, in UTF-16 too. Big-endian UTF-16 stays in the module's memory as it came until a call needs code
+// units: then it is swapped to little-endian, and swapped back if somebody asks for the bytes.
 //
-// The module's memory has a fixed size of 16 MiB. After its own stack and constants stand, from __heap_base on: a cursor, an answer,
-// two lengths, a recoder or decoder and a fault; room for pieces; a part that is recoded; the caller's bytes; and room for what parts become.
+// The module's memory has a fixed size of 16 MiB. After its own stack and constants, from __heap_base on, it has: a cursor, a result,
+// two lengths, a recoder or decoder and a fault; a buffer for pieces; a part to transcode; the caller's bytes; and the output buffer.
+
+import { copyOf, own, partOf, setBytes } from "./bytes.js";
 
 export const OK = 0;
 // The kinds that more bytes may change: of a character that the end cuts off, in UTF-8 and in UTF-16.
 export const TOO_FEW = 1;
 export const INCOMPLETE = 10;
 export const NONE = 11;
-// The status of a call whose room is full, and of a strict one that stopped at an invalid byte, or unit.
+// The status of a call whose buffer is full, and of a strict one that stopped at an invalid byte, or unit.
 const [FULL, FAULT] = [1, 3];
 export const FORMS = ["utf-8", "utf-16le", "utf-16be"];
 export const [UTF8, UTF16LE, UTF16BE] = [0, 1, 2];
-// The most bytes that can be filled in at once.
+// The most bytes that one call of `fill` takes.
 export const MOST = 10 * 1024 * 1024;
 // A piece depends on no more bytes than these from its first on, or up to its last.
 export const SEEN = 4;
 // What a recoder does with invalid bytes: one U+FFFD for each; one for each maximal subpart; or it stops at the first one.
-export const [REPLACE, MAXIMAL, STRICT] = [0, 1, 2];
+export const [REPLACE, LOSSY, STRICT] = [0, 1, 2];
 const MODES = ["", "_lossy", "_strict"];
-// Pieces that are asked for at once where invalid bytes are rare.
+// How many pieces one call asks for if invalid bytes are rare.
 export const FEW = 32;
 const PIECE = 16;
 export const ROOM = 4096;
 const PART = 65536;
 const PART_ROOM = 4 * PART;
-// What parts become stands one after the other, up to about so many bytes, and is copied out at once: each array is new memory, and that
-// takes longer than to recode.
+// The outputs of parts are concatenated up to about this many bytes, and copied out together: each array is new memory, whose allocation
+// takes longer than to transcode.
 const MADE = 4 * 1024 * 1024;
 export const NO_BYTES = new Uint8Array(0);
-// A record without what somebody put into Object.prototype, where all others seem to have it.
-export const own = (record) => ({ __proto__: null, ...record });
-// The size of a recoder, and of a decoder; and where the count of replaced bytes stands in the one, and in the other how many bytes it
-// holds, and its offset.
+// The size of a recoder, and of a decoder; the offset of the count of replaced bytes in the former, and in the latter those of the count
+// of carried-over bytes and of the input's offset.
 const STATE = 16;
 const REPLACED = 8;
 const [HELD, OFFSET] = [1, 8];
@@ -58,7 +58,7 @@ export class Codec {
         this.sentences = this.textsOfKinds(this.calls.nody_put_kind_sentence);
     }
 
-    // (it may end at any place, where the stack is full: so all is as it should be once the last line was reached)
+    // (on stack overflow it may end anywhere: so all is as it should be once the last line was reached)
     use(calls) {
         this.isBroken = true;
         this.calls = this.watched(calls);
@@ -80,8 +80,8 @@ export class Codec {
         this.isBroken = false;
     }
 
-    // The calls, each of which tells if it did not return: where the caller's stack is full, it throws on its way, and the module has lost
-    // for good what it then had of its own stack. Once that has come to its end, no call returns any more.
+    // The calls, each of which notes if it did not return: on stack overflow a call throws midway, and the module has lost for good the part
+    // of its own stack that the call used. Once that stack is used up, no call returns any more.
     watched(calls) {
         const watch = (call) => (...given) => {
             try {
@@ -94,7 +94,7 @@ export class Codec {
         return Object.fromEntries(Object.entries(calls).map(([name, it]) => [name, typeof it === "function" ? watch(it) : it]));
     }
 
-    // Takes a new instance where a call did not return. What stood in the memory is gone.
+    // Takes a new instance if a call did not return. The content of the memory is lost.
     mend() {
         if (this.isBroken && this.another) this.use(this.another());
     }
@@ -102,7 +102,7 @@ export class Codec {
     // Takes these bytes in place of those before. Returns a number that `holds` knows until others are taken.
     fill(bytes, form = UTF8) {
         this.mend();
-        this.memory.set(bytes, this.start);
+        setBytes(this.memory, bytes, this.start);
         this.len = bytes.length;
         this.form = form;
         this.unit = form === UTF8 ? 1 : 2;
@@ -111,16 +111,16 @@ export class Codec {
         return ++this.filled;
     }
 
-    // Whether the bytes of that call of `fill` still stand here.
+    // Whether the bytes of that call of `fill` are still in memory.
     holds(filled) {
         return this.filled === filled && !this.isBroken;
     }
 
     // The bytes as they came.
     get bytes() {
-        if (this.form !== UTF16BE) return this.memory.subarray(this.start, this.start + this.len);
+        if (this.form !== UTF16BE) return partOf(this.memory, this.start, this.start + this.len);
         if (!this.original) {
-            this.original = this.memory.slice(this.start, this.start + this.len);
+            this.original = copyOf(this.memory, this.start, this.start + this.len);
             if (this.isTurned) swap(this.original, 0, this.len);
         }
         return this.original;
@@ -163,34 +163,34 @@ export class Codec {
         view.setUint32(cursor + 12, 0, true);
     }
 
-    // The piece that stands at an address, and begins at an offset of the bytes.
+    // The piece at an address, which begins at an offset of the bytes.
     pieceAt(address, place) {
         const { view } = this;
         return { place, len: this.lengthAt(address), scalar: view.getUint32(address + 8, true), kind: view.getUint8(address + 12) };
     }
 
-    // The length in bytes of the piece that stands at an address.
+    // The length in bytes of the piece at an address.
     lengthAt(address) {
         return this.number(address) * this.unit;
     }
 
-    // The single byte at the end of UTF-16, or, where the input ends before it, no piece.
+    // The single byte at the end of UTF-16, or, if the input ends before it, no piece.
     lastByte(place) {
         return place < this.len ? { place, len: 1, scalar: 0, kind: INCOMPLETE } : { place, len: 0, scalar: 0, kind: NONE };
     }
 
-    // What a call of the module tells of each kind of error: its name, or its sentence, in ASCII up to a zero.
+    // The text that a call of the module has for each kind of error: its name or its sentence, in ASCII up to a NUL.
     textsOfKinds(call) {
         this.view.setBigUint64(this.answer, BigInt(this.room), true);
         return Array.from({ length: NONE + 1 }, (_, kind) => {
             call(kind, this.address(this.answer));
             const text = this.number(this.answer);
-            return String.fromCharCode(...this.memory.subarray(text, this.memory.indexOf(0, text)));
+            return String.fromCharCode(...partOf(this.memory, text, this.memory.indexOf(0, text)));
         });
     }
 
-    // Puts into the room the pieces that begin at `front`, so many at most; returns how many and where they end. The single byte at
-    // the end of UTF-16 is in no room.
+    // Writes the pieces that begin at `front` to the buffer, at most `most`; returns how many and where they end. The single byte at
+    // the end of UTF-16 is not written.
     run(front, most = ROOM) {
         const call = this.form === UTF8 ? this.calls.nody_utf8_pieces : this.calls.nody_utf16_pieces;
         this.setCursor(front, Math.max(front, this.whole));
@@ -198,16 +198,16 @@ export class Codec {
         return { count: Number(count), end: this.number(this.cursor) - this.start };
     }
 
-    // How many of the pieces in the room are invalid bytes.
+    // How many of the pieces in the buffer are invalid bytes.
     faultsInRoom(count) {
         let faults = 0;
         for (let at = this.room + 12, end = at + count * PIECE; at < end; at += PIECE) faults += this.memory[at] !== OK;
         return faults;
     }
 
-    // Copies of so many pieces that stand in the room.
+    // Copies of the first `count` pieces in the buffer.
     copies(count) {
-        return new Copies(this.memory.buffer.slice(this.room, this.room + count * PIECE), this.unit);
+        return new Copies(copyOf(this.memory, this.room, this.room + count * PIECE).buffer, this.unit);
     }
 
     // The pieces from an offset at which one begins, as far as they begin before another, and end after a third.
@@ -227,8 +227,8 @@ export class Codec {
         return found;
     }
 
-    // The invalid bytes from an offset on at which a piece begins, so many at most, each told as its offset, length and kind, and the
-    // offset up to which all were told. Valid text is skipped as fast as it is validated.
+    // Finds invalid bytes from a boundary on, at most `most`; calls `tell` with the offset, length and kind of each, and returns the
+    // offset up to which all were reported. Valid text is skipped as fast as it is validated.
     faults(front, most, tell) {
         let [at, size] = [front, FEW];
         for (let left = most; at < this.whole; ) {
@@ -237,7 +237,7 @@ export class Codec {
             const { count, end } = this.run(at, Math.min(size, left));
             const found = this.tellFaults(count, at, tell);
             left -= found;
-            // (where invalid bytes are dense, more pieces are asked for at once)
+            // (if invalid bytes are dense, one call asks for more pieces)
             size = found > count / 8 ? Math.min(2 * size, ROOM) : FEW;
             at = end;
         }
@@ -284,7 +284,7 @@ export class Codec {
         return this.pieceAt(this.answer, place);
     }
 
-    // The offset of the first invalid byte from an offset on at which a piece begins, or the length where there is none.
+    // The offset of the first invalid byte from an offset on at which a piece begins, or the length if there is none.
     validUpTo(front = 0) {
         if (this.standing === UTF16BE) return front + this.validFrom(UTF16BE, front, Math.max(this.whole, front));
         const call = this.form === UTF8 ? this.calls.nody_utf8_valid_up_to : this.calls.nody_utf16_valid_up_to;
@@ -297,7 +297,7 @@ export class Codec {
         return Number(this.calls.nody_char_count(this.standing, this.address(this.start + front), BigInt(back - front)));
     }
 
-    // Where the piece with a number begins, of those that are there.
+    // The offset of the piece with a number, of those that are there.
     offsetOf(number) {
         return Number(this.calls.nody_offset_of(this.standing, this.address(this.start), BigInt(this.len), BigInt(number)));
     }
@@ -320,15 +320,20 @@ export class Codec {
         return Number(call(this.standing, this.address(this.start), BigInt(this.len), BigInt(at)));
     }
 
-    // How many bytes at the end of these depend on what follows, in a form. (They have to stand as they came: `fill` was given no form.)
+    // The last offset up to `at` that lies in no character, no maximal subpart and no unit.
+    shardEnd(at) {
+        return Number(this.calls.nody_shard_end(this.standing, this.address(this.start), BigInt(this.len), BigInt(at)));
+    }
+
+    // How many bytes at the end of these depend on what follows, in an encoding. (The bytes must be as they came: `fill` got no encoding.)
     undecidedLength(form) {
         return Number(this.calls.nody_undecided_len(form, this.address(this.start), BigInt(this.len)));
     }
 
-    // The form that a byte order mark at the front tells, and the length of the mark; null where there is none. (They have to stand as they
+    // The encoding that a byte order mark at the front names, and the length of the mark; null if there is none. (The bytes must be as they
     // came, too.)
     formOfBom() {
-        const len = Number(this.calls.nody_form_of_bom(this.address(this.start), BigInt(this.len), this.address(this.answer)));
+        const len = Number(this.calls.nody_encoding_of_bom(this.address(this.start), BigInt(this.len), this.address(this.answer)));
         return len ? { form: this.view.getUint8(this.answer), len } : null;
     }
 
@@ -341,7 +346,7 @@ export class Codec {
     newRecoder(from, to) {
         this.mend();
         this.calls.nody_recoder(this.address(this.state), from, to);
-        return this.memory.slice(this.state, this.state + STATE);
+        return copyOf(this.memory, this.state, this.state + STATE);
     }
 
     // How many invalid bytes, or units, a recoder has replaced.
@@ -349,19 +354,20 @@ export class Codec {
         return Number(new DataView(state.buffer).getBigUint64(REPLACED, true));
     }
 
-    // Feeds bytes to a recoder, and puts what comes of them into `chunks`, up to about so many bytes, or, where it is strict, up to the
-    // first invalid byte. Returns how many were fed, and that byte or null. Where these bytes are the last ones, the input ends after them.
-    // (Calls that are not strict take one argument less: the last is passed over.)
+    // Feeds bytes to a recoder, and appends its output to `chunks`, if given, up to about `settings.most` bytes, or, in strict mode, up to
+    // the first invalid byte. Returns how many bytes were fed, how many were written, and that invalid byte or null. If these bytes are the
+    // last ones, the input ends after them.
+    // (Calls that are not strict take one argument less: the last is ignored.)
     feed(state, source, chunks, settings) {
         const { most = Infinity, mode = REPLACE, isLast = false } = own(settings);
         this.mend();
         const call = this.calls[`nody_recoder_feed${MODES[mode]}`];
         const [recoder, part, read, written, fault] = [this.state, this.part, this.numbers, this.numbers + 8, this.fault].map(this.address);
-        this.memory.set(state, this.state);
+        setBytes(this.memory, state, this.state);
         let [at, total, made, status] = [0, 0, 0, 0];
         while (at < source.length && total < most && status !== FAULT) {
-            const taken = source.subarray(at, at + PART);
-            this.memory.set(taken, this.part);
+            const taken = partOf(source, at, at + PART);
+            setBytes(this.memory, taken, this.part);
             status = call(recoder, part, BigInt(taken.length), this.address(this.made + made), BigInt(PART_ROOM), read, written, fault);
             at += this.number(this.numbers);
             made += this.number(this.numbers + 8);
@@ -371,19 +377,20 @@ export class Codec {
         if (isLast && at === source.length && status !== FAULT) {
             status = this.calls[`nody_recoder_finish${MODES[mode]}`](recoder, this.address(this.made + made), BigInt(PART_ROOM), written, fault);
             made += this.number(this.numbers + 8);
+            total += this.number(this.numbers + 8);
         }
         this.keep(chunks, made);
-        state.set(this.memory.subarray(this.state, this.state + STATE));
-        return { at, fault: status === FAULT ? this.faultBefore(at) : null };
+        setBytes(state, partOf(this.memory, this.state, this.state + STATE));
+        return { at, total, fault: status === FAULT ? this.faultBefore(at) : null };
     }
 
-    // What a recoder still holds, as no more input follows. Returns the first invalid byte, where it is strict, or null; its place counts
+    // What a recoder still holds, as no more input follows. Returns the first invalid byte, if it is strict, or null; its offset counts
     // from the end of the input.
     finish(state, chunks, mode = REPLACE) {
         return this.feed(state, NO_BYTES, chunks, { mode, isLast: true }).fault;
     }
 
-    // The fault at which a strict call stopped, after so many bytes were read.
+    // The fault at which a strict call stopped, after `read` bytes.
     faultBefore(read) {
         const { fault } = this;
         return { place: read - this.number(fault + 8), len: this.number(fault), kind: this.view.getUint8(fault + 16) };
@@ -397,48 +404,48 @@ export class Codec {
         return this.decoder();
     }
 
-    // The decoder that stands here: the bytes of its struct, how many bytes it holds, and the offset of the first of these or of the next.
+    // The decoder in memory: the bytes of its struct, how many bytes it carries over, and the offset of the first of these or of the next.
     decoder() {
         const { memory, state } = this;
-        return { bytes: memory.slice(state, state + STATE), held: memory[state + HELD], offset: wide(this.view, state + OFFSET) };
+        return { bytes: copyOf(memory, state, state + STATE), held: memory[state + HELD], offset: wide(this.view, state + OFFSET) };
     }
 
-    // Lets a decoder read on from a place of the bytes, as far as so many pieces go. Returns how it is then, how many bytes it read,
+    // Lets a decoder read on from an offset of the bytes, at most `most` pieces. Returns its new state, how many bytes it read,
     // whether more pieces are known, and the pieces.
     decode({ bytes }, from, most) {
         const [decoder, part, room, read, written] = [this.state, this.start + from, this.room, this.numbers, this.numbers + 8].map(this.address);
-        this.memory.set(bytes, this.state);
+        setBytes(this.memory, bytes, this.state);
         const status = this.calls.nody_decoder_feed(decoder, part, BigInt(this.len - from), room, BigInt(most), read, written);
         return { state: this.decoder(), read: this.number(this.numbers), isFull: status === FULL, row: this.row() };
     }
 
-    // The same of what a decoder holds, as its input has ended.
+    // Lets a decoder decode its carried-over bytes at the end of its input; returns what `decode` does.
     decodeLast({ bytes }) {
         this.mend();
         const [decoder, room, written] = [this.state, this.room, this.numbers + 8].map(this.address);
-        this.memory.set(bytes, this.state);
+        setBytes(this.memory, bytes, this.state);
         this.calls.nody_decoder_finish(decoder, room, BigInt(ROOM), written);
         return { state: this.decoder(), read: 0, isFull: false, row: this.row() };
     }
 
-    // The pieces in the room.
+    // The pieces in the buffer.
     row() {
         const count = this.number(this.numbers + 8);
-        return count ? new Row(this.memory.slice(this.room, this.room + count * PIECE)) : NO_PIECES;
+        return count ? new Row(copyOf(this.memory, this.room, this.room + count * PIECE)) : NO_PIECES;
     }
 
-    // How many bytes from a place on, up to another, are valid in a form in which they stand.
+    // The length of the valid text from an offset on, up to another, in an encoding, which is that of the bytes in memory.
     validFrom(form, from, end = this.len) {
         return Number(this.calls.nody_utf16_bytes_valid_up_to(form, this.address(this.start + from), BigInt(end - from)));
     }
 
     // (`slice` would fill the new memory with zeros first, which takes as long as the copy)
     keep(chunks, count) {
-        if (count) chunks.push(new Uint8Array(this.memory.subarray(this.made, this.made + count)));
+        if (count) chunks?.push(new Uint8Array(partOf(this.memory, this.made, this.made + count)));
         return count;
     }
 
-    // These bytes in another form, as chunks; about so many bytes of them where there are more.
+    // These bytes in another encoding, as chunks: all of them, or about `settings.most` bytes of the output.
     recode(from, to, source, settings) {
         const chunks = [];
         this.feed(this.newRecoder(from, to), source, chunks, { ...settings, isLast: true });
@@ -449,7 +456,7 @@ export class Codec {
 // A number below 2^53 of 64 bits.
 const wide = (view, at) => view.getUint32(at, true) + view.getUint32(at + 4, true) * 2 ** 32;
 
-// Pieces without their offsets, as copies of what stood in the room, to be taken one by one.
+// Pieces without their offsets, as copies from the buffer, to be taken one by one.
 class Copies {
     constructor(buffer, unit) {
         this.view = new DataView(buffer);
@@ -495,7 +502,7 @@ class Row {
         return faults;
     }
 
-    // Takes the next one, once it is made as the caller wants it: where that throws, it is not lost.
+    // Takes the next one, once it is made as the caller wants it: if that throws, it is not lost.
     take(made) {
         const { view, at } = this;
         const it = made({ place: wide(view, at), len: view.getUint8(at + 12), scalar: view.getUint32(at + 8, true), kind: view.getUint8(at + 13) });
@@ -525,7 +532,7 @@ export function joined(chunks) {
     const all = new Uint8Array(chunks.reduce((sum, it) => sum + it.length, 0));
     let at = 0;
     for (const it of chunks) {
-        all.set(it, at);
+        setBytes(all, it, at);
         at += it.length;
     }
     return all;

@@ -12,7 +12,7 @@ type Label =
     | "utf-16be" | "utf16be" | "unicodefffe";
 
 /** Why a byte is invalid; in UTF-16, why a unit of 16 bits is, or a single byte at the end. */
-export type ErrorName =
+export type FaultKind =
     /** Fewer bytes are left than the first byte asks for. */
     | "TooFewBytes"
     /** 0xC0, 0xC1 or above 0xF4: no UTF-8 has this byte. */
@@ -38,7 +38,7 @@ export type ErrorName =
  * What an error means, as the library for C says it: of `"OverlongEncoding"` it is "overlong encoding: the value has a shorter code". A name of
  * no error is a `RangeError`. O(1).
  */
-export function sentence(error: ErrorName): string;
+export function sentence(error: FaultKind): string;
 
 /** A character: `length` is 1 to 4 bytes. */
 export interface Character {
@@ -53,20 +53,20 @@ export interface Fault {
     offset: number;
     length: 1 | 2;
     char: null;
-    error: ErrorName;
+    error: FaultKind;
 }
 
 export type Piece = Character | Fault;
 
 /**
  * The pieces of text from the front, one after the other without a gap: characters, and single invalid bytes. The encoding is UTF-8
- * where none is given. O(n). A step throws a `TypeError` where pieces are left and the buffer was detached, or made smaller, since the
+ * if none is given. O(n). A step throws a `TypeError` where pieces are left and the buffer was detached, or made smaller, since the
  * first one. Pieces are looked for 4 KiB ahead: bytes that change meanwhile may be seen as they were.
  */
 export function pieces(data: Bytes, encoding?: Encoding): Generator<Piece, void, undefined>;
 
 /**
- * The same pieces from the back, the last one first. Errors are named by the bytes that are left: the first byte of a damaged
+ * The same pieces from the end, the last one first. Errors are named by the bytes that are left: the first byte of a damaged
  * character is `TooFewBytes`, since what follows it was taken before. O(n).
  */
 export function piecesBack(data: Bytes, encoding?: Encoding): Generator<Piece, void, undefined>;
@@ -74,18 +74,18 @@ export function piecesBack(data: Bytes, encoding?: Encoding): Generator<Piece, v
 /** Takes pieces from both ends, in any order, until they meet; each piece comes once. Each call is O(1). */
 export class Ends {
     constructor(data: Bytes, encoding?: Encoding);
-    /** The next piece from the front, or null where nothing is left. */
+    /** The next piece from the front, or null if nothing is left. */
     next(): Piece | null;
-    /** The next piece from the back, or null where nothing is left. */
+    /** The next piece from the end, or null if nothing is left. */
     nextBack(): Piece | null;
     /** The bytes between both ends, over the same memory. */
     get remaining(): Uint8Array;
 }
 
-/** The invalid bytes alone, in order. Text between them is skipped as fast as `isValid` goes through it. O(n). */
+/** Only the invalid bytes, in order. Text between them is skipped as fast as `isValid` scans it. O(n). */
 export function faults(data: Bytes, encoding?: Encoding): Generator<Fault, void, undefined>;
 
-/** The first invalid byte, or null where there is none. O(n). */
+/** The first invalid byte, or null if there is none. O(n). */
 export function firstFault(data: Bytes, encoding?: Encoding): Fault | null;
 
 /** Whether all of it is valid. O(n). */
@@ -95,21 +95,21 @@ export function isValid(data: Bytes, encoding?: Encoding): boolean;
 export function charCount(data: Bytes, encoding?: Encoding): number;
 
 /**
- * The offset of the piece with that number, counted from 0, or null where there are no more pieces. What is no whole number from 0 on is a
+ * The offset of the piece with that number, counted from 0, or null if there are no more pieces. What is no whole number from 0 on is a
  * `RangeError`. O(n) in the offset.
  */
 export function offsetOf(data: Bytes, number: number, encoding?: Encoding): number | null;
 
 /**
- * How many pieces begin before an offset: where one begins at it, its number, counted from 0. All of them where the offset is the length or
+ * How many pieces begin before an offset: if one begins at it, its number, counted from 0. All of them if the offset is the length or
  * more. What is no whole number from 0 on is a `RangeError`. O(n) in the offset.
  */
 export function numberOf(data: Bytes, offset: number, encoding?: Encoding): number;
 
 /**
- * The part of a text outside of which no piece changes where the bytes from `start` up to `end` are replaced by any others: what to decode
+ * The part of a text outside of which no piece changes if the bytes from `start` up to `end` are replaced by any others: what to decode
  * again after an edit. What was decoded before its start stays, and what was decoded from its end on moves with its bytes. `data` is the
- * text after the edit, with where the new bytes are in it, or the text before it. In UTF-16, where the length changes by an odd number of
+ * text after the edit, with where the new bytes are in it, or the text before it. In UTF-16, if the length changes by an odd number of
  * bytes, all from its start on may change. It begins at most six bytes before `start`, and ends at most six after `end`. Offsets above the
  * length count as the length, and a start above the end as the end; what is no whole number from 0 on is a `RangeError`. O(1).
  */
@@ -125,14 +125,22 @@ export function boundaryBefore(data: Bytes, at: number, encoding?: Encoding): nu
 export function boundaryAfter(data: Bytes, at: number, encoding?: Encoding): number;
 
 /**
+ * Where to cut bytes that are converted in shards: the last offset up to `at` that is not inside a character or a maximal subpart, and in
+ * UTF-16 not inside a 16-bit unit; at most three bytes before `at`. What the shards become, joined, is what the whole becomes, with one
+ * U+FFFD for each invalid byte and with one for each maximal subpart. The length if `at` is beyond it. An `at` that is not a whole number
+ * from 0 on is a `RangeError`. O(1).
+ */
+export function shardEnd(data: Bytes, at: number, encoding?: Encoding): number;
+
+/**
  * How many bytes at the end of a block depend on those that follow, 0 to 3: what a `Decoder` holds that was fed the block. Keep them back,
- * and put them before the next block. All pieces before them are known, with the errors that a `Decoder` gives; where no byte follows, they
+ * and put them before the next block. All pieces before them are known, with the errors that a `Decoder` gives; if no byte follows, they
  * are invalid. The block begins where a character may begin: `undecidedLength(Uint8Array.of(0x61, 0xe2, 0x82))` is 2. O(1).
  */
 export function undecidedLength(data: Bytes, encoding?: Encoding): number;
 
 /**
- * The encoding that a byte order mark at the front tells, and the length of the mark in bytes; null where there is none. The first three
+ * The encoding by a byte order mark at the front, and the length of the mark in bytes; null if there is none. The first three
  * bytes are enough. UTF-32LE begins with the mark of UTF-16LE, and is taken for that. Of `FF FE 61 00` it is
  * `{ encoding: "utf-16le", length: 2 }`. O(1).
  */
@@ -140,23 +148,25 @@ export function encodingOfBom(data: Bytes): { encoding: "utf-8" | "utf-16le" | "
 
 export interface RecodeOptions {
     /**
-     * What to do with invalid bytes. `"replace"`, the default, puts one U+FFFD, the replacement character, for each. `"maximal"` puts one for
+     * What to do with invalid bytes. `"replace"`, the default, puts one U+FFFD, the replacement character, for each. `"lossy"` puts one for
      * each maximal subpart, as `TextDecoder` does. `"strict"` throws a `FaultError` at the first one.
      */
-    errors?: "replace" | "maximal" | "strict" | undefined;
-    /** The same as `errors: "strict"`, by the name that `TextDecoder` has for it; false by default. */
+    errors?: "replace" | "lossy" | "strict" | undefined;
+    /** `errors: "strict"`, by its name in `TextDecoder`; false by default. */
     fatal?: boolean | undefined;
 }
 
 /** That text which had to be valid is not. */
 export class FaultError extends TypeError {
+    /** Made of a fault, as `firstFault` gives it, and its encoding. What is no fault is a `TypeError`. */
+    constructor(fault: { offset: number; length: number; error: FaultKind }, encoding?: Encoding);
     /** Where it begins, in bytes from the front of all that was given. */
     readonly offset: number;
-    /** How many bytes are invalid: 1 in UTF-8; in UTF-16 2, or 1 where the text ends inside a unit. */
+    /** How many bytes are invalid: 1 in UTF-8; in UTF-16 2, or 1 if the text ends inside a unit. */
     readonly length: number;
-    readonly error: ErrorName;
+    readonly error: FaultKind;
     /** The same three. Of an error `structuredClone` and `postMessage` keep the message, which has the offset, and in most engines the cause. */
-    readonly cause: { offset: number; length: number; error: ErrorName };
+    readonly cause: { offset: number; length: number; error: FaultKind };
 }
 
 /**
@@ -170,12 +180,12 @@ export function recodedLength(data: Bytes, from: Encoding, to: Encoding): number
 
 /**
  * The text as a string, and the list of what was wrong, one entry for each invalid byte. A byte order mark stays in the text. A text that is
- * longer than a string can be (in V8 about 2^29 units of UTF-16) is a `RangeError`. O(n).
+ * longer than a string can be (in V8 about 2^29 units of UTF-16) is a `RangeError`, before any of it is made. O(n).
  */
 export function decode(data: Bytes, encoding?: Encoding, options?: RecodeOptions): { text: string; faults: Fault[] };
 
 /**
- * Recodes text that comes in parts. However it is cut into parts, the joined output is that of `recode` on the whole. With `strict` a
+ * Transcodes text that comes in parts. However it is cut into parts, the joined output is that of `recode` on the whole. With `strict` a
  * call throws once it is decided that a byte is invalid, and why; the recoder is then as it was before that call.
  */
 export class Recoder {
@@ -185,7 +195,7 @@ export class Recoder {
     /** What the bytes that are still held become: call it once, after the last part. */
     finish(): Uint8Array;
     /**
-     * How many invalid bytes, or units, were replaced by U+FFFD so far: with `maximal` and `strict` it is 0. A U+FFFD in the input does
+     * How many invalid bytes, or units, were replaced by U+FFFD so far: with `lossy` and `strict` it is 0. A U+FFFD in the input does
      * not count. A number, not a BigInt: exact up to `Number.MAX_SAFE_INTEGER`.
      */
     readonly replaced: number;
@@ -208,7 +218,7 @@ export class Decoder {
     constructor(encoding?: Encoding, options?: { offset?: number | undefined });
     /** The pieces that are decided with this part. Bytes that may still become a character wait for the next one, at most three. O(n). */
     feed(part: Bytes): Generator<Piece, void, undefined>;
-    /** The same, of which it gives the invalid bytes alone: text is passed over as fast as `isValid` goes through it. O(n). */
+    /** Only the invalid bytes among the pieces of `feed`: text is skipped as fast as `isValid` scans it. O(n). */
     feedFaults(part: Bytes): Generator<Fault, void, undefined>;
     /** Ends the input: the pieces of what waits, which are invalid. What is fed after that is other input, and offsets go on. */
     finish(): Generator<Piece, void, undefined>;
@@ -245,7 +255,7 @@ interface Stream {
  */
 export function streamPieces(parts: Parts, encoding?: Encoding): AsyncGenerator<Piece, void, undefined>;
 
-/** The invalid ones alone. Text between them is skipped as fast as `isValid` goes through it. */
+/** Only the invalid bytes among the pieces of `streamPieces`. Text between them is skipped as fast as `isValid` scans it. */
 export function streamFaults(parts: Parts, encoding?: Encoding): AsyncGenerator<Fault, void, undefined>;
 
 /**

@@ -1,2 +1,4 @@
-// Under Node `import` and `require` give the same calls: those of node.cjs, which ./commonjs makes of api.js and codec.js.
-export { Decoder, Ends, FaultError, Recoder, boundaryAfter, boundaryBefore, changedRange, charCount, decode, encodingOfBom, faults, firstFault, isValid, numberOf, offsetOf, pieces, piecesBack, recode, recodedLength, recoderStream, sentence, streamFaults, streamPieces, streamText, undecidedLength } from "./node.cjs";
+// Under Node `import` and `require` give the same calls, over one instance of the module.
+import { calls } from "./in-node.js";
+
+export const { Decoder, Ends, FaultError, Recoder, boundaryAfter, boundaryBefore, changedRange, charCount, decode, encodingOfBom, faults, firstFault, isValid, numberOf, offsetOf, pieces, piecesBack, recode, recodedLength, recoderStream, sentence, shardEnd, streamFaults, streamPieces, streamText, undecidedLength } = calls();

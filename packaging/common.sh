@@ -3,12 +3,12 @@
 
 has() { command -v "$1" >/dev/null 2>&1; }
 
-# The version, which stands in the header alone.
+# The version, which only the header has.
 version() {
     awk '/^#define NODY_VERSION_(MAJOR|MINOR|PATCH) / { out = out dot $3; dot = "." } END { print out }' c/noddychest.h
 }
 
-# The second of which packages say that they were made: of the last commit, or where git tells none, as in a folder of another user,
+# The build time of packages, in seconds: that of the last commit, or if git has none, as in a folder of another user,
 # that of the header's file.
 epoch() {
     if [ -n "${SOURCE_DATE_EPOCH-}" ]; then
@@ -20,7 +20,7 @@ epoch() {
     fi
 }
 
-# A compiler for x86_64 or aarch64 that links; nothing where there is none.
+# A compiler for x86_64 or aarch64 that links; nothing if there is none.
 compiler() {
     for it in "${CC:-cc}" "$1-linux-gnu-gcc" "clang --target=$1-linux-gnu"; do
         # shellcheck disable=SC2086
@@ -45,7 +45,7 @@ tool() {
 
 # Builds with that compiler in a folder, and installs below another: `installed COMPILER BUILD DESTDIR PREFIX LIBDIR LDFLAGS`.
 installed() {
-    # (what make was told by who runs this is not for this build)
+    # (options that this script's own make was given are not for this build)
     env -u MAKEFLAGS -u MAKEOVERRIDES make -s BUILD="$2" CC="$1" CFLAGS="-O2 -fstack-protector-strong" CPPFLAGS="-D_FORTIFY_SOURCE=2" \
         LDFLAGS="-Wl,-z,relro,-z,now $6" PREFIX="$4" LIBDIR="$5" DESTDIR="$3" install >&2
 }
@@ -55,7 +55,7 @@ pack_pages() {
     gzip -9n "$1$2"/share/man/man1/*.1
 }
 
-# The same times and modes for all files of a folder.
+# Sets equal times and modes for all files of a folder.
 level() {
     chmod -R u=rwX,go=rX "$1"
     find "$1" -exec touch -h -d "@$(epoch)" {} +

@@ -1,6 +1,7 @@
 """Two browsers under one set of calls: Chromium by its driver, Firefox by WebDriver BiDi. And node, for the module alone."""
 import asyncio
 import base64
+import glob
 import json
 import os
 import re
@@ -172,16 +173,20 @@ class Node:
     # In place of the page's: there is no document.
     PAGE = """
 import { readFileSync } from "node:fs";
+import { Blob } from "node:buffer";
+globalThis.Blob ??= Blob;
 const [folder] = process.argv.slice(-1);
-const [{ Codec }, { Cut }, { bytesOf }, { others }, { Survey }] = await Promise.all(["codec", "cut", "input", "others", "survey"].map((it) => import(`${folder}/${it}.js`)));
+const [{ Codec }, { bytesOf }, { Survey, guessAt }, { repairedOf }] = await Promise.all(["codec", "input", "survey", "repair"].map((it) => import(`${folder}/${it}.js`)));
 const { instance } = await WebAssembly.instantiate(readFileSync(`${folder}/noddychest.wasm`));
 const codec = new Codec(instance.exports);
-globalThis.window = { noddychest: { codec, cut: new Cut(codec), Survey, bytesOf, others: (bytes, form) => others(codec, bytes, form) } };
+globalThis.window = { noddychest: { codec, bytesOf, Survey, guessAt, repairedOf } };
 """
 
-    def __init__(self, folder):
+    def __init__(self, top):
         self.folder = tempfile.TemporaryDirectory()
-        shutil.copytree(folder, f"{self.folder.name}/page", ignore=shutil.ignore_patterns("shots"))
+        os.mkdir(f"{self.folder.name}/page")
+        for it in [*glob.glob(f"{top}/page/files/*.js"), *(f"{top}/js/{name}" for name in ("bytes.js", "codec.js", "guess.js", "loading.js", "noddychest.wasm"))]:
+            shutil.copy(it, f"{self.folder.name}/page")
         with open(f"{self.folder.name}/page/package.json", "w", encoding="ascii") as file:
             file.write('{ "type": "module" }')
 
@@ -194,10 +199,10 @@ globalThis.window = { noddychest: { codec, cut: new Cut(codec), Survey, bytesOf,
         return answered(ran.stdout if ran.returncode == 0 else f"!{ran.stderr[-2000:]}")
 
 
-def node(folder):
-    """Node over the page in that folder, where one is there that knows WebAssembly's 64-bit integers: from 16 on."""
+def node(top):
+    """Node over the page's modules below that folder, where one is there that knows WebAssembly's 64-bit integers: from 16 on."""
     test = "process.exit(process.versions.node.split('.')[0] >= 16 ? 0 : 1)"
-    return Node(folder) if shutil.which("node") and subprocess.run(["node", "-e", test], capture_output=True).returncode == 0 else None
+    return Node(top) if shutil.which("node") and subprocess.run(["node", "-e", test], capture_output=True).returncode == 0 else None
 
 
 def answered(told):

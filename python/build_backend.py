@@ -1,4 +1,4 @@
-"""setuptools as the build backend, also where there is no network.
+"""setuptools as the build backend, also if there is no network.
 
 pip builds apart from what is installed, and takes setuptools from its index. Here that of the interpreter serves, as Debian's
 python3-setuptools. Before 70.1 setuptools makes wheels only with the package wheel, so that has to be there too. Where one of them is

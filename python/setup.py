@@ -7,6 +7,7 @@ import sysconfig
 
 from setuptools import Extension, setup
 from setuptools.command.build_ext import build_ext
+from setuptools.command.build_py import build_py
 from setuptools.errors import FileError, PlatformError
 
 try:
@@ -21,7 +22,7 @@ ASSEMBLY = {
     "win-amd64": ["noddychest-x86_64-windows.s", "noddychest-x86_64-windows-v3.s"],
 }
 ALL_ASSEMBLY = sum(ASSEMBLY.values(), [])
-# What the folder library/ has. In the repository these stand beside this folder, and each build copies them; a source archive has them.
+# The contents of the folder library/. In the repository they are next to this folder, and each build copies them; a source archive has them.
 LIBRARY = ["c/noddychest.h", "c/processor.c", *(f"generated/{it}" for it in ALL_ASSEMBLY)]
 
 # One wheel serves CPython 3.11 and all that follow. Older ones, whose stable ABI has no buffers, and those without the lock, that
@@ -43,7 +44,7 @@ def fill_library():
             raise FileError(f"{it} is missing: it is part of the source archive, and of the repository beside python/")
 
 
-# On x86-64 the option that keeps jumps off the ends of 32 bytes of code, as gcc or clang writes it. Some processors of Intel are
+# On x86-64 the option that keeps jumps off the ends of 32 bytes of code, as gcc or clang writes it. Some CPUs of Intel are
 # slow at such jumps.
 JUMPS = {"linux-x86_64": ["-Wa,-mbranches-within-32B-boundaries", "-mbranches-within-32B-boundaries"]}
 
@@ -62,7 +63,7 @@ class BuildLibrary(build_ext):
             raise PlatformError("the assembly is GNU's: for Windows python/wheel builds the package, on Linux, by mingw's compiler")
         extension.extra_compile_args += [it for it in JUMPS.get(self.plat_name, []) if self.is_option(it)][:1]
         if self.plat_name == "win-amd64":
-            extension.libraries += ["python3"]  # (what it exports is told in the source)
+            extension.libraries += ["python3"]  # (the source declares what it exports)
         else:
             extension.extra_link_args += ["-Wl,--version-script=src/exports.map"]
         self.compiler.src_extensions = [*self.compiler.src_extensions, ".s"]
@@ -72,6 +73,20 @@ class BuildLibrary(build_ext):
     def get_ext_filename(self, name):
         path = super().get_ext_filename(name)
         return f"{path.partition('.')[0]}.pyd" if self.plat_name == "win-amd64" else path
+
+
+class BuildWithCodecs(build_py):
+    """The package, and beside it a line that Python runs at its start. By that the codecs are found in a process that has not imported the
+    package, as a worker; nothing is imported before one is asked for."""
+
+    LINE = "noddychest-codecs.pth"
+
+    def run(self):
+        super().run()
+        self.copy_file(f"src/{self.LINE}", os.path.join(self.build_lib, self.LINE))
+
+    def get_outputs(self, *given, **named):
+        return [*super().get_outputs(*given, **named), os.path.join(self.build_lib, self.LINE)]
 
 
 class StableWheel(bdist_wheel):
@@ -97,5 +112,5 @@ setup(
             py_limited_api=STABLE,
         )
     ],
-    cmdclass={"build_ext": BuildLibrary, "bdist_wheel": StableWheel},
+    cmdclass={"build_ext": BuildLibrary, "build_py": BuildWithCodecs, "bdist_wheel": StableWheel},
 )

@@ -4,8 +4,8 @@ use std::env;
 use std::path::Path;
 use std::process::{self, Command};
 
-/// What tells the repository: where one of these is missing, no script beside this folder is run.
-const OF_REPOSITORY: [&str; 4] = ["scripts/erase", "erased/eraser.py", "crates.txt", "crates/utf_base/src/lib.rt"];
+/// Files that only the repository has: if one of these is missing, no script outside this folder is run.
+const OF_REPOSITORY: [&str; 4] = ["scripts/erase", "rust/eraser/eraser.py", "crates.txt", "crates/utf_base/src/lib.rt"];
 
 /// Ends the build with one sentence.
 fn stop(what: &str) -> ! {
@@ -23,7 +23,7 @@ fn main() {
         }
         return;
     }
-    for it in ["crates", "scripts/erase", "erased"] {
+    for it in ["crates", "scripts/erase", "rust/eraser"] {
         println!("cargo:rerun-if-changed={}", top.join(it).display());
     }
     let python = env::var("PYTHON").unwrap_or_else(|_| "python3".to_string());

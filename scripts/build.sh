@@ -1,4 +1,4 @@
-# Proves and builds what a crate makes, where it is not there or older than a source. Sourced by the scripts
+# Proves and builds what a crate makes, if it is not there or older than a source. Sourced by the scripts
 # that need a program or a static library; they set `name`, with which their messages begin.
 unset CDPATH
 top_folder=$(cd "$(dirname "${BASH_SOURCE[0]}")/.." && pwd)
@@ -9,8 +9,8 @@ is_stale() {
     [ -n "$(find "$top_folder/crates" -name out -prune -o \( -name '*.rt' -o -name '*.antt' \) -newer "$1" -print -quit)" ]
 }
 
-# The crates that one stands on, and it itself, each after those that it uses. Those that the list does not have are
-# the kit's, and stand already.
+# The crate and those that it is built on, each after those that it uses. Crates that the list does not have are
+# the toolchain's, and are built already.
 crates_up_to() {
     awk -v top="$1" '
         function visit(crate, used, count, i) {
@@ -24,22 +24,7 @@ crates_up_to() {
     ' "$top_folder/crates.txt"
 }
 
-# The checksum of the `.rt` files of a crate and of those that it stands on, as MANIFEST has it.
-sum_of_sources() {
-    (
-        cd "$top_folder" || exit
-        for crate in $(crates_up_to "$1"); do
-            find "crates/$crate/src" -name '*.rt' | LC_ALL=C sort
-        done | xargs sha256sum | sha256sum | cut -d ' ' -f 1
-    )
-}
-
-# Whether the sources of a crate are those that generated/ was made from.
-are_generated() {
-    grep -q " $1 $(sum_of_sources "$1")\$" "$top_folder/generated/MANIFEST"
-}
-
-# run_rt CRATE COMMAND [FILE]: rt on one crate, on all processors. It has failed where its status is not 0, or, where it
+# run_rt CRATE COMMAND [FILE]: rt on one crate, on all CPUs. It has failed if its status is not 0, or, if it
 # makes FILE, that is not there: a program that is built is also run, and may end with any status. What it prints is then
 # shown.
 run_rt() {
@@ -54,8 +39,19 @@ run_rt() {
     return "$status"
 }
 
+# Makes build/libnoddychest.a of generated/, and says so if the proved sources have changed since that was made. The status is 1 if it
+# could not be built.
+build_library() {
+    are_generated c_api || echo "$name: the library is that of generated/: its sources have changed since, and scripts/generate makes it anew" >&2
+    if ! command -v make >/dev/null || ! command -v "${CC:-cc}" >/dev/null; then
+        echo "$name: no C compiler is there (make and cc)" >&2
+        return 1
+    fi
+    make -s -C "$top_folder" BUILD=build build/libnoddychest.a >&2
+}
+
 # build_crate CRATE COMMAND FILE WHAT: by `rt COMMAND`, which makes FILE in the crate's out/, with the crates below
-# it first. Messages call it WHAT. The status is 1 where it could not be built.
+# it first. Messages call it WHAT. The status is 1 if it could not be built.
 build_crate() {
     local top=$1 command=$2 made=$3 what=$4 file="$top_folder/crates/$1/out/$3" crate crates left
     is_stale "$file" || return 0

@@ -1,31 +1,28 @@
-"""Reads the documents that people write: their blocks, links and commands. scripts/documents and scripts/paragraphs use it."""
+"""Reads the documents: their fenced blocks, links and words in backticks. scripts/documents uses it."""
 import functools
 import os
 import re
+import sys
+from typing import NamedTuple
 
 TOP = os.path.dirname(os.path.dirname(os.path.abspath(__file__)))
 
 
 def below(folder):
     """Every document of a folder and its folders, as a path from the top."""
-    found = [os.path.relpath(f"{at}/{it}", TOP) for at, _, files in os.walk(f"{TOP}/{folder}") for it in files if it.endswith(".md")]
-    return tuple(sorted(found))
+    return tuple(sorted(os.path.relpath(f"{at}/{it}", TOP) for at, _, files in os.walk(f"{TOP}/{folder}") for it in files if it.endswith(".md")))
 
 
-# Made by scripts from the sources and from logs.
-GENERATED = ("docs/CALLS.md", "docs/rattle/API.md", *below("docs/rattle/api"), *below("docs/rattle/made"))
-# What people read who use the project: it is in the words that they search for. The others keep to the glossary.
-FOR_USERS = ("README.md", "CHANGELOG.md", "SECURITY.md", "docs/BENCHMARKS.md", "docs/CALLS.md", "docs/COMPARISON.md", "docs/DIFFERENCES.md", "docs/PROGRAMS.md", "docs/QUESTIONS.md", "docs/THE-CUT.md",
-             *below("docs/guide"), "docs/rattle/API.md", *below("docs/rattle/api"), "docs/rattle/GUIDE.md", "docs/rattle/PROVING.md", "c/README.md", "page/README.md", "python/README.md", "rust/README.md", "js/README.md", "packaging/README.md")
-
+# Written by scripts.
+GENERATED = ("docs/CALLS.md", "docs/rattle/API.md", "bench/TABLES.md", *below("docs/rattle/api"), *below("docs/rattle/made"))
 # Those of the packages, whose own tests run their blocks.
 OF_PACKAGES = ("python/README.md", "rust/README.md", "js/README.md", "packaging/README.md")
 
 
 def pages():
     """Every document, as a path from the top."""
-    of_parts = [f"{it}/README.md" for it in ("c", "page", "python", "rust", "js", "packaging", "erased", "generated") if os.path.isfile(f"{TOP}/{it}/README.md")]
-    return sorted([it for it in os.listdir(TOP) if it.endswith(".md")]) + list(below("docs")) + of_parts
+    of_parts = [f"{it}/README.md" for it in ("bench", "c", "page", "python", "rust", "js", "packaging", "rust/eraser", "generated") if os.path.isfile(f"{TOP}/{it}/README.md")]
+    return [*sorted(it for it in os.listdir(TOP) if it.endswith(".md")), *below("docs"), "bench/TABLES.md", *of_parts]
 
 
 def read(page):
@@ -33,31 +30,44 @@ def read(page):
         return file.read()
 
 
-def blocks(text):
-    """The parts between empty lines, fenced parts whole: the number of the first line, the fence's words or None, lines."""
-    found, block, fence = [], [], None
-    for number, line in enumerate(text.split("\n"), 1):
-        if fence is not None:
-            if line.strip() == "```":
-                found.append((number - len(block), fence, block))
-                fence, block = None, []
-            else:
-                block.append(line)
-        elif line.startswith("```"):
-            if block:
-                found.append((number - len(block), None, block))
-            fence, block = line[3:].strip(), []
-        elif line.strip():
-            block.append(line)
-        elif block:
-            found.append((number - len(block), None, block))
-            block = []
-    return found + ([(len(text.split("\n")) - len(block), None, block)] if block else [])
+def parser():
+    """markdown-it-py; also the one of Debian's package for a Python that is not Debian's."""
+    try:
+        import markdown_it
+    except ImportError:
+        sys.path.append("/usr/lib/python3/dist-packages")
+        try:
+            import markdown_it
+        except ImportError:
+            sys.exit("scripts/documents: markdown-it-py is missing: apt-get install python3-markdown-it, or pip install markdown-it-py")
+    return markdown_it.MarkdownIt("commonmark").enable("table")
 
 
-def prose(text):
-    """The blocks that are no fence, without what stands in backticks: the line, and the text."""
-    return [(number, re.sub(r"`[^`]*`", "`..`", "\n".join(lines))) for number, fence, lines in blocks(text) if fence is None]
+class Block(NamedTuple):
+    """A fenced block: the page, the number of its first line, the words after the fence, and its lines."""
+
+    page: str
+    number: int
+    words: list
+    lines: list
+
+    def __str__(self):
+        return f"{self.page}:{self.number}"
+
+
+class Page:
+    """A document that is parsed: its blocks, the targets of its links, and the words in backticks."""
+
+    def __init__(self, path):
+        tokens = parser().parse(read(path))
+        inline = [it for token in tokens for it in token.children or ()]
+        self.path = path
+        self.blocks = [Block(path, it.map[0] + 1, it.info.split(), it.content.rstrip("\n").split("\n")) for it in tokens if it.type == "fence"]
+        self.links = list(dict.fromkeys(it.attrs.get("href") or it.attrs.get("src") for it in inline if it.type in ("link_open", "image")))
+        self.words = list(dict.fromkeys(it.content for it in inline if it.type == "code_inline"))
+
+
+page_of = functools.cache(Page)
 
 
 def slug(heading):
@@ -66,6 +76,7 @@ def slug(heading):
 
 
 @functools.cache
-def anchors(text):
-    headings = [line.lstrip("#").strip() for _, fence, lines in blocks(text) if fence is None for line in lines if line.startswith("#")]
+def anchors(path):
+    text = read(path)
+    headings = re.findall(r"^#+ +(.*?) *$", re.sub(r"^```.*?^```$", "", text, flags=re.M | re.S), re.M)
     return {slug(it) for it in headings} | set(re.findall(r'<a id="([\w-]+)">', text))

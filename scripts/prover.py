@@ -1,4 +1,4 @@
-"""Checks of the prover over kept work, beside one another. scripts/wrong-bodies and scripts/keep use it."""
+"""Checks of the prover over kept work, in parallel. scripts/keep uses it."""
 import contextlib
 import importlib.machinery
 import importlib.util
@@ -10,7 +10,7 @@ import sys
 import threading
 import time
 
-# The most jobs that one check gets where processors are idle. It takes less time by the clock, and more of the processors.
+# The most jobs that one check gets where CPUs are idle. It takes less time by the clock, and more of the CPUs.
 MOST_JOBS = 4
 TOP = os.path.dirname(os.path.dirname(os.path.abspath(__file__)))
 
@@ -25,7 +25,7 @@ def kit(name):
 
 
 def lines_of(rt, crate):
-    """The lines of its sources, definitions and proofs: what its proof takes goes by these."""
+    """The lines of its sources, definitions and proofs: the time of its proof grows with these."""
     return sum(rt.rtlib.text_of(it).count("\n") for it in rt.rtlib.files_of(crate.folder))
 
 
@@ -35,7 +35,7 @@ def kept_by(crate):
 
 
 def keep(crate, kept):
-    """Leaves what a check made for `rt check` and `rt lib`, where they have kept nothing."""
+    """Leaves what a check made for `rt check` and `rt lib`, if they have kept nothing."""
     to = kept_by(crate)
     if not os.path.isdir(to):
         copy_kept(kept, f"{to}.new")
@@ -71,13 +71,13 @@ def is_built_of(crate):
 
 
 def build(crate, jobs):
-    """Builds the library over the work that was kept, where it is not there or its sources have changed. Answers whether that went well."""
+    """Builds the library over the work that was kept, if it is not there or its sources have changed. Returns whether that went well."""
     how = {"cwd": crate.folder, "stdin": subprocess.DEVNULL, "stdout": subprocess.DEVNULL, "stderr": subprocess.DEVNULL}
     return subprocess.run(["rt", "lib", "--jobs", str(jobs)], **how).returncode == 0
 
 
 class Processors:
-    """The processors, of which each check takes as many as it has jobs. Of those that wait, the one with most work goes first."""
+    """The CPUs, of which each check takes as many as it has jobs. Of those that wait, the one with most work goes first."""
 
     def __init__(self, count):
         self.free, self.changed, self.waiting = count, threading.Condition(), []
@@ -85,7 +85,7 @@ class Processors:
 
     @contextlib.contextmanager
     def taken(self, jobs, work):
-        """Waits for processors. The work is that of the check and of what has to wait for it, in lines."""
+        """Waits for CPUs. The work is that of the check and of what has to wait for it, in lines."""
         mine = (-work, next(self.turns))
         with self.changed:
             self.waiting.append(mine)
@@ -102,7 +102,7 @@ class Processors:
 
     @contextlib.contextmanager
     def shared(self, work, most=MOST_JOBS):
-        """Waits for a processor, takes those too that nothing waits for, and gives how many these are."""
+        """Waits for a CPU, takes those too that nothing waits for, and gives how many these are."""
         with self.taken(1, work):
             # (what can begin at the same time asks meanwhile)
             time.sleep(0.5)

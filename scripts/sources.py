@@ -10,7 +10,7 @@ HEAD = re.compile(r'^(pub(?:\([^)]*\))? )?(?:(?:const|unsafe|final|extern "C") )
 
 
 class Function:
-    """A function: where it stands, its `///` lines, signature, clauses and body."""
+    """A function: its file and line, its `///` lines, signature, clauses and body."""
 
     def __init__(self, crate, file, owner, is_public, name):
         self.crate, self.file, self.owner, self.is_public, self.name = crate, file, owner, is_public, name
@@ -49,7 +49,7 @@ class Function:
         if self.is_declared() or parts[-1] != self.name:
             return False
         if self.owner and not self.owner_trait():
-            # (that path has the module of the type, wherever its impl stands)
+            # (that path has the module of the type, wherever its impl is)
             return len(parts) > 2 and parts[0] == self.crate and parts[-2].partition("+")[0].rstrip("0123456789") == self.owner_type()
         if parts[: len(module)] != module:
             return False
@@ -200,30 +200,3 @@ def without_clauses(lines):
             kept.append(text)
     joined = "\n".join(kept)
     return re.sub(r"([^\n{])\n\{\n", r"\1 {\n", joined, count=1).split("\n")
-
-
-def pairs_of(edit):
-    """The pairs of texts of a wrong body: the file, what stands there, and what is put in its place."""
-    found, path, old = [], "", None
-    with open(edit, encoding="utf-8") as file:
-        for line in file.read().split("\n"):
-            if line.startswith("file: "):
-                path = line.removeprefix("file: ").strip()
-            elif line.startswith("old: "):
-                old = line.removeprefix("old: ")
-            elif line.startswith("new:"):
-                found.append((path, old, line.removeprefix("new:").removeprefix(" ")))
-    return found
-
-
-def places_of(crate, edit):
-    """What a wrong body changes: functions, and of other items the names."""
-    found = []
-    for path, old, _ in pairs_of(edit):
-        with open(f"{TOP}/crates/{crate}/{path}", encoding="utf-8") as file:
-            before = file.read().partition(old)[0]
-        number = before.count("\n")
-        inside = [it for it in functions_in(crate, path) if number in it.lines]
-        named = re.findall(r"^[ \t]*(?:pub(?:\([^)]*\))? )?(?:static|const|struct|enum) (\w+)", f"{before}{old}", re.M)
-        found.append(inside[0] if inside else named[-1] if named else path)
-    return found

@@ -7,7 +7,7 @@ answer goes another way."""
 import re
 
 TARGET = "x86_64-w64-windows-gnu"
-# Two calls of generated/system.c answer in two registers, as on Linux.
+# Two calls of generated/system.c return their results in two registers, as on Linux.
 PAIRS = re.compile(r"\b(call|declare) (\{ i64, i64 \}) @rattle_(alloc|realloc)\b")
 # What a program asks of the system, and the names that generated/system.c gives it there.
 ASKED = {"read": "noddychest_read", "write": "noddychest_write", "__write": "noddychest_write", "__sysv_signal": "noddychest_signal",
@@ -31,13 +31,13 @@ def of_system(text):
     if count != 1:
         raise Unknown(f"{count} lines of a target")
     text = re.sub(r'(?m)^(attributes #\d+ = \{ )(.*"target-cpu")', r"\1uwtable \2", text)
-    # (these words ask for a test of the stack in line; on Windows LLVM has one of its own, and would take them for a name)
+    # (these words ask for an inlined test of the stack; on Windows LLVM has one of its own, and would take them for a name)
     return text.replace('"probe-stack"="inline-asm" ', "").replace('"stack-probe-size"="3072" ', "")
 
 
 def with_pairs_in_memory(text):
-    """On Windows a struct of 16 bytes is answered in memory of the caller's: each exported call that has such an answer becomes private,
-    and one of its name passes it on."""
+    """On Windows a struct of 16 bytes is returned in memory of the caller's: each exported call with such a result becomes private,
+    and is wrapped by one with its name."""
     wrappers = []
 
     def private(line):

@@ -1,8 +1,9 @@
-//! The works that `bstr` does too. It gives one U+FFFD for a maximal subpart, and no kind of fault: so its answers
-//! are compared on text alone.
+//! The works that `bstr` does too. It gives one U+FFFD for a maximal subpart, and no kind of error: so its results
+//! are compared only on text.
 
 use crate::inputs::Input;
-use crate::work::{word_of, Checksum, Worker, ERROR};
+use crate::sums::{word_of, Checksum, ERROR};
+use crate::work::Worker;
 use bstr::ByteSlice;
 
 /// Who does the work of that name.

@@ -1,16 +1,16 @@
-//! Recoding by `encoding_rs`, which replaces a maximal subpart by one U+FFFD. It writes no big-endian UTF-16.
+//! Transcoding by `encoding_rs`, which replaces a maximal subpart by one U+FFFD. It writes no big-endian UTF-16.
 
 use encoding_rs::{Decoder, Encoding, UTF_16BE, UTF_16LE, UTF_8};
 use std::hint::black_box;
 
-/// Where its output goes, made once and used again.
+/// Its output buffers, made once and used again.
 pub struct Rooms {
     bytes: Vec<u8>,
     units: Vec<u16>,
 }
 
 impl Rooms {
-    /// Room for what comes out of so many bytes.
+    /// Buffers for the output of a part of `part` bytes.
     pub fn new(part: usize) -> Rooms {
         Rooms { bytes: vec![0; 3 * part + 16], units: vec![0; 2 * part + 16] }
     }
@@ -21,7 +21,7 @@ pub fn does(to: usize) -> bool {
     to < 2
 }
 
-/// How many bytes come out of these, fed in parts of so many bytes.
+/// The length of the output for these, fed in parts of `part` bytes.
 pub fn in_parts(from: usize, to: usize, src: &[u8], part: usize, rooms: &mut Rooms) -> u64 {
     let mut decoder = decoder_of(from);
     let (parts, mut total) = (src.len().div_ceil(part), 0);
@@ -31,7 +31,7 @@ pub fn in_parts(from: usize, to: usize, src: &[u8], part: usize, rooms: &mut Roo
     total
 }
 
-/// How many bytes come out of short texts, each of so many bytes and recoded by itself.
+/// The length of the output for short texts of `each` bytes, converted independently.
 #[inline(never)]
 pub fn short(from: usize, to: usize, src: &[u8], each: usize, rooms: &mut Rooms) -> u64 {
     src.chunks(each).map(|text| fed(&mut decoder_of(from), to, text, true, rooms)).sum()

@@ -1,4 +1,4 @@
-//! Recoding by iconv(3) of the C library.
+//! Transcoding by iconv(3) of the C library.
 
 use std::ffi::{c_char, c_int, c_void, CString};
 
@@ -19,8 +19,8 @@ enum End {
     Fault,
 }
 
-/// How many bytes come out of these, fed in parts of so many bytes into room for three times as many. What iconv leaves
-/// of a part begins the next one. For an element that it refuses U+FFFD goes out.
+/// The length of the output for these, fed in parts of `part` bytes into a buffer of three times that size. What iconv leaves
+/// of a part begins the next one. For input that it rejects U+FFFD is written.
 pub fn in_parts(from: usize, to: usize, src: &[u8], part: usize, out: &mut [u8]) -> u64 {
     let name = |form: usize| CString::new(["UTF-8", "UTF-16LE", "UTF-16BE"][form]).expect("no zero");
     let handle = unsafe { iconv_open(name(to).as_ptr(), name(from).as_ptr()) };

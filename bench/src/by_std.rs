@@ -1,4 +1,4 @@
-//! Recoding by std, at once and by way of a text, since it has no call for parts. It gives one U+FFFD for each maximal
+//! Transcoding by std: whole inputs by way of a `String`, since it has no call for parts. It gives one U+FFFD for each maximal
 //! subpart.
 
 use std::hint::black_box;

@@ -1,9 +1,9 @@
-//! The forms of text in bytes.
+//! The encodings of text in bytes.
 
 use crate::inputs::Input;
 use std::ffi::c_int;
 
-/// The names of the forms. Everywhere a form is its place in this list, as `bench_c` numbers them.
+/// The names of the forms. Everywhere a form is its position in this list, as in the header of the library for C.
 pub const NAMES: [&str; 3] = ["utf8", "utf16le", "utf16be"];
 
 /// The form of that name.

@@ -19,7 +19,7 @@ pub struct Input {
     pub units: Vec<u16>,
     /// Scalars, and other numbers among them.
     pub numbers: Vec<u32>,
-    /// The text, where nothing in it is faulty.
+    /// The text, if all of it is valid.
     text: Option<String>,
 }
 
@@ -59,8 +59,8 @@ pub fn make(name: &str, size: usize) -> Option<Input> {
     Some(input)
 }
 
-// Words of 1 to 12 characters, each with a space after it. All characters of a word have codes of one
-// length, 1 more than what `class` answers for the word.
+// Words of 1 to 12 characters, each with a space after it. All characters of a word have the same encoded length:
+// 1 more than what `class` returns for the word.
 fn text(random: &mut Random, size: usize, class: impl Fn(&mut Random) -> u64) -> String {
     let mut text = String::with_capacity(size + 64);
     while text.len() < size {

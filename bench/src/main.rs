@@ -1,5 +1,5 @@
-//! `bench times SIZE ROUNDS WORK..`: a line for each kind of work, input and side: the best time of the rounds. No
-//! name stands for all kinds of work.
+//! `bench times SIZE ROUNDS WORK..`: a line for each kind of work, input and side: the best time of the rounds. Without
+//! a name it times all kinds of work.
 //! `bench lengths WORK INPUT ROUNDS`: the best times of both sides on inputs of 16 bytes to 64 MiB.
 //! `bench one WORK INPUT SIDE SIZE CALLS`: just these calls, for counting instructions.
 //! `bench input INPUT SIZE`: the bytes of an input.
@@ -39,7 +39,7 @@ fn number(word: &str) -> Option<usize> {
     word.parse().ok().filter(|n| *n > 0)
 }
 
-// A line for each work, input and side. The status is 1 where two that should agree do not.
+// A line for each work, input and side. The status is 1 if two that should agree do not.
 fn times(names: &[&str], size: usize, rounds: usize) -> ExitCode {
     let mut agree = true;
     for work in work::all().filter(|work| names.is_empty() || names.contains(&work.name)) {

@@ -9,7 +9,7 @@ pub const NAMES: [&str; 10] =
     ["ascii", "latin", "cyrillic", "arabic", "chinese", "japanese", "emoji", "markup", "log", "random"];
 /// The inputs of which short texts are taken.
 pub const SHORT_NAMES: [&str; 3] = ["ascii", "latin", "japanese"];
-/// How many bytes a short text has in UTF-8. In UTF-16 it has as many, or one more where the number is odd.
+/// How many bytes a short text has in UTF-8. In UTF-16 it has as many, or one more if the number is odd.
 pub const SHORT_LENGTHS: [usize; 5] = [1, 7, 16, 40, 200];
 const SCRIPTS: [&str; 7] = ["ascii", "latin", "cyrillic", "arabic", "chinese", "japanese", "emoji"];
 
@@ -33,7 +33,7 @@ fn repeated(random: &mut Random, size: usize, one: impl Fn(&mut Random) -> Strin
     text
 }
 
-// A sentence, and what stands after it: a line's end after one in six, or else a space where the script has spaces.
+// A sentence, and what follows it: a line feed after one in six, or otherwise a space if the script has spaces.
 fn sentence(random: &mut Random, script: &str) -> String {
     let sentence = picked(random, script);
     let end = match random.below(6) {
@@ -92,14 +92,14 @@ fn noise(random: &mut Random, size: usize) -> Input {
     Input::faulty(bytes, units)
 }
 
-/// So many texts, each with so many bytes of UTF-8, or with so many units, and joined.
+/// Short texts, each of the same number of bytes in UTF-8, or of units in UTF-16, joined.
 pub struct Short {
     pub bytes: Vec<u8>,
     pub units: Vec<u16>,
     pub units_each: usize,
 }
 
-/// Short texts of the input of that name, each from where the one before ended, with full stops where no further
+/// Short texts of the input of that name, each from where the one before ended, with full stops if no further
 /// character fits.
 pub fn short(name: &str, bytes_each: usize, count: usize) -> Option<Short> {
     let input = make(name, 8 * (bytes_each + 4) * count)?;
@@ -118,7 +118,7 @@ fn cut(text: &str, count: usize, each: usize, len: impl Fn(char) -> usize) -> St
             left -= len(c);
         }
         made.extend(std::iter::repeat_n('.', left));
-        // A character that fits no short text stands in the way of all others.
+        // A character that fits in no short text would block all others.
         chars.next_if(|c| len(*c) > each);
     }
     made

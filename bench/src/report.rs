@@ -11,7 +11,7 @@ impl Best {
         self.0 = Some(self.0.map_or(time, |best| best.min(time)));
     }
 
-    /// In nanoseconds for each of so many bytes or calls.
+    /// In nanoseconds per byte or call, of which there are `count`.
     pub fn per(&self, count: usize) -> f64 {
         self.0.unwrap_or_default().as_nanos() as f64 / count as f64
     }

@@ -1,15 +1,13 @@
-//! The kinds of work, each done by this repository's crates (through `crates/bench_c`), by the Rust crate
-//! and, where they do the same work, by std and by `bstr`.
+//! The kinds of work, each done by this project's crate for Cargo, by the Rust crate and, where they do the same work, by std
+//! and by `bstr`.
 //!
-//! Every worker answers a checksum of all that it saw, added up in the same way, so that answers can be compared.
+//! Every worker returns a checksum of all that it saw, added up in the same way, so that results can be compared.
 
 use crate::inputs::Input;
-use crate::{by_bstr, collections, decoders, ends, mergers, texts};
-use encode_unicode::error::{Utf16SliceError, Utf8ErrorKind};
-use encode_unicode::iterator::Utf8CharDecoder;
-use encode_unicode::{CharExt, Utf16Char, Utf8Char};
+use crate::sums::{word_of, Checksum, ERROR};
+use crate::{by_bstr, collections, decoders, ends, mergers, ours, rust, texts};
 
-/// Does one kind of work over an input and answers the checksum.
+/// Does one kind of work over an input and returns the checksum.
 pub type Worker = fn(&Input) -> u64;
 
 /// One kind of work and who does it.
@@ -20,7 +18,7 @@ pub struct Work {
     pub std: Option<Worker>,
     /// How many bytes of the input it reads.
     pub bytes: fn(&Input) -> usize,
-    /// Whether it takes faultless text alone.
+    /// Whether it takes only valid text.
     pub of_text: bool,
 }
 
@@ -48,133 +46,53 @@ pub fn all() -> impl Iterator<Item = &'static Work> {
 const OF_SLICES: [Work; 6] = [
     Work {
         name: "forward",
-        ours: |input| unsafe { bench_c_forward(input.bytes.as_ptr(), input.bytes.len()) },
-        rust: |input| forward(&input.bytes),
+        ours: |input| ours::forward(&input.bytes),
+        rust: |input| rust::forward(&input.bytes),
         std: Some(|input| std_forward(&input.bytes)),
         bytes: |input| input.bytes.len(),
         of_text: false,
     },
     Work {
         name: "starts",
-        ours: |input| unsafe { bench_c_starts(input.bytes.as_ptr(), input.bytes.len()) },
-        rust: |input| starts(&input.bytes),
+        ours: |input| ours::starts(&input.bytes),
+        rust: |input| rust::starts(&input.bytes),
         std: None,
         bytes: |input| input.bytes.len(),
         of_text: false,
     },
     Work {
         name: "units",
-        ours: |input| unsafe { bench_c_units(input.units.as_ptr(), input.units.len()) },
-        rust: |input| units(&input.units),
+        ours: |input| ours::units(&input.units),
+        rust: |input| rust::units(&input.units),
         std: Some(|input| std_units(&input.units)),
         bytes: |input| 2 * input.units.len(),
         of_text: false,
     },
     Work {
         name: "to_utf8",
-        ours: |input| unsafe { bench_c_to_utf8(input.numbers.as_ptr(), input.numbers.len()) },
-        rust: |input| to_utf8(&input.numbers),
+        ours: |input| ours::to_utf8(&input.numbers),
+        rust: |input| rust::to_utf8(&input.numbers),
         std: Some(|input| std_to_utf8(&input.numbers)),
         bytes: |input| 4 * input.numbers.len(),
         of_text: false,
     },
     Work {
         name: "to_utf16",
-        ours: |input| unsafe { bench_c_to_utf16(input.numbers.as_ptr(), input.numbers.len()) },
-        rust: |input| to_utf16(&input.numbers),
+        ours: |input| ours::to_utf16(&input.numbers),
+        rust: |input| rust::to_utf16(&input.numbers),
         std: Some(|input| std_to_utf16(&input.numbers)),
         bytes: |input| 4 * input.numbers.len(),
         of_text: false,
     },
     Work {
         name: "between",
-        ours: |input| unsafe { bench_c_between(input.bytes.as_ptr(), input.bytes.len()) },
-        rust: |input| between(&input.bytes),
+        ours: |input| ours::between(&input.bytes),
+        rust: |input| rust::between(&input.bytes),
         std: None,
         bytes: |input| input.bytes.len(),
         of_text: false,
     },
 ];
-
-// A slice of the exports crosses as a pointer and a length. None of them asks for anything but what a slice
-// promises, so each call above is one of a slice borrowed for the call.
-#[link(name = "bench_c", kind = "static")]
-extern "C" {
-    fn bench_c_forward(src: *const u8, len: usize) -> u64;
-    fn bench_c_starts(src: *const u8, len: usize) -> u64;
-    fn bench_c_units(src: *const u16, len: usize) -> u64;
-    fn bench_c_to_utf8(src: *const u32, len: usize) -> u64;
-    fn bench_c_to_utf16(src: *const u32, len: usize) -> u64;
-    fn bench_c_between(src: *const u8, len: usize) -> u64;
-}
-
-pub(crate) const ERROR: u32 = 0x20_0000;
-
-/// A checksum of words, which depends on their order: the sum of all sums that they have had.
-///
-/// Each of its two sums takes one addition for a word, and neither waits for more than the word before. So it
-/// holds the work up as little as a checksum can.
-#[derive(Default)]
-pub struct Checksum {
-    words: u64,
-    sums: u64,
-}
-
-impl Checksum {
-    /// One word more.
-    #[inline(always)]
-    pub fn add(&mut self, word: u64) {
-        self.words = self.words.wrapping_add(word);
-        self.sums = self.sums.wrapping_add(self.words);
-    }
-
-    #[inline(always)]
-    pub fn value(self) -> u64 {
-        self.sums
-    }
-}
-
-#[inline(always)]
-pub fn word_of(place: usize, len: usize, what: u32) -> u64 {
-    ((place as u64) << 32).wrapping_add((what as u64) << 3).wrapping_add(len as u64)
-}
-
-#[inline(always)]
-pub fn number_of(kind: Utf8ErrorKind) -> u32 {
-    ERROR
-        | match kind {
-            Utf8ErrorKind::TooFewBytes => 0,
-            Utf8ErrorKind::NonUtf8Byte => 1,
-            Utf8ErrorKind::UnexpectedContinuationByte => 2,
-            Utf8ErrorKind::InterruptedSequence => 3,
-            Utf8ErrorKind::OverlongEncoding => 4,
-            Utf8ErrorKind::Utf16ReservedCodepoint => 5,
-            Utf8ErrorKind::TooHighCodepoint => 6,
-        }
-}
-
-#[inline(always)]
-fn unit_number_of(error: Utf16SliceError) -> u32 {
-    ERROR
-        | match error {
-            Utf16SliceError::EmptySlice => 0,
-            Utf16SliceError::FirstIsTrailingSurrogate => 1,
-            Utf16SliceError::MissingSecond => 2,
-            Utf16SliceError::SecondIsNotTrailingSurrogate => 3,
-        }
-}
-
-fn forward(src: &[u8]) -> u64 {
-    let mut sum = Checksum::default();
-    for (place, answer, len) in Utf8CharDecoder::from(src) {
-        let what = match answer {
-            Ok(c) => c.to_char() as u32,
-            Err(error) => number_of(error.kind()),
-        };
-        sum.add(word_of(place, len, what));
-    }
-    sum.value()
-}
 
 // On text the same checksum. Elsewhere std cuts otherwise and names no kinds; a byte of a faulty chunk counts as
 // an error of its own.
@@ -194,34 +112,6 @@ fn std_forward(src: &[u8]) -> u64 {
     sum.value()
 }
 
-fn starts(src: &[u8]) -> u64 {
-    let mut sum = Checksum::default();
-    let mut place = 0;
-    while place < src.len() {
-        let (what, len) = match char::from_utf8_slice_start(&src[place..]) {
-            Ok((c, len)) => (c as u32, len),
-            Err(error) => (number_of(error.kind()), 1),
-        };
-        sum.add(word_of(place, len, what));
-        place += len;
-    }
-    sum.value()
-}
-
-fn units(src: &[u16]) -> u64 {
-    let mut sum = Checksum::default();
-    let mut place = 0;
-    while place < src.len() {
-        let (what, len) = match char::from_utf16_slice_start(&src[place..]) {
-            Ok((c, len)) => (c as u32, len),
-            Err(error) => (unit_number_of(error), 1),
-        };
-        sum.add(word_of(place, len, what));
-        place += len;
-    }
-    sum.value()
-}
-
 // On text the same checksum. Elsewhere std does not say which fault a unit has.
 pub(crate) fn std_units(src: &[u16]) -> u64 {
     let mut sum = Checksum::default();
@@ -233,17 +123,6 @@ pub(crate) fn std_units(src: &[u16]) -> u64 {
         };
         sum.add(word_of(place, len, what));
         place += len;
-    }
-    sum.value()
-}
-
-fn to_utf8(src: &[u32]) -> u64 {
-    let mut sum = Checksum::default();
-    for number in src {
-        if let Ok(c) = char::from_u32_detailed(*number) {
-            let (code, len) = c.to_utf8_array();
-            sum.add(word_of(len, 0, u32::from_le_bytes(code)));
-        }
     }
     sum.value()
 }
@@ -260,17 +139,6 @@ fn std_to_utf8(src: &[u32]) -> u64 {
     sum.value()
 }
 
-fn to_utf16(src: &[u32]) -> u64 {
-    let mut sum = Checksum::default();
-    for number in src {
-        if let Ok(c) = char::from_u32_detailed(*number) {
-            let [first, second] = c.to_utf16_array();
-            sum.add((second as u64) << 16 | first as u64);
-        }
-    }
-    sum.value()
-}
-
 fn std_to_utf16(src: &[u32]) -> u64 {
     let mut sum = Checksum::default();
     for number in src {
@@ -278,20 +146,6 @@ fn std_to_utf16(src: &[u32]) -> u64 {
             let mut code = [0; 2];
             c.encode_utf16(&mut code);
             sum.add((code[1] as u64) << 16 | code[0] as u64);
-        }
-    }
-    sum.value()
-}
-
-fn between(src: &[u8]) -> u64 {
-    let mut sum = Checksum::default();
-    for (_, answer, _) in Utf8CharDecoder::from(src) {
-        if let Ok(c) = answer {
-            let other = Utf16Char::from(c);
-            let [first, second] = other.to_array();
-            let (code, _) = Utf8Char::from(other).to_array();
-            let units = (second as u32) << 16 | first as u32;
-            sum.add((units as u64) << 32 | u32::from_le_bytes(code) as u64);
         }
     }
     sum.value()

@@ -1,16 +1,16 @@
-/* Times the calls for C beside iconv(3), ICU, utf8proc and simdutf, and beside the same calls in Rattle, in one process: each side
- * in turn, and of each the best round.
+/* Times the calls for C against iconv(3), ICU, utf8proc and simdutf, and against the equivalent calls of the crate for Cargo, in one
+ * process. The sides run in turn; the best round of each counts.
  *
- * Decoding adds up the scalars. nody_utf8_first is called as utf8proc_iterate is: with an address and what is left, and the
- * caller keeps the place. nody_utf8_next keeps the place, and takes pieces from both ends. Both tell what is wrong and not
- * only that something is, as do nody_utf8_pieces and the Rattle loop. U8_NEXT of ICU is a macro, and the
- * decoder of the Rattle loop is compiled into it: nothing is called.
+ * Decoding adds up the scalars. nody_utf8_first is called as utf8proc_iterate is: with an address and a length, and the caller keeps
+ * the offset. nody_utf8_next keeps the offset, and takes pieces from both ends. Both report what is wrong and not only that something
+ * is, as do nody_utf8_pieces and the Rust loop. ICU's U8_NEXT is a macro, and the decoder of the Rust loop is inlined: neither is
+ * called.
  *
- * What goes over text without giving each character, and input in parts, stands beside our own calls: validation, and
- * nody_utf8_pieces over the whole.
+ * Calls that scan text without returning each character, and calls for input in parts, are compared with our own calls: validation,
+ * and nody_utf8_pieces over the whole.
  *
- * simdutf is in node, which exports its functions. With -DSIMDUTF this file becomes a shared object that node opens: it does what
- * `bench times` does. simdutf only tells whether text is valid, and gives nothing where it is not; here all of it is.
+ * node exports the functions of simdutf. With -DSIMDUTF this file becomes a shared object that node opens: it does what
+ * `bench times` does. simdutf only returns whether text is valid, and writes nothing for invalid input; all inputs here are valid.
  *
  * bench times ROUNDS           a line for each work and input: nanoseconds for each byte of input, of each side
  * bench once WORK INPUT SIDE   does it once, so that instructions can be counted; the side `none` does nothing
@@ -30,16 +30,16 @@
 
 enum { SIZE = 1 << 20, ROOM = 3 * SIZE + 16, AT_ONCE = 256, PART = 4096, FEW = 100 };
 
-/* The same calls in Rattle, of crates/bench_c. */
-size_t bench_c_widen(const uint8_t *in, size_t len, uint8_t *out, size_t room);
-size_t bench_c_narrow(const uint8_t *in, size_t len, uint8_t *out, size_t room);
-size_t bench_c_valid_up_to(const uint8_t *bytes, size_t len);
-uint64_t bench_c_scalars(const uint8_t *bytes, size_t len);
+/* The equivalent calls of the crate for Cargo, in beside.rs. */
+size_t rust_widen(const uint8_t *in, size_t len, uint8_t *out, size_t room);
+size_t rust_narrow(const uint8_t *in, size_t len, uint8_t *out, size_t room);
+size_t rust_valid_up_to(const uint8_t *bytes, size_t len);
+uint64_t rust_scalars(const uint8_t *bytes, size_t len);
 
 static uint8_t text[SIZE], units[2 * SIZE], out[ROOM];
 static size_t text_len, units_len, char_count;
 
-/* Each side answers a number that has to be the same for all: how many bytes came of it, how many are right, or the sum of the
+/* Each side returns a number that has to be equal for all: the length of its output, the count of valid inputs, or the sum of the
  * scalars. */
 typedef size_t (*side_call)(void);
 
@@ -72,7 +72,7 @@ static size_t of_iconv(const char *to, const char *from, uint8_t *in, size_t len
     return ROOM - room;
 }
 
-static size_t widen_nody(void) { return of_recoder(NODY_FORM_UTF8, NODY_FORM_UTF16LE, text, text_len); }
+static size_t widen_nody(void) { return of_recoder(NODY_UTF8, NODY_UTF16LE, text, text_len); }
 static size_t widen_iconv(void) { return of_iconv("UTF-16LE", "UTF-8", text, text_len); }
 static size_t widen_icu(void) {
     int32_t len = 0;
@@ -81,7 +81,7 @@ static size_t widen_icu(void) {
     return 2 * (size_t)len;
 }
 
-static size_t narrow_nody(void) { return of_recoder(NODY_FORM_UTF16LE, NODY_FORM_UTF8, units, units_len); }
+static size_t narrow_nody(void) { return of_recoder(NODY_UTF16LE, NODY_UTF8, units, units_len); }
 static size_t narrow_iconv(void) { return of_iconv("UTF-8", "UTF-16LE", units, units_len); }
 static size_t narrow_icu(void) {
     int32_t len = 0;
@@ -132,11 +132,11 @@ static size_t decode_utf8proc(void) {
     }
     return sum;
 }
-static size_t decode_rattle(void) { return bench_c_scalars(text, text_len); }
+static size_t decode_rust(void) { return rust_scalars(text, text_len); }
 
 /* The sum of the scalars of input in parts. */
 static size_t decode_in(size_t part) {
-    nody_decoder_t decoder = nody_decoder(NODY_FORM_UTF8);
+    nody_decoder_t decoder = nody_decoder(NODY_UTF8);
     nody_located_t pieces[AT_ONCE];
     size_t sum = 0, read, written;
     for (size_t place = 0; place < text_len; place += read) {
@@ -149,9 +149,9 @@ static size_t decode_in(size_t part) {
 static size_t decode_parts(void) { return decode_in(PART); }
 static size_t decode_few(void) { return decode_in(FEW); }
 
-/* How many bytes were read, where there are no faults. */
+/* How many bytes were read, if there are no faults. */
 static size_t faults_in_parts(void) {
-    nody_decoder_t decoder = nody_decoder(NODY_FORM_UTF8);
+    nody_decoder_t decoder = nody_decoder(NODY_UTF8);
     nody_located_t faults[AT_ONCE];
     size_t count = 0, read, written;
     for (size_t place = 0; place < text_len; place += read, count += written)
@@ -168,10 +168,10 @@ static size_t count_nody(void) { return nody_utf8_char_count(text, text_len) == 
 static size_t offset_nody(void) { return nody_utf8_offset_of(text, text_len, char_count); }
 static size_t number_nody(void) { return nody_utf8_number_of(text, text_len, text_len) == char_count ? text_len : 0; }
 
-/* The same of UTF-16. The units lie as an array of them. */
+/* The UTF-16 input as an array of code units, as it lies in memory. */
 static const uint16_t *of_units(void) { return (const uint16_t *)(const void *)units; }
 static size_t valid_units(void) { return 2 * nody_utf16_valid_up_to(of_units(), units_len / 2); }
-static size_t valid_unit_bytes(void) { return nody_utf16_bytes_valid_up_to(NODY_FORM_UTF16LE, units, units_len); }
+static size_t valid_unit_bytes(void) { return nody_utf16_bytes_valid_up_to(NODY_UTF16LE, units, units_len); }
 static size_t faults_units(void) {
     nody_units_t left = nody_units(of_units(), units_len / 2);
     nody_located_t faults[AT_ONCE];
@@ -182,12 +182,12 @@ static size_t count_units(void) { return nody_utf16_char_count(of_units(), units
 static size_t offset_units(void) { return 2 * nody_utf16_offset_of(of_units(), units_len / 2, char_count); }
 static size_t number_units(void) { return nody_utf16_number_of(of_units(), units_len / 2, units_len / 2) == char_count ? units_len : 0; }
 
-static size_t widen_parts(void) { return in_parts(NODY_FORM_UTF8, NODY_FORM_UTF16LE, text, text_len); }
-static size_t widen_rattle(void) { return bench_c_widen(text, text_len, out, ROOM); }
-static size_t narrow_parts(void) { return in_parts(NODY_FORM_UTF16LE, NODY_FORM_UTF8, units, units_len); }
-static size_t narrow_rattle(void) { return bench_c_narrow(units, units_len, out, ROOM); }
+static size_t widen_parts(void) { return in_parts(NODY_UTF8, NODY_UTF16LE, text, text_len); }
+static size_t widen_rust(void) { return rust_widen(text, text_len, out, ROOM); }
+static size_t narrow_parts(void) { return in_parts(NODY_UTF16LE, NODY_UTF8, units, units_len); }
+static size_t narrow_rust(void) { return rust_narrow(units, units_len, out, ROOM); }
 static size_t valid_nody(void) { return nody_utf8_valid_up_to(text, text_len); }
-static size_t valid_rattle(void) { return bench_c_valid_up_to(text, text_len); }
+static size_t valid_rust(void) { return rust_valid_up_to(text, text_len); }
 
 #ifdef SIMDUTF
 /* Its functions for AVX2. The first argument is an object that they do not read. */
@@ -217,11 +217,11 @@ static const struct {
 #endif
     {"decode", "nody_utf8_first", decode_first}, {"decode", "nody_utf8_next", decode_next},
     {"decode", "nody_utf8_pieces", decode_pieces},
-    {"decode", "rattle", decode_rattle},         {"decode", "icu", decode_icu},
+    {"decode", "rust", decode_rust},         {"decode", "icu", decode_icu},
     {"decode", "utf8proc", decode_utf8proc},
-    {"utf8-in-parts", "nody", widen_parts},      {"utf8-in-parts", "rattle", widen_rattle},
-    {"utf16le-in-parts", "nody", narrow_parts},  {"utf16le-in-parts", "rattle", narrow_rattle},
-    {"valid-up-to", "nody", valid_nody},         {"valid-up-to", "rattle", valid_rattle},
+    {"utf8-in-parts", "nody", widen_parts},      {"utf8-in-parts", "rust", widen_rust},
+    {"utf16le-in-parts", "nody", narrow_parts},  {"utf16le-in-parts", "rust", narrow_rust},
+    {"valid-up-to", "nody", valid_nody},         {"valid-up-to", "rust", valid_rust},
 #ifdef SIMDUTF
     {"valid-up-to", "simdutf", valid_simdutf},
 #endif
@@ -269,7 +269,7 @@ static double seconds(void) {
 /* The bytes of input of a work. */
 static size_t len_of(const char *work) { return strstr(work, "utf16le-") == work || strcmp(work, "over-utf16") == 0 ? units_len : text_len; }
 
-/* The times of one work on one input. Answers whether all sides agree. */
+/* The times of one work on one input. Returns whether all sides agree. */
 static int times(int first, int last, int rounds) {
     double best[SIDES];
     size_t want = sides[first].call(), agree = 1;

@@ -1,5 +1,5 @@
 /* Writes the last N characters of a file: back N FILE. Only the last 4 N bytes of the file are read. The status is 2 for wrong
- * arguments, and 3 where a read or a write failed or there was no memory. */
+ * arguments, and 3 if a read or a write failed or there was no memory. */
 #include "noddychest.h"
 
 #include <errno.h>

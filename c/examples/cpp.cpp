@@ -1,5 +1,5 @@
-// Lists the pieces of standard input by noddychest.hpp: offset, length, and scalar or error. C++17. The status is 1 where there is a
-// fault, 2 for wrong arguments, and 3 where a read or a write failed.
+// Lists the pieces of standard input by noddychest.hpp: offset, length, and scalar or error. C++17. The status is 1 if there is a
+// fault, 2 for wrong arguments, and 3 if a read or a write failed.
 #include "noddychest.hpp"
 
 #include <cstdio>

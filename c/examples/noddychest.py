@@ -23,8 +23,8 @@ LIBRARY.nody_utf8_next.argtypes = [POINTER(Bytes)]
 LIBRARY.nody_utf8_streamed_at.argtypes = [c_char_p, c_size_t, c_size_t]
 LIBRARY.nody_recoder_feed.argtypes = [POINTER(Recoder), c_void_p, c_size_t, c_void_p, c_size_t, POINTER(c_size_t), POINTER(c_size_t)]
 LIBRARY.nody_recoder_finish.argtypes = [POINTER(Recoder), c_void_p, c_size_t, POINTER(c_size_t)]
-LIBRARY.nody_shard_end.restype = c_size_t
-LIBRARY.nody_shard_end.argtypes = [c_uint8, c_void_p, c_size_t, c_size_t]
+LIBRARY.nody_boundary_before.restype = c_size_t
+LIBRARY.nody_boundary_before.argtypes = [c_uint8, c_void_p, c_size_t, c_size_t]
 UNKNOWN, NONE = (c_char * 32)(*b"?"), 11
 
 
@@ -48,7 +48,7 @@ def pieces(data):
 
 
 def merged(data):
-    """The same, with the errors that a reader of one byte at a time names."""
+    """The pieces, with the errors that a reader of one byte at a time names."""
     return listed(data, lambda place: LIBRARY.nody_utf8_streamed_at(data, len(data), place))
 
 

@@ -1,5 +1,5 @@
-/* Lists the pieces of standard input, as the program `pieces` does: offset, length, and scalar or error. The status is 1 where
- * there is a fault, 2 for wrong arguments, and 3 where a read or a write failed or there was no memory. */
+/* Lists the pieces of standard input, as the program `pieces` does: offset, length, and scalar or error. The status is 1 if
+ * there is a fault, 2 for wrong arguments, and 3 if a read or a write failed or there was no memory. */
 #include "noddychest.h"
 
 #include <stdio.h>
@@ -29,7 +29,7 @@ static uint8_t *read_all(size_t *len) {
     return NULL;
 }
 
-/* Lists all pieces, and answers whether one is a fault. */
+/* Lists all pieces, and returns whether one is a fault. */
 static int list(nody_bytes_t left) {
     size_t count, place = 0;
     int faults = 0;

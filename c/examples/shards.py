@@ -1,4 +1,4 @@
-"""Recodes the shards of a text that lie on many machines, each where it lies, on workers of dask.distributed (Debian:
+"""Transcodes the shards of a text that lie on many machines, each where it lies, on workers of dask.distributed (Debian:
 python3-distributed). examples/shards.c says where a text may be cut into such files.
 
 Each worker reads its own file in blocks and writes FILE.recoded beside it. Only names, lengths and six bytes of each file cross the
@@ -16,7 +16,7 @@ BLOCK = 1 << 20
 
 
 def recode(source, to, path):
-    """Recodes a file into FILE.recoded: how many bytes were read and written, its first three bytes, and those held at its end."""
+    """Transcodes a file into FILE.recoded: how many bytes were read and written, its first three bytes, and those held at its end."""
     from ctypes import byref, c_size_t, create_string_buffer
 
     from noddychest import LIBRARY, Recoder
@@ -37,7 +37,7 @@ def recode(source, to, path):
 def are_apart(source, held, front):
     """Whether a text may be cut between the bytes that end one file, as a recoder holds them, and those that begin the next."""
     from noddychest import LIBRARY
-    return LIBRARY.nody_shard_end(source, held + front, len(held + front), len(held)) == len(held)
+    return LIBRARY.nody_boundary_before(source, held + front, len(held + front), len(held)) == len(held)
 
 
 def arguments():

@@ -1,6 +1,6 @@
-/* Recodes a file in several threads: threads FROM TO COUNT FILE >RECODED. The file is cut into blocks where nody_shard_end says, so each is
- * recoded by itself. A thread takes the next block, recodes it, waits until all blocks before it are written, and writes it. So the
- * output is that of one thread, and the memory does not grow with the file. The status is 2 for wrong arguments, and 3 where the file
+/* Transcodes a file in several threads: threads FROM TO COUNT FILE >RECODED. The file is cut into blocks where nody_shard_end says, so each is
+ * converted separately. A thread takes the next block, converts it, waits until all blocks before it are written, and writes it. So the
+ * output is that of one thread, and the memory does not grow with the file. The status is 2 for wrong arguments, and 3 if the file
  * cannot be read, a write failed or there was no memory. (the file is mapped: it must not become shorter)
  */
 #define _POSIX_C_SOURCE 200809L
@@ -16,10 +16,10 @@
 #include <sys/stat.h>
 #include <unistd.h>
 
-enum { BLOCK = 1 << 20, MOST_THREADS = 256, NO_FORM = 3 };
+enum { BLOCK = 1 << 20, MOST_THREADS = 256, NO_ENCODING = 3 };
 
 /* What is recoded. */
-static nody_form_t from, to;
+static nody_encoding_t from, to;
 static const uint8_t *bytes;
 static size_t len;
 
@@ -29,11 +29,11 @@ static pthread_cond_t written_one = PTHREAD_COND_INITIALIZER;
 static size_t taken, written;
 static int error;
 
-static nody_form_t form_of(const char *name) {
-    if (strcmp(name, "utf8") == 0) return NODY_FORM_UTF8;
-    if (strcmp(name, "utf16le") == 0) return NODY_FORM_UTF16LE;
-    if (strcmp(name, "utf16be") == 0) return NODY_FORM_UTF16BE;
-    return (nody_form_t)NO_FORM;
+static nody_encoding_t encoding_of(const char *name) {
+    if (strcmp(name, "utf8") == 0) return NODY_UTF8;
+    if (strcmp(name, "utf16le") == 0) return NODY_UTF16LE;
+    if (strcmp(name, "utf16be") == 0) return NODY_UTF16BE;
+    return (nody_encoding_t)NO_ENCODING;
 }
 
 /* Where a block begins, which is where the one before it ends. */
@@ -83,7 +83,7 @@ int main(int argc, char **argv) {
     pthread_t threads[MOST_THREADS];
     struct stat about;
     long count = argc == 5 ? strtol(argv[3], NULL, 10) : 0, started = 0;
-    if (count < 1 || count > MOST_THREADS || (from = form_of(argv[1])) == NO_FORM || (to = form_of(argv[2])) == NO_FORM) {
+    if (count < 1 || count > MOST_THREADS || (from = encoding_of(argv[1])) == NO_ENCODING || (to = encoding_of(argv[2])) == NO_ENCODING) {
         fprintf(stderr, "usage: %s FROM TO COUNT FILE, where FROM and TO are utf8, utf16le or utf16be, and COUNT 1 to 256\n", argv[0]);
         return 2;
     }

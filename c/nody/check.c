@@ -1,7 +1,11 @@
-/* nody check: whether input is valid, and each invalid byte with its place and the reason. */
+/* nody check: whether input is valid, and each invalid byte with its position and the reason. */
 #include "nody.h"
 
 #include <stdlib.h>
+#include <string.h>
+
+/* A file is binary if its first FRONT bytes contain a NUL, as for grep. */
+enum { FRONT = 8192 };
 
 static bool has_room_for_found(struct worker *worker) {
     if (worker->count < worker->room) return true;
@@ -13,37 +17,73 @@ static bool has_room_for_found(struct worker *worker) {
     return true;
 }
 
-/* Adds the invalid byte that begins there, with the place up to which the block was gone over. */
+/* Adds the invalid byte that begins there, with the position up to which the block was scanned. */
 static bool add_found(struct worker *worker, size_t at) {
     const struct block *block = &worker->block;
-    struct found found = {at, piece_at(block->form, block->bytes + at, block->len - at), worker->end};
+    struct found found = {at, piece_at(block->encoding, block->bytes + at, block->len - at), worker->end};
     if (!has_room_for_found(worker)) return false;
     worker->found[worker->count++] = found;
     return true;
 }
 
-/* Finds the invalid bytes of a block, so many at most, and their places where these are wanted. */
-void find_invalid(struct worker *worker, uint64_t most, bool has_places) {
+/* Finds at most `most` invalid bytes of a block, and their offsets if these are wanted. Returns how far it looked. */
+size_t find_invalid(struct worker *worker, uint64_t most, bool has_places) {
     const struct block *block = &worker->block;
+    int columns = worker->run->request->columns;
     size_t at = 0, counted = 0;
-    while (worker->count < most && (at += valid_up_to(block->form, block->bytes + at, block->end - at)) < block->end) {
-        if (has_places) go_on(&worker->end, block->form, block->bytes + counted, at - counted);
+    while (worker->count < most && (at += valid_up_to(block->encoding, block->bytes + at, block->end - at)) < block->end) {
+        if (has_places) go_on(&worker->end, columns, block->encoding, block->bytes + counted, at - counted);
         counted = at;
-        if ((worker->has_failed = !add_found(worker, at))) return;
+        if ((worker->has_failed = !add_found(worker, at))) return at;
         at += worker->found[worker->count - 1].piece.len;
     }
-    if (has_places) go_on(&worker->end, block->form, block->bytes + counted, block->end - counted);
+    if (has_places) go_on(&worker->end, columns, block->encoding, block->bytes + counted, block->end - counted);
+    return at;
+}
+
+/* Counts the invalid bytes of a block from an offset on. */
+static uint64_t count_invalid(const struct block *block, size_t at) {
+    uint64_t count = 0;
+    while ((at += valid_up_to(block->encoding, block->bytes + at, block->end - at)) < block->end) {
+        at += piece_at(block->encoding, block->bytes + at, block->len - at).len;
+        count++;
+    }
+    return count;
+}
+
+/* Returns true if the first invalid byte says all that is wanted. */
+static bool is_brief(const struct request *request) {
+    return request->is_quiet || request->is_named;
+}
+
+/* Returns true if a NUL at the front says that a file is binary. */
+static bool can_be_binary(const struct run *run) {
+    return !run->request->is_text && !run->request->is_followed && run->source.encoding == NODY_UTF8;
+}
+
+/* Looks for a NUL at the front of a file. */
+static void look_at_front(struct run *run) {
+    uint8_t front[FRONT];
+    int error;
+    if (S_ISREG(run->source.about.st_mode) && can_be_binary(run))
+        run->is_binary = memchr(front, 0, read_at(&run->source, front, sizeof front, 0, &error)) != NULL;
+}
+
+/* Looks for a NUL at the front of a pipe, in what was read so far. */
+static void look_at_block(struct run *run, const struct block *block) {
+    if (S_ISREG(run->source.about.st_mode) || !can_be_binary(run) || block->at >= FRONT) return;
+    size_t len = block->end < FRONT - block->at ? block->end : (size_t)(FRONT - block->at);
+    run->is_binary = run->is_binary || memchr(block->bytes, 0, len);
 }
 
 static void find(struct worker *worker) {
-    const struct request *request = worker->run->request;
-    find_invalid(worker, request->is_quiet ? 1 : request->most, !request->is_quiet);
+    const struct run *run = worker->run;
+    bool is_enough = is_brief(run->request) || (S_ISREG(run->source.about.st_mode) && run->is_binary);
+    size_t at = find_invalid(worker, is_enough ? 1 : run->request->most, !is_enough);
+    worker->more = is_enough || worker->has_failed ? 0 : count_invalid(&worker->block, at);
 }
 
-static void put_member(struct output *out, const char *before, uint64_t number) {
-    put_text(out, before);
-    put_number(out, number);
-}
+/* ---- Output */
 
 static void put_found_json(struct output *out, const char *name, const struct place *place, uint64_t offset, const nody_piece_t *piece) {
     put_text(out, "{\"file\":");
@@ -74,46 +114,111 @@ void put_found(struct run *run, struct output *out, const struct block *block, c
     put_text(out, ": ");
     put_text(out, nody_kind_sentence(found->piece.kind));
     put_byte(out, '\n');
+    if (run->request->context == ALWAYS && place.lines + 1 != run->last_line) put_context(run, block, found);
+    run->last_line = place.lines + 1;
 }
 
 static void tell_found(struct run *run, struct worker *worker) {
-    bool is_quiet = run->request->is_quiet;
+    const struct request *request = run->request;
+    look_at_block(run, &worker->block);
+    bool is_enough = is_brief(request) || run->is_binary;
     for (size_t i = 0; i < worker->count && !run->has_stopped; i++) {
+        if (is_enough) run->first = worker->block.at + worker->found[i].at;
+        else if (run->invalid < request->most) put_found(run, run->out, &worker->block, &worker->found[i]);
         run->invalid++;
-        if (!is_quiet) put_found(run, run->out, &worker->block, &worker->found[i]);
-        run->has_stopped = is_quiet || run->invalid == run->request->most;
+        run->has_stopped = is_enough;
     }
+    if (!run->has_stopped) run->invalid += worker->more;
 }
 
 static void put_summary_json(struct run *run) {
     put_text(run->out, "{\"file\":");
     put_json(run->out, run->source.name);
     put_text(run->out, ",\"encoding\":");
-    put_json(run->out, name_of_form(run->source.form));
+    put_json(run->out, name_of_encoding(run->source.encoding));
     put_text(run->out, run->invalid ? ",\"valid\":false" : ",\"valid\":true");
+    put_text(run->out, run->is_binary ? ",\"binary\":true" : ",\"binary\":false");
     put_member(run->out, ",\"invalid\":", run->invalid);
+    if (run->is_binary && run->invalid) put_member(run->out, ",\"first\":", run->first);
     put_text(run->out, run->has_stopped ? ",\"complete\":false}\n" : ",\"complete\":true}\n");
 }
 
+/* Says which encoding a file may have that is no UTF-8: the one whose byte order mark it begins with. */
+static void put_hint(struct run *run) {
+    nody_encoding_t encoding;
+    uint8_t front[2];
+    int error;
+    const struct source *source = &run->source;
+    bool is_file = S_ISREG(source->about.st_mode) && source->encoding == NODY_UTF8 && !source->is_by_bom;
+    if (!is_file || nody_encoding_of_bom(front, read_at(source, front, sizeof front, 0, &error), &encoding) == 0) return;
+    put_name(run->out, source->name);
+    put_text(run->out, ": begins with the mark of ");
+    put_text(run->out, name_of_encoding(encoding));
+    put_text(run->out, ": try --encoding auto\n");
+}
+
+static void put_count(struct run *run, const char *before, uint64_t count) {
+    put_text(run->out, before);
+    put_grouped(run->out, count);
+    put_byte(run->out, ' ');
+    if (count != run->invalid) put_text(run->out, "more ");
+    put_text(run->out, noun_of_invalid(run->source.encoding, count));
+}
+
 static void put_summary(struct run *run) {
+    const char *encoding = name_of_encoding(run->source.encoding);
     put_name(run->out, run->source.name);
-    put_text(run->out, run->invalid ? ": not valid " : ": valid ");
-    put_text(run->out, name_of_form(run->source.form));
-    if (run->invalid) {
-        put_member(run->out, run->has_stopped ? ": stopped after " : ": ", run->invalid);
-        put_byte(run->out, ' ');
-        put_text(run->out, noun_of_invalid(run->source.form, run->invalid));
+    if (!run->invalid) {
+        put_text(run->out, ": valid ");
+        put_text(run->out, encoding);
+    } else if (run->is_binary) {
+        put_text(run->out, ": binary file, not valid ");
+        put_text(run->out, encoding);
+        put_member(run->out, ": the first invalid byte is at offset ", run->first);
+        put_text(run->out, " (-a shows all)");
+    } else if (run->invalid > run->request->most) {
+        put_count(run, ": ", run->invalid - run->request->most);
+        put_text(run->out, " (--max 0 shows all)");
+    } else {
+        put_text(run->out, ": not valid ");
+        put_text(run->out, encoding);
+        put_count(run, ": ", run->invalid);
     }
     put_byte(run->out, '\n');
+    if (run->invalid) put_hint(run);
+}
+
+/* Only the name: as it is for a program, and as it can be shown for people. */
+static void put_its_name(struct run *run) {
+    const char *name = run->source.name;
+    if (run->out->is_shown) put_name(run->out, name);
+    else put_text(run->out, name);
+    put_byte(run->out, run->request->is_nul ? 0 : '\n');
+}
+
+const struct command check_command = {find, tell_found};
+
+/* Returns true for a binary file that was found in a folder: these have one line together. */
+bool is_only_counted(const struct run *run) {
+    const struct request *request = run->request;
+    return run->how == IS_FOUND && run->is_binary && run->invalid && !request->is_verbose && !request->is_json && !is_brief(request);
+}
+
+/* Ends the check of a file with what is said of the whole. */
+enum status end_check(struct run *run) {
+    const struct request *request = run->request;
+    enum status failure = tell_failure(run);
+    if (failure != IS_VALID) return failure;
+    if (request->is_quiet || is_only_counted(run)) return run->invalid ? IS_INVALID : IS_VALID;
+    if (request->is_named && run->invalid) put_its_name(run);
+    else if (request->is_json && !request->is_named) put_summary_json(run);
+    else if (!request->is_named && (run->invalid || request->is_verbose)) put_summary(run);
+    return run->invalid ? IS_INVALID : IS_VALID;
 }
 
 enum status run_check(struct run *run) {
-    static const struct command check = {find, tell_found};
-    run->command = &check;
+    run->command = &check_command;
+    look_at_front(run);
     run_blocks(run);
-    enum status failure = tell_failure(run);
-    if (failure != IS_VALID) return failure;
-    if (run->request->is_json && !run->request->is_quiet) put_summary_json(run);
-    else if (!run->request->is_quiet) put_summary(run);
-    return run->invalid ? IS_INVALID : IS_VALID;
+    return end_check(run);
 }

@@ -1,12 +1,12 @@
 /* Where a block may be cut, and the pieces of a block: in UTF-8, and in UTF-16 of both byte orders.
  *
- * All that knows how pieces are found stands here, over the calls of noddychest.h. */
+  * All that knows how pieces are found is in this file, over the calls of noddychest.h. */
 #include "nody.h"
 
 #include <string.h>
 
-static uint16_t unit_at(nody_form_t form, const uint8_t *bytes) {
-    unsigned low = form == NODY_FORM_UTF16LE ? bytes[0] : bytes[1], high = form == NODY_FORM_UTF16LE ? bytes[1] : bytes[0];
+static uint16_t unit_at(nody_encoding_t encoding, const uint8_t *bytes) {
+    unsigned low = encoding == NODY_UTF16LE ? bytes[0] : bytes[1], high = encoding == NODY_UTF16LE ? bytes[1] : bytes[0];
     return (uint16_t)(high << 8 | low);
 }
 
@@ -18,61 +18,61 @@ static bool is_trailing(uint16_t unit) {
     return (unit & 0xFC00) == 0xDC00;
 }
 
-/* How many bytes at the end, at most three, are pieces that later bytes may change: characters that are not complete, and invalid
- * bytes whose kind depends on what follows. (nody_undecided_len keeps nothing of F0 41, since a decoder names F0 at once; by nody_utf8_first
- * it has another kind at the end of the input, and this program tells kinds by that) */
-size_t undecided_len(nody_form_t form, const uint8_t *bytes, size_t len) {
-    if (form != NODY_FORM_UTF8) return nody_undecided_len(form, bytes, len);
+/* How many bytes at the end, at most three, are pieces that later bytes may change: incomplete characters, and invalid bytes whose kind
+ * depends on what follows. (nody_undecided_len returns 0 for F0 41, since a decoder names F0 without waiting; for nody_utf8_first it has
+ * another kind at the end of the input, and this program prints the kinds of the latter) */
+size_t undecided_len(nody_encoding_t encoding, const uint8_t *bytes, size_t len) {
+    if (encoding != NODY_UTF8) return nody_undecided_len(encoding, bytes, len);
     for (size_t left = len < MOST_HELD ? len : MOST_HELD; left > 0; left--)
         if (nody_utf8_first(bytes + len - left, left).kind == NODY_KIND_TOO_FEW_BYTES) return left;
     return 0;
 }
 
-/* Where a block may be cut, at `at` or at most three bytes before: nowhere inside a piece, or inside a maximal subpart. It is told by these
- * bytes, whatever lies before and after them. */
-size_t cut_before(nody_form_t form, const uint8_t *bytes, size_t len, size_t at) {
+/* The last offset up to `at` at which a block may be cut, at most three bytes before: not inside a piece or a maximal subpart. It depends
+ * only on these bytes, whatever lies before and after them. */
+size_t cut_before(nody_encoding_t encoding, const uint8_t *bytes, size_t len, size_t at) {
     if (at >= len) return len;
-    if (form != NODY_FORM_UTF8) return at >= 2 && is_leading(unit_at(form, bytes + at - 2)) ? at - 2 : at;
+    if (encoding != NODY_UTF8) return at >= 2 && is_leading(unit_at(encoding, bytes + at - 2)) ? at - 2 : at;
     for (size_t back = 0; back <= MOST_HELD && back <= at; back++)
         if ((bytes[at - back] & 0xC0) != 0x80) return at - back;
     return at;
 }
 
-/* The first piece, with its length in bytes in each form. */
-nody_piece_t piece_at(nody_form_t form, const uint8_t *bytes, size_t len) {
+/* The first piece, with its length in bytes in each encoding. */
+nody_piece_t piece_at(nody_encoding_t encoding, const uint8_t *bytes, size_t len) {
     uint16_t units[2];
-    if (form == NODY_FORM_UTF8) return nody_utf8_first(bytes, len);
+    if (encoding == NODY_UTF8) return nody_utf8_first(bytes, len);
     nody_piece_t piece = {len, 0, len ? NODY_KIND_INCOMPLETE : NODY_KIND_NONE};
     if (len < 2) return piece;
-    units[0] = unit_at(form, bytes);
-    units[1] = len < 4 ? 0 : unit_at(form, bytes + 2);
+    units[0] = unit_at(encoding, bytes);
+    units[1] = len < 4 ? 0 : unit_at(encoding, bytes + 2);
     piece = nody_utf16_first(units, len < 4 ? 1 : 2);
     piece.len *= 2;
     return piece;
 }
 
-size_t valid_up_to(nody_form_t form, const uint8_t *bytes, size_t len) {
-    return form == NODY_FORM_UTF8 ? nody_utf8_valid_up_to(bytes, len) : nody_utf16_bytes_valid_up_to(form, bytes, len);
+size_t valid_up_to(nody_encoding_t encoding, const uint8_t *bytes, size_t len) {
+    return encoding == NODY_UTF8 ? nody_utf8_valid_up_to(bytes, len) : nody_utf16_bytes_valid_up_to(encoding, bytes, len);
 }
 
 /* The number of pieces of bytes that begin and end between pieces. */
-size_t count_pieces(nody_form_t form, const uint8_t *bytes, size_t len) {
+size_t count_pieces(nody_encoding_t encoding, const uint8_t *bytes, size_t len) {
     size_t pairs = 0;
     bool is_after_leading = false;
-    if (form == NODY_FORM_UTF8) return nody_utf8_char_count(bytes, len);
+    if (encoding == NODY_UTF8) return nody_utf8_char_count(bytes, len);
     for (size_t i = 0; i + 1 < len; i += 2) {
-        uint16_t unit = unit_at(form, bytes + i);
+        uint16_t unit = unit_at(encoding, bytes + i);
         pairs += is_after_leading && is_trailing(unit);
         is_after_leading = is_leading(unit);
     }
     return len / 2 + len % 2 - pairs;
 }
 
-/* Sixteen bytes at once, which gcc and clang make of any processor's vectors. */
+/* A vector of sixteen bytes, which gcc and clang support on any CPU. */
 enum { LANES = 16, MOST_ROUNDS = 255 };
 typedef uint8_t lanes __attribute__((vector_size(LANES)));
 
-/* Counts a byte in so many rounds of lanes, at most as many as a lane can count. */
+/* Counts a byte in `rounds` vectors, at most as many as a lane can count. */
 static size_t count_in_lanes(const uint8_t *bytes, size_t rounds, uint8_t wanted) {
     lanes counts = {0}, all = counts + wanted, here;
     size_t count = 0;
@@ -96,9 +96,9 @@ static size_t count_bytes(const uint8_t *bytes, size_t len, uint8_t wanted) {
     return count;
 }
 
-size_t count_line_feeds(nody_form_t form, const uint8_t *bytes, size_t len) {
+size_t count_line_feeds(nody_encoding_t encoding, const uint8_t *bytes, size_t len) {
     size_t count = 0;
-    if (form == NODY_FORM_UTF8) return count_bytes(bytes, len, '\n');
-    for (size_t i = 0; i + 1 < len; i += 2) count += unit_at(form, bytes + i) == '\n';
+    if (encoding == NODY_UTF8) return count_bytes(bytes, len, '\n');
+    for (size_t i = 0; i + 1 < len; i += 2) count += unit_at(encoding, bytes + i) == '\n';
     return count;
 }

@@ -13,7 +13,7 @@
 
 /* ---- Descriptors */
 
-/* The digits after a front, as a number; -1 where the name has another front, or more than digits follow. */
+/* The digits after a front, as a number; -1 if the name has another front, or more than digits follow. */
 static int number_after(const char *name, const char *front) {
     size_t len = strlen(front);
     if (strncmp(name, front, len) != 0) return -1;
@@ -22,7 +22,7 @@ static int number_after(const char *name, const char *front) {
     return count > 0 && count < 8 && !digits[count] ? atoi(digits) : -1;
 }
 
-/* The number that a name has as it stands, or -1. */
+/* The descriptor that a name denotes literally, or -1. */
 static int number_of_name(const char *name) {
     static const char *const streams[] = {"/dev/stdin", "/dev/stdout", "/dev/stderr"};
     char own[40];
@@ -35,7 +35,7 @@ static int number_of_name(const char *name) {
     return number;
 }
 
-/* Goes on from a link to what it has; false where the name is no link. */
+/* Goes on from a link to what it has; false if the name is no link. */
 static bool follow_link(char *name, size_t room) {
     char target[PATH_MAX];
     ssize_t len = readlink(name, target, sizeof target - 1);
@@ -47,8 +47,8 @@ static bool follow_link(char *name, size_t room) {
     return true;
 }
 
-/* The number of the open descriptor of which a name is another name, as /dev/stdout, or a link that leads there; else -1. It is written where
- * it stands, as a file that others append to. ("-" is standard output) */
+/* The number of the open descriptor of which a name is another name, as /dev/stdout, or a link that leads there; otherwise -1. It is
+ * written without being replaced, as a file that others append to. ("-" is standard output) */
 int descriptor_of(const char *name) {
     enum { MOST_LINKS = 40 };
     char here[PATH_MAX];
@@ -106,8 +106,8 @@ static mode_t new_mode(void) {
     return 0666 & ~mask;
 }
 
-/* Gives a file owner and group of another one, as far as that is allowed, and answers the mode that it then may have: a program that runs as
- * its owner or its group does so of no other one. */
+/* Gives a file the owner and group of another one, as far as that is allowed, and returns the mode that it may then have: never setuid or
+ * setgid for an owner or a group that is not the other file's. */
 static mode_t take_owner(int file, const struct stat *about) {
     struct stat now;
     if (fchown(file, about->st_uid, about->st_gid) != 0 && fchown(file, (uid_t)-1, about->st_gid) != 0) {
@@ -130,8 +130,8 @@ static bool make_temporary(struct replacement *it, const struct stat *about) {
     return it->file >= 0 && fchmod(it->file, about ? take_owner(it->file, about) : new_mode()) == 0;
 }
 
-/* Opens what will have the name. Where that is a link, what it leads to is replaced, and no link: one that leads nowhere fails. In place a
- * file is replaced that may not be written, where its folder may. */
+/* Opens what will have the name. If that is a link, what it leads to is replaced, and no link: one that leads nowhere fails. In place a
+ * file is replaced that may not be written, if its folder may. */
 bool open_replacement(struct replacement *it, const char *name, bool is_in_place) {
     struct stat about, link;
     bool is_there = stat(name, &about) == 0, is_link = lstat(name, &link) == 0 && S_ISLNK(link.st_mode);
@@ -158,14 +158,18 @@ static void keep_folder(const char *name) {
     free(folder);
 }
 
-/* Gives the file its name, once all of it is on the disk. */
-bool keep_replacement(struct replacement *it) {
+/* Ends writing: all of the file is then on the disk. (this may take long) */
+bool flush_replacement(struct replacement *it) {
     int file = it->file;
     it->file = -1;
-    if (it->is_direct) return close(file) == 0;
-    bool is_kept = fsync(file) == 0;
-    is_kept = close(file) == 0 && is_kept;
-    if (!is_kept || rename(it->temporary, it->name) != 0) return false;
+    bool is_flushed = it->is_direct || fsync(file) == 0;
+    return close(file) == 0 && is_flushed;
+}
+
+/* Gives a file that was flushed its name. */
+bool keep_replacement(struct replacement *it) {
+    if (it->is_direct) return true;
+    if (rename(it->temporary, it->name) != 0) return false;
     unfinished = NULL;
     keep_folder(it->name);
     return true;

@@ -79,7 +79,23 @@ void put_number(struct output *out, uint64_t number) {
     put(out, digits + at, sizeof digits - at);
 }
 
-/* A number in hexadecimal, with at least so many digits. */
+/* A number with commas, as 1,203. */
+void put_grouped(struct output *out, uint64_t number) {
+    if (number < 1000) {
+        put_number(out, number);
+        return;
+    }
+    put_grouped(out, number / 1000);
+    put_byte(out, ',');
+    for (unsigned unit = 100; unit > 0; unit /= 10) put_byte(out, (char)('0' + number % 1000 / unit % 10));
+}
+
+void put_member(struct output *out, const char *before, uint64_t number) {
+    put_text(out, before);
+    put_number(out, number);
+}
+
+/* A number in hexadecimal, with at least `digits` digits. */
 void put_hex(struct output *out, uint64_t number, int digits) {
     int more = digits;
     while (more < 16 && number >> (4 * more)) more++;

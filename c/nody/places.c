@@ -1,12 +1,28 @@
-/* Lines and columns. A line ends with its line feed; a column is a number of pieces: characters, and invalid bytes, which count one each. */
+/* Lines and columns. A line ends with its line feed. A column is a number of pieces (characters, and invalid bytes, which count one each), of
+ * bytes, or of cells of a terminal. */
 #include "nody.h"
 
+#include <locale.h>
 #include <string.h>
+#include <wchar.h>
+
+enum { TAB = 8 };
+
+/* Lets wcwidth know the characters of Unicode. (the names are those of glibc and musl, and of macOS) */
+void set_widths(void) {
+    if (!setlocale(LC_CTYPE, "C.UTF-8")) setlocale(LC_CTYPE, "en_US.UTF-8");
+}
+
+/* How many cells a character takes on a terminal, at most two. A control takes one here. */
+unsigned width_of(uint32_t scalar) {
+    int width = scalar < 0x80 ? 1 : wcwidth((wchar_t)scalar);
+    return width < 0 ? 1 : (unsigned)width;
+}
 
 /* How many bytes of these there are up to the last line feed, and with it. */
-static size_t end_of_lines(nody_form_t form, const uint8_t *bytes, size_t len) {
-    size_t low = form == NODY_FORM_UTF16BE, at = len - len % 2;
-    if (form == NODY_FORM_UTF8) {
+static size_t end_of_lines(nody_encoding_t encoding, const uint8_t *bytes, size_t len) {
+    size_t low = encoding == NODY_UTF16BE, at = len - len % 2;
+    if (encoding == NODY_UTF8) {
         while (len > 0 && bytes[len - 1] != '\n') len--;
         return len;
     }
@@ -14,21 +30,41 @@ static size_t end_of_lines(nody_form_t form, const uint8_t *bytes, size_t len) {
     return at;
 }
 
-/* Takes the place over bytes that begin and end between pieces. */
-void go_on(struct place *place, nody_form_t form, const uint8_t *bytes, size_t len) {
-    size_t lines = count_line_feeds(form, bytes, len);
+/* Moves the position over a part of a line, by cells. */
+static void go_on_in_cells(struct place *place, nody_encoding_t encoding, const uint8_t *bytes, size_t len) {
+    for (size_t at = 0; at < len;) {
+        nody_piece_t piece = piece_at(encoding, bytes + at, len - at);
+        at += piece.len;
+        if (piece.kind == NODY_KIND_OK && piece.scalar == '\t' && place->lines == 0 && !place->has_tab) {
+            place->has_tab = true;
+            place->before_tab = place->columns;
+            place->columns = 0;
+        } else if (piece.kind == NODY_KIND_OK && piece.scalar == '\t') {
+            place->columns += TAB - place->columns % TAB;
+        } else {
+            place->columns += piece.kind == NODY_KIND_OK ? width_of(piece.scalar) : 1;
+        }
+    }
+}
+
+/* Moves the position over bytes that begin and end between pieces. */
+void go_on(struct place *place, int columns, nody_encoding_t encoding, const uint8_t *bytes, size_t len) {
+    size_t lines = count_line_feeds(encoding, bytes, len);
     if (lines > 0) {
-        size_t end = end_of_lines(form, bytes, len);
+        size_t end = end_of_lines(encoding, bytes, len);
         place->lines += lines;
         place->columns = 0;
         bytes += end;
         len -= end;
     }
-    place->columns += count_pieces(form, bytes, len);
+    if (columns == DISPLAY) go_on_in_cells(place, encoding, bytes, len);
+    else place->columns += columns == BYTES ? len : count_pieces(encoding, bytes, len);
 }
 
-/* Takes the place over what another one, counted from it, went over. */
+/* Moves a position in the whole input by another one, counted from it. */
 void add_place(struct place *place, const struct place *more) {
-    place->columns = more->lines ? more->columns : place->columns + more->columns;
+    if (more->lines) place->columns = more->columns;
+    else if (more->has_tab) place->columns = ((place->columns + more->before_tab) / TAB + 1) * TAB + more->columns;
+    else place->columns += more->columns;
     place->lines += more->lines;
 }

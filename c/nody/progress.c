@@ -1,4 +1,4 @@
-/* The progress bar: on standard error, where that is a terminal, once a second has passed. */
+/* The progress bar: on standard error, if that is a terminal, once a second has passed. */
 #include "nody.h"
 
 #include <stdio.h>
@@ -46,7 +46,7 @@ static void tell_bytes(char *out, size_t room, double bytes) {
     snprintf(out, room, unit ? "%.1f %s" : "%.0f %s", bytes, units[unit]);
 }
 
-/* As much of a name as has its place in so many columns. (characters from U+1100 on may be two wide) */
+/* As much of a name as fits in `most` columns. (characters from U+1100 on may be two wide) */
 static void say_name(const char *name, size_t most) {
     char shown[SHOWN_ROOM];
     nody_bytes_t left = nody_bytes((const uint8_t *)name, strlen(name));
@@ -59,7 +59,7 @@ static void say_name(const char *name, size_t most) {
     }
 }
 
-/* What the bar says behind the name: how far it is, where the whole is known of how much, and how fast. */
+/* What the bar says behind the name: how far it is, of how much if that is known, and how fast. */
 static void tell_state(char *out, size_t room, const struct run *run, double seconds, int width) {
     static const char bar[] = "##############################";
     char done[32], speed[32], size[32], part[96] = "";
@@ -73,7 +73,7 @@ static void tell_state(char *out, size_t room, const struct run *run, double sec
     snprintf(out, room, ": %s%s, %s/s", done, part, speed);
 }
 
-/* All in one line: what has no place in it is left out, the bar first, and then the end of the name. */
+/* All in one line: what does not fit is left out, the bar first, and then the end of the name. */
 static void say(const struct run *run, double seconds) {
     enum { MOST_WIDTH = 30, MOST_NAME = 60, LEAST_NAME = 8 };
     char state[192];

@@ -1,5 +1,5 @@
-/* Works on the blocks of an input: reads them one after another, works on several at the same time where there are several threads, and
- * tells what came of them in order. */
+/* Works on the blocks of an input: reads them one after another, works on several at the same time if there are several threads, and
+ * reports the results in order. */
 #include "nody.h"
 
 #include <pthread.h>
@@ -7,7 +7,7 @@
 #include <string.h>
 #include <unistd.h>
 
-/* Threads on a file where nobody says how many, and blocks for each thread, so that one which waits for the processor stops no other. */
+/* Threads on a file where nobody says how many, and blocks for each thread, so that one which waits for the CPU stops no other. */
 enum { JOBS = 4, MOST_JOBS = 256, EACH = 3 };
 
 /* The threads, and the blocks that they work on: those from the next one to tell of up to the last that was taken. */
@@ -21,7 +21,7 @@ static struct {
     bool is_reading, is_telling, is_over;
 } crew = {.lock = PTHREAD_MUTEX_INITIALIZER, .changed = PTHREAD_COND_INITIALIZER};
 
-/* Whether there is room for so many bytes to be made. */
+/* Grows the output buffer to `room` bytes, and returns false if that fails. */
 bool has_room(struct worker *worker, size_t room) {
     if (room <= worker->made_room) return true;
     uint8_t *made = realloc(worker->made, room);
@@ -43,7 +43,7 @@ static bool can_take(void) {
     return !crew.is_over && !crew.is_reading && crew.taken < crew.told + crew.count;
 }
 
-/* Takes the next block in the order of the input; false where that has ended. It is called, and ends, with the lock. */
+/* Takes the next block in the order of the input; false if that has ended. It is called, and ends, with the lock. */
 static bool read_next(struct worker *worker) {
     crew.is_reading = true;
     pthread_mutex_unlock(&crew.lock);
@@ -55,6 +55,15 @@ static bool read_next(struct worker *worker) {
     return is_taken;
 }
 
+static void work_on(struct worker *worker) {
+    worker->has_failed = false;
+    worker->count = 0;
+    worker->more = 0;
+    worker->made_len = 0;
+    memset(&worker->end, 0, sizeof worker->end);
+    worker->run->command->work(worker);
+}
+
 /* Takes a block and works on it. It is called, and ends, with the lock. */
 static void take_next(void) {
     struct run *run = crew.run;
@@ -64,11 +73,7 @@ static void take_next(void) {
     uint64_t number = crew.taken++;
     pthread_mutex_unlock(&crew.lock);
     if (run->source.is_apart) load_block(&run->source, &worker->block, number);
-    worker->has_failed = false;
-    worker->count = 0;
-    worker->made_len = 0;
-    memset(&worker->end, 0, sizeof worker->end);
-    run->command->work(worker);
+    work_on(worker);
     pthread_mutex_lock(&crew.lock);
     worker->is_ready = true;
 }
@@ -91,7 +96,7 @@ static void tell(struct run *run, struct worker *worker) {
     show_progress(run);
 }
 
-/* Whether what comes after what was told is not wanted, or not there. */
+/* Whether nothing comes after what was reported, or nobody wants it. */
 static bool has_ended(const struct run *run) {
     return run->has_stopped || (run->source.is_apart && run->source.has_ended);
 }
@@ -121,8 +126,8 @@ static void *work(void *unused) {
     return unused;
 }
 
-/* How many threads there are to be. (a small file has one, and so has a pipe of which nobody said how many: that one tells of each part before
- * it waits for the next) */
+/* The number of threads to use. (a small file has one, and so has a pipe if the number was not given: it reports each part before it waits
+ * for the next) */
 static size_t jobs_of(struct run *run) {
     long here = sysconf(_SC_NPROCESSORS_ONLN);
     size_t jobs = run->request->jobs, asked = jobs ? jobs : here < 1 ? 1 : here < JOBS ? (size_t)here : JOBS;
@@ -132,22 +137,36 @@ static size_t jobs_of(struct run *run) {
     return asked < MOST_JOBS ? asked : MOST_JOBS;
 }
 
-static void open_workers(struct run *run, size_t count) {
-    for (crew.count = 0; crew.count < count; crew.count++) {
-        struct worker *worker = &crew.workers[crew.count];
-        memset(worker, 0, sizeof *worker);
-        worker->run = run;
-        worker->block.room = malloc(BLOCK_ROOM);
-        if (!worker->block.room) break;
-    }
+/* Takes one block in the caller's thread, works on it and reports the result. Returns false if there is none, or no more is wanted. */
+bool run_block(struct run *run, struct worker *worker) {
+    if (run->has_stopped || !take_block(&run->source, &worker->block)) return false;
+    work_on(worker);
+    tell(run, worker);
+    return true;
 }
 
+/* Makes a worker ready for a run. It keeps the memory of the run before. Returns false if there is no memory. */
+bool open_worker(struct worker *worker, struct run *run) {
+    worker->run = run;
+    if (!worker->block.room) worker->block.room = malloc(BLOCK_ROOM);
+    return worker->block.room != NULL;
+}
+
+void close_worker(struct worker *worker) {
+    free(worker->block.room);
+    free(worker->found);
+    free(worker->made);
+    memset(worker, 0, sizeof *worker);
+}
+
+static void open_workers(struct run *run, size_t count) {
+    crew.count = 0;
+    while (crew.count < count && open_worker(&crew.workers[crew.count], run)) crew.count++;
+}
+
+/* Gives memory back, but for that of the first worker, which the next small file takes. */
 static void close_workers(void) {
-    for (size_t i = 0; i < crew.count; i++) {
-        free(crew.workers[i].block.room);
-        free(crew.workers[i].found);
-        free(crew.workers[i].made);
-    }
+    for (size_t i = 1; i < crew.count; i++) close_worker(&crew.workers[i]);
 }
 
 void run_blocks(struct run *run) {

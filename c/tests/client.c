@@ -20,8 +20,8 @@ static uint32_t below(uint32_t n) {
     return seed % n;
 }
 
-/* Feeds the bytes in parts, each into room after room of a size; the first room may have another size. Sizes of 0 stand for
- * random ones. Answers how many bytes came of it, or MOST + 1 where a promise was broken. */
+/* Feeds the bytes in parts, each into output buffers of size `room`; the first may have another size. A size of 0 means random ones.
+ * Returns the length of the output, or MOST + 1 if a promise was broken. */
 static size_t recode(uint8_t from, uint8_t to, const uint8_t *in, size_t len, uint8_t *out, size_t part, size_t first, size_t room) {
     nody_recoder_t recoder = nody_recoder(from, to);
     size_t made = 0, place = 0;
@@ -54,7 +54,7 @@ static int is_recoded(uint8_t from, uint8_t to, const uint8_t *in, size_t len, c
     return recode(from, to, in, len, out, part, first, room) == want_len && memcmp(out, want, want_len) == 0;
 }
 
-/* Cuts the bytes in two, near each place, and recodes each side by itself. */
+/* Cuts the bytes in two, near each offset, and converts each side separately. */
 static int shards_join(uint8_t from, uint8_t to, const uint8_t *in, size_t len, const uint8_t *want, size_t want_len) {
     for (size_t at = 0; at <= len + 1; at++) {
         size_t end = nody_shard_end(from, in, len, at), limit = at < len ? at : len, made;
@@ -67,8 +67,8 @@ static int shards_join(uint8_t from, uint8_t to, const uint8_t *in, size_t len, 
     return 1;
 }
 
-static uint8_t form_of(const char *name) {
-    return name[3] == '8' ? NODY_FORM_UTF8 : name[5] == 'l' ? NODY_FORM_UTF16LE : NODY_FORM_UTF16BE;
+static uint8_t encoding_of(const char *name) {
+    return name[3] == '8' ? NODY_UTF8 : name[5] == 'l' ? NODY_UTF16LE : NODY_UTF16BE;
 }
 
 static void vectors(void) {
@@ -76,7 +76,7 @@ static void vectors(void) {
     while (next_row(&rows)) {
         size_t len, need;
         uint8_t *in = bytes_of(rows.column[1], &len), *want = bytes_of(rows.column[2], &need);
-        uint8_t from = form_of(rows.column[0]), to = form_of(strchr(rows.column[0], ' ') + 1);
+        uint8_t from = encoding_of(rows.column[0]), to = encoding_of(strchr(rows.column[0], ' ') + 1);
         which = rows.column[1];
         expect(need <= nody_recoded_len_max(from, to, len), "bound of the output");
         expect(need == nody_recoded_len(from, to, in, len), "length of the output");
@@ -143,13 +143,13 @@ static void cursors(void) {
     expect(nody_utf16_next(&left_units).kind == NODY_KIND_NONE && nody_utf16_next_back(&left_units).kind == NODY_KIND_NONE, "no unit is left");
     expect(nody_utf8_valid_up_to(bytes, sizeof bytes) == 4 && nody_utf8_valid_up_to(bytes, 4) == 4 && nody_utf8_valid_up_to(bytes, 3) == 1, "the first faulty byte");
     expect(nody_utf16_valid_up_to(units, 5) == 3 && nody_utf16_valid_up_to(units, 3) == 3 && nody_utf16_valid_up_to(units, 2) == 1, "the first faulty unit");
-    expect(nody_shard_end(NODY_FORM_UTF8, bytes, sizeof bytes, 3) == 1 && nody_shard_end(NODY_FORM_UTF8, bytes, sizeof bytes, 5) == 5, "a shard of UTF-8");
-    expect(nody_shard_end(NODY_FORM_UTF8, bytes, sizeof bytes, 9) == 6 && nody_shard_end(NODY_FORM_UTF8, bytes, sizeof bytes, 99) == 11, "a shard before four bytes");
+    expect(nody_shard_end(NODY_UTF8, bytes, sizeof bytes, 3) == 1 && nody_shard_end(NODY_UTF8, bytes, sizeof bytes, 5) == 5, "a shard of UTF-8");
+    expect(nody_shard_end(NODY_UTF8, bytes, sizeof bytes, 9) == 6 && nody_shard_end(NODY_UTF8, bytes, sizeof bytes, 99) == 11, "a shard before four bytes");
     left_units = nody_units(units, 5);
     expect(nody_utf16_next_back(&left_units).kind != NODY_KIND_OK && left_units.len == 4, "a unit at the end");
 }
 
-/* The same cut, read byte by byte. The kind differs where bytes are missing and one that is there breaks the code. */
+/* The pieces, read byte by byte. The kind differs if bytes are missing and one that is there breaks the sequence. */
 static void streamed(void) {
     static const uint8_t bytes[] = {0x41, 0xe2, 0x82, 0xac, 0xf0, 0x9f, 0x21};
     nody_bytes_t left = nody_bytes(bytes, sizeof bytes);
@@ -172,7 +172,7 @@ static void streamed(void) {
 static void nothing(void) {
     nody_bytes_t left = nody_bytes(NULL, 0);
     nody_units_t left_units = nody_units(NULL, 0);
-    nody_recoder_t recoder = nody_recoder(NODY_FORM_UTF8, NODY_FORM_UTF16LE), none = nody_recoder(3, 0);
+    nody_recoder_t recoder = nody_recoder(NODY_UTF8, NODY_UTF16LE), none = nody_recoder(3, 0);
     size_t read = 7, written = 7;
     expect(nody_utf8_first(NULL, 0).kind == NODY_KIND_NONE && nody_utf8_last(NULL, 0).kind == NODY_KIND_NONE, "no bytes");
     expect((nody_utf8_first)(NULL, 0).kind == NODY_KIND_NONE, "no bytes, by a call");
@@ -186,7 +186,7 @@ static void nothing(void) {
     expect(nody_recoder_finish(&recoder, NULL, 0, &written) == NODY_STATUS_DONE && written == 0, "nothing to finish");
     expect(nody_recoder_feed(&none, NULL, 0, NULL, 0, &read, &written) == NODY_STATUS_REFUSED && nody_recoder_finish(&none, NULL, 0, &written) == NODY_STATUS_REFUSED, "no recoder");
     expect(nody_recoded_len_max(0, 3, 1) == SIZE_MAX && nody_recoded_len_max(0, 0, SIZE_MAX) == SIZE_MAX && nody_recoded_len_max(1, 0, 3) == 6, "bounds");
-    expect(nody_shard_end(NODY_FORM_UTF16BE, NULL, 0, 7) == 0 && nody_shard_end(3, NULL, 0, 0) == SIZE_MAX, "no shard");
+    expect(nody_shard_end(NODY_UTF16BE, NULL, 0, 7) == 0 && nody_shard_end(3, NULL, 0, 0) == SIZE_MAX, "no shard");
     expect(strcmp(nody_kind_name(NODY_KIND_TOO_HIGH_CODEPOINT), "TooHighCodepoint") == 0 && strcmp(nody_kind_name(200), "?") == 0, "names");
 }
 
@@ -199,24 +199,110 @@ static void whole_inputs(void) {
     uint16_t native[16];
     size_t written = 9;
     memset(out, GUARD, sizeof out);
-    expect(nody_recode(NODY_FORM_UTF8, NODY_FORM_UTF16LE, in, sizeof in, out, 14, &written) == NODY_STATUS_DONE, "a whole input");
+    expect(nody_recode(NODY_UTF8, NODY_UTF16LE, in, sizeof in, out, 14, &written) == NODY_STATUS_DONE, "a whole input");
     expect(written == sizeof le && memcmp(out, le, sizeof le) == 0 && out[14] == GUARD, "what it is recoded as");
-    expect(nody_recoded_len(NODY_FORM_UTF8, NODY_FORM_UTF16LE, in, sizeof in) == sizeof le, "how long it is");
-    expect(nody_recoded_len(NODY_FORM_UTF8, NODY_FORM_UTF8, in, sizeof in) == 1 + 3 + 4 + 3 + 3 + 1, "how long it is with each fault as U+FFFD");
-    expect(nody_recoded_len(3, NODY_FORM_UTF8, in, 1) == SIZE_MAX && nody_recoded_len(NODY_FORM_UTF8, 3, in, 1) == SIZE_MAX, "the length in no form");
+    expect(nody_recoded_len(NODY_UTF8, NODY_UTF16LE, in, sizeof in) == sizeof le, "how long it is");
+    expect(nody_recoded_len(NODY_UTF8, NODY_UTF8, in, sizeof in) == 1 + 3 + 4 + 3 + 3 + 1, "how long it is with each fault as U+FFFD");
+    expect(nody_recoded_len(3, NODY_UTF8, in, 1) == SIZE_MAX && nody_recoded_len(NODY_UTF8, 3, in, 1) == SIZE_MAX, "the length in no encoding");
     memset(out, GUARD, sizeof out);
-    expect(nody_recode(NODY_FORM_UTF8, NODY_FORM_UTF16LE, in, sizeof in, out, 7, &written) == NODY_STATUS_FULL, "too little room");
+    expect(nody_recode(NODY_UTF8, NODY_UTF16LE, in, sizeof in, out, 7, &written) == NODY_STATUS_FULL, "too little room");
     expect(written == 4 && memcmp(out, le, 4) == 0 && out[7] == GUARD, "the front that fits");
-    expect(nody_recode(NODY_FORM_UTF8, 3, in, sizeof in, out, 32, &written) == NODY_STATUS_REFUSED && written == 0 && out[7] == GUARD, "into no form");
+    expect(nody_recode(NODY_UTF8, 3, in, sizeof in, out, 32, &written) == NODY_STATUS_REFUSED && written == 0 && out[7] == GUARD, "into no encoding");
     expect(nody_utf8_to_utf16(in, sizeof in, native, 16, &written) == NODY_STATUS_DONE && written == 7 && memcmp(native, units, 14) == 0, "into an array of units");
     expect(nody_utf8_to_utf16(in, sizeof in, native, 3, &written) == NODY_STATUS_FULL && written == 2, "into too few units");
     expect(nody_utf16_to_utf8(units, 4, text, 32, &written) == NODY_STATUS_DONE && written == 8 && memcmp(text, in, 8) == 0, "of an array of units");
     expect(nody_utf8_char_count(in, sizeof in) == 6 && nody_utf8_char_count(in, 8) == 3 && nody_utf8_char_count(in, 7) == 5, "how many characters");
     expect(nody_utf16_char_count(units, 9) == 8 && nody_utf16_char_count(units, 3) == 3, "how many characters of units");
-    expect(nody_utf16_bytes_valid_up_to(NODY_FORM_UTF16LE, le, sizeof le) == 14 && nody_utf16_bytes_valid_up_to(NODY_FORM_UTF16LE, le, 13) == 12, "half a unit");
-    expect(nody_utf16_bytes_valid_up_to(NODY_FORM_UTF16LE, le, 6) == 4 && nody_utf16_bytes_valid_up_to(NODY_FORM_UTF16LE, le + 6, 4) == 0, "surrogates in bytes");
-    expect(nody_utf16_bytes_valid_up_to(NODY_FORM_UTF16BE, le + 5, 4) == 4 && nody_utf16_bytes_valid_up_to(NODY_FORM_UTF16BE, le + 5, 3) == 0 && nody_utf16_bytes_valid_up_to(NODY_FORM_UTF16BE, le, 4) == 4, "the other order");
-    expect(nody_utf16_bytes_valid_up_to(NODY_FORM_UTF8, in, sizeof in) == 8 && nody_utf16_bytes_valid_up_to(3, in, 1) == SIZE_MAX, "the other forms");
+    expect(nody_utf16_bytes_valid_up_to(NODY_UTF16LE, le, sizeof le) == 14 && nody_utf16_bytes_valid_up_to(NODY_UTF16LE, le, 13) == 12, "half a unit");
+    expect(nody_utf16_bytes_valid_up_to(NODY_UTF16LE, le, 6) == 4 && nody_utf16_bytes_valid_up_to(NODY_UTF16LE, le + 6, 4) == 0, "surrogates in bytes");
+    expect(nody_utf16_bytes_valid_up_to(NODY_UTF16BE, le + 5, 4) == 4 && nody_utf16_bytes_valid_up_to(NODY_UTF16BE, le + 5, 3) == 0 && nody_utf16_bytes_valid_up_to(NODY_UTF16BE, le, 4) == 4, "the other order");
+    expect(nody_utf16_bytes_valid_up_to(NODY_UTF8, in, sizeof in) == 8 && nody_utf16_bytes_valid_up_to(3, in, 1) == SIZE_MAX, "the other encodings");
+}
+
+/* A way to convert, and its result: the output, and how many bytes were read. */
+enum way { REPLACING, LOSSY, STRICT };
+
+struct converted {
+    uint8_t out[64];
+    size_t written, read;
+};
+
+static struct converted convert(enum way way, uint8_t from, uint8_t to, const uint8_t *in, size_t len) {
+    struct converted it;
+    nody_recoder_t recoder = nody_recoder(from, to);
+    nody_fault_t fault;
+    size_t more = 0;
+    memset(&it, 0, sizeof it);
+    it.read = len;
+    if (way == REPLACING) expect(nody_recode(from, to, in, len, it.out, sizeof it.out, &it.written) == NODY_STATUS_DONE, "a shard");
+    if (way == STRICT) (void)nody_recode_strict(from, to, in, len, it.out, sizeof it.out, &it.read, &it.written, &fault);
+    if (way == LOSSY) {
+        expect(nody_recoder_feed_lossy(&recoder, in, len, it.out, sizeof it.out, &it.read, &it.written) == NODY_STATUS_DONE, "a shard, lossily");
+        expect(nody_recoder_finish_lossy(&recoder, it.out + it.written, sizeof it.out - it.written, &more) == NODY_STATUS_DONE, "its end");
+        it.written += more;
+    }
+    return it;
+}
+
+/* Two shards, the first of which ends at a place, become what the whole does. Strictly, the second counts only if the first has no fault. */
+static int two_join(enum way way, uint8_t from, uint8_t to, const uint8_t *in, size_t len, size_t end) {
+    struct converted whole = convert(way, from, to, in, len), first = convert(way, from, to, in, end), rest;
+    if (way != STRICT || first.read == end) {
+        rest = convert(way, from, to, in + end, len - end);
+        memcpy(first.out + first.written, rest.out, rest.written);
+        first.written += rest.written;
+        first.read += rest.read;
+    }
+    return first.read == whole.read && first.written == whole.written && memcmp(first.out, whole.out, whole.written) == 0;
+}
+
+/* Whether shards join in each way, wherever they are asked for. */
+static int all_join(uint8_t from, const uint8_t *in, size_t len) {
+    for (size_t at = 0; at <= len + 1; at++) {
+        size_t end = nody_shard_end(from, in, len, at), limit = at < len ? at : len;
+        if (end > limit || limit > end + 3) return 0;
+        for (uint8_t to = 0; to < 3; to++)
+            for (int way = REPLACING; way <= STRICT; way++)
+                if (!two_join((enum way)way, from, to, in, len, end)) return 0;
+    }
+    return 1;
+}
+
+/* All inputs of up to `most` of these bytes. */
+static void all_inputs(uint8_t from, const uint8_t *bytes, size_t count, size_t most) {
+    for (size_t len = 0, all = 1; len <= most; len++, all *= count)
+        for (size_t number = 0; number < all; number++) {
+            uint8_t in[8] = {0};
+            size_t left = number;
+            for (size_t i = 0; i < len; i++, left /= count) in[i] = bytes[left % count];
+            expect(all_join(from, in, len), "shards of all inputs");
+        }
+}
+
+/* The last column of each row is where Python's decoder, with errors="replace", begins its parts. */
+static void shards(void) {
+    static const uint8_t bytes[] = {0x41, 0x80, 0x90, 0xa0, 0xc3, 0xe0, 0xe2, 0xed, 0xf0, 0xf1, 0xf4, 0xff}, units[] = {0x00, 0x41, 0xd8, 0xdc};
+    static const struct {
+        uint8_t encoding;
+        const char *in;
+        size_t len, ends[9];
+    } rows[] = {
+        {NODY_UTF8, "\xe2\x82" "A", 3, {0, 0, 2, 3}},
+        {NODY_UTF8, "\xf0\x9f\x98\xe2\x82", 5, {0, 0, 0, 3, 3, 5}},
+        {NODY_UTF8, "\xe0\x80\xf4\x90\x80", 5, {0, 1, 2, 3, 4, 5}},
+        {NODY_UTF8, "\x80\xf1\x80\x80" "A", 5, {0, 1, 1, 1, 4, 5}},
+        {NODY_UTF8, "\xed\xa0\x80\xed\x9f", 5, {0, 1, 2, 3, 3, 5}},
+        {NODY_UTF16LE, "\x3d\xd8" "A", 3, {0, 0, 0, 3}},
+        {NODY_UTF16BE, "\0" "A\xd8\x3d" "A", 5, {0, 0, 2, 2, 2, 5}},
+        {NODY_UTF16LE, "\x3d\xd8\x3d\xd8\0\xde" "A", 7, {0, 0, 2, 2, 2, 2, 6, 7}},
+    };
+    for (size_t i = 0; i < sizeof rows / sizeof *rows; i++)
+        for (size_t at = 0; at <= rows[i].len; at++)
+            expect(nody_shard_end(rows[i].encoding, (const uint8_t *)rows[i].in, rows[i].len, at) == rows[i].ends[at], "the end of a shard");
+    expect(nody_boundary_before(NODY_UTF8, (const uint8_t *)rows[0].in, 3, 1) == 1, "a boundary inside a maximal subpart");
+    all_inputs(NODY_UTF8, bytes, sizeof bytes, 4);
+    all_inputs(NODY_UTF16LE, units, sizeof units, 7);
+    all_inputs(NODY_UTF16BE, units, sizeof units, 7);
 }
 
 static void boundaries(void) {
@@ -226,19 +312,19 @@ static void boundaries(void) {
     static const size_t before[] = {0, 1, 1, 1, 1, 5, 6, 6, 8, 8}, after[] = {0, 1, 5, 5, 5, 5, 6, 8, 8, 8};
     static const size_t even_before[] = {0, 0, 2, 2, 2, 2, 6, 7, 7}, even_after[] = {0, 2, 2, 6, 6, 6, 6, 7, 7};
     for (size_t at = 0; at < 10; at++) {
-        expect(nody_boundary_before(NODY_FORM_UTF8, in, sizeof in, at) == before[at], "the boundary before a place");
-        expect(nody_shard_end(NODY_FORM_UTF8, in, sizeof in, at) == before[at], "the end of a shard");
-        expect(nody_boundary_after(NODY_FORM_UTF8, in, sizeof in, at) == after[at], "the boundary after a place");
+        expect(nody_boundary_before(NODY_UTF8, in, sizeof in, at) == before[at], "the boundary before a place");
+        expect(nody_shard_end(NODY_UTF8, in, sizeof in, at) == before[at], "the end of a shard");
+        expect(nody_boundary_after(NODY_UTF8, in, sizeof in, at) == after[at], "the boundary after a place");
     }
     for (size_t at = 0; at < 9; at++) {
-        expect(nody_boundary_before(NODY_FORM_UTF16BE, be, sizeof be, at) == even_before[at], "the boundary before a place in UTF-16");
-        expect(nody_boundary_after(NODY_FORM_UTF16BE, be, sizeof be, at) == even_after[at], "the boundary after a place in UTF-16");
+        expect(nody_boundary_before(NODY_UTF16BE, be, sizeof be, at) == even_before[at], "the boundary before a place in UTF-16");
+        expect(nody_boundary_after(NODY_UTF16BE, be, sizeof be, at) == even_after[at], "the boundary after a place in UTF-16");
     }
-    expect(nody_boundary_before(3, in, 1, 0) == SIZE_MAX && nody_boundary_after(3, in, 1, 0) == SIZE_MAX, "a boundary in no form");
+    expect(nody_boundary_before(3, in, 1, 0) == SIZE_MAX && nody_boundary_after(3, in, 1, 0) == SIZE_MAX, "a boundary in no encoding");
     expect(nody_utf16_boundary_before(units, 4, 2) == 1 && nody_utf16_boundary_after(units, 4, 2) == 3, "in a pair");
     expect(nody_utf16_boundary_before(units, 4, 3) == 3 && nody_utf16_boundary_after(units, 4, 3) == 3, "after a pair");
     expect(nody_utf16_boundary_before(units, 4, 9) == 4 && nody_utf16_boundary_after(units, 4, 9) == 4, "after the end");
-    expect(nody_utf16_boundary_before(NULL, 0, 0) == 0 && nody_boundary_after(NODY_FORM_UTF8, NULL, 0, 1) == 0, "in nothing");
+    expect(nody_utf16_boundary_before(NULL, 0, 0) == 0 && nody_boundary_after(NODY_UTF8, NULL, 0, 1) == 0, "in nothing");
 }
 
 /* Pieces by their numbers, and what a change reaches. */
@@ -253,14 +339,14 @@ static void numbers(void) {
     for (size_t i = 0; i < 8; i++) expect(nody_utf8_number_of(in, 6, i) == before[i], "the number at an offset");
     for (size_t i = 0; i < 6; i++) expect(nody_utf16_offset_of(units, 5, i) == unit_offsets[i], "the offset of a piece of units");
     for (size_t i = 0; i < 7; i++) expect(nody_utf16_number_of(units, 5, i) == units_before[i], "the number at an offset of units");
-    for (size_t i = 0; i < 7; i++) expect(nody_offset_of(NODY_FORM_UTF16BE, be, sizeof be, i) == even_offsets[i], "the offset of a piece of UTF-16 in bytes");
-    for (size_t i = 0; i < 13; i++) expect(nody_number_of(NODY_FORM_UTF16BE, be, sizeof be, i) == even_before[i], "the number at an offset of UTF-16 in bytes");
-    for (size_t i = 0; i < 7; i++) expect(nody_offset_of(NODY_FORM_UTF8, in, 6, i) == offsets[i] && nody_number_of(NODY_FORM_UTF8, in, 6, i) == before[i], "the same of UTF-8");
-    expect(nody_char_count(NODY_FORM_UTF16BE, be, sizeof be) == 5 && nody_char_count(NODY_FORM_UTF16BE, be, 10) == 4 && nody_char_count(NODY_FORM_UTF16BE, be, 4) == 2, "how many characters of UTF-16 in bytes");
-    expect(nody_char_count(NODY_FORM_UTF16LE, be + 1, 10) == 4 && nody_char_count(NODY_FORM_UTF16LE, be + 3, 4) == 2 && nody_char_count(NODY_FORM_UTF8, in, 6) == 5, "how many in the other forms");
-    expect(nody_offset_of(NODY_FORM_UTF16BE, be, 10, 4) == 10 && nody_offset_of(NODY_FORM_UTF16BE, be, sizeof be, SIZE_MAX) == sizeof be && nody_number_of(NODY_FORM_UTF16BE, be, sizeof be, SIZE_MAX) == 5, "numbers beyond the end of UTF-16 in bytes");
-    expect(nody_char_count(3, in, 6) == SIZE_MAX && nody_offset_of(3, in, 6, 0) == SIZE_MAX && nody_number_of(255, in, 6, 0) == SIZE_MAX, "numbers in no form");
-    expect(nody_char_count(NODY_FORM_UTF16LE, NULL, 0) == 0 && nody_offset_of(NODY_FORM_UTF16LE, NULL, 0, 0) == 0 && nody_number_of(NODY_FORM_UTF16LE, NULL, 0, 7) == 0, "numbers of nothing in a form");
+    for (size_t i = 0; i < 7; i++) expect(nody_offset_of(NODY_UTF16BE, be, sizeof be, i) == even_offsets[i], "the offset of a piece of UTF-16 in bytes");
+    for (size_t i = 0; i < 13; i++) expect(nody_number_of(NODY_UTF16BE, be, sizeof be, i) == even_before[i], "the number at an offset of UTF-16 in bytes");
+    for (size_t i = 0; i < 7; i++) expect(nody_offset_of(NODY_UTF8, in, 6, i) == offsets[i] && nody_number_of(NODY_UTF8, in, 6, i) == before[i], "the same of UTF-8");
+    expect(nody_char_count(NODY_UTF16BE, be, sizeof be) == 5 && nody_char_count(NODY_UTF16BE, be, 10) == 4 && nody_char_count(NODY_UTF16BE, be, 4) == 2, "how many characters of UTF-16 in bytes");
+    expect(nody_char_count(NODY_UTF16LE, be + 1, 10) == 4 && nody_char_count(NODY_UTF16LE, be + 3, 4) == 2 && nody_char_count(NODY_UTF8, in, 6) == 5, "how many in the other encodings");
+    expect(nody_offset_of(NODY_UTF16BE, be, 10, 4) == 10 && nody_offset_of(NODY_UTF16BE, be, sizeof be, SIZE_MAX) == sizeof be && nody_number_of(NODY_UTF16BE, be, sizeof be, SIZE_MAX) == 5, "numbers beyond the end of UTF-16 in bytes");
+    expect(nody_char_count(3, in, 6) == SIZE_MAX && nody_offset_of(3, in, 6, 0) == SIZE_MAX && nody_number_of(255, in, 6, 0) == SIZE_MAX, "numbers in no encoding");
+    expect(nody_char_count(NODY_UTF16LE, NULL, 0) == 0 && nody_offset_of(NODY_UTF16LE, NULL, 0, 0) == 0 && nody_number_of(NODY_UTF16LE, NULL, 0, 7) == 0, "numbers of nothing in an encoding");
     expect(nody_utf8_offset_of(in, 6, SIZE_MAX) == 6 && nody_utf8_number_of(in, 6, SIZE_MAX) == 5, "numbers beyond the end");
     expect(nody_utf16_offset_of(units, 5, SIZE_MAX) == 5 && nody_utf16_number_of(units, 5, SIZE_MAX) == 4, "numbers beyond the end of units");
     expect(nody_utf8_offset_of(NULL, 0, 0) == 0 && nody_utf8_number_of(NULL, 0, 7) == 0, "numbers of nothing");
@@ -274,17 +360,17 @@ static int is_range(nody_range_t range, size_t start, size_t end) {
 static void changes(void) {
     static const uint8_t in[] = {'a', 'b', 'c', 0xE2, 0x82, 0xAC, 'd', 'e', 'f', 0xE2, 0x82, 0xAC, 'g', 'h', 'i'};
     static const uint8_t be[] = {0, 0x41, 0xD8, 0x3D, 0xDE, 0, 0, 0x42, 0, 0x43, 0xD8, 0x3D, 0xDE, 0, 0, 0x44};
-    expect(is_range(nody_changed_range(NODY_FORM_UTF8, in, 15, 7, 8), 3, 12), "what a change reaches");
-    expect(is_range(nody_changed_range(NODY_FORM_UTF8, in, 15, 6, 6), 3, 9) && is_range(nody_changed_range(NODY_FORM_UTF8, in, 15, 4, 5), 1, 8), "what an insertion reaches");
-    expect(is_range(nody_changed_range(NODY_FORM_UTF8, in, 15, 0, 0), 0, 3) && is_range(nody_changed_range(NODY_FORM_UTF8, in, 15, 15, 15), 12, 15), "at the ends");
-    expect(is_range(nody_changed_range(NODY_FORM_UTF16BE, be, 16, 8, 9), 2, 14) && is_range(nody_changed_range(NODY_FORM_UTF16BE, be, 16, 6, 6), 2, 10), "in UTF-16");
-    expect(is_range(nody_changed_range(NODY_FORM_UTF8, in, 15, SIZE_MAX, SIZE_MAX), 12, 15), "offsets above the length");
-    expect(is_range(nody_changed_range(NODY_FORM_UTF8, in, 15, 9, 7), 3, 12), "a start above the end");
-    expect(is_range(nody_changed_range(NODY_FORM_UTF8, NULL, 0, 0, 0), 0, 0) && is_range(nody_changed_range(NODY_FORM_UTF16LE, NULL, 0, 2, 9), 0, 0), "in nothing");
-    expect(is_range(nody_changed_range(3, in, 15, 0, 0), SIZE_MAX, SIZE_MAX), "in no form");
+    expect(is_range(nody_changed_range(NODY_UTF8, in, 15, 7, 8), 3, 12), "what a change reaches");
+    expect(is_range(nody_changed_range(NODY_UTF8, in, 15, 6, 6), 3, 9) && is_range(nody_changed_range(NODY_UTF8, in, 15, 4, 5), 1, 8), "what an insertion reaches");
+    expect(is_range(nody_changed_range(NODY_UTF8, in, 15, 0, 0), 0, 3) && is_range(nody_changed_range(NODY_UTF8, in, 15, 15, 15), 12, 15), "at the ends");
+    expect(is_range(nody_changed_range(NODY_UTF16BE, be, 16, 8, 9), 2, 14) && is_range(nody_changed_range(NODY_UTF16BE, be, 16, 6, 6), 2, 10), "in UTF-16");
+    expect(is_range(nody_changed_range(NODY_UTF8, in, 15, SIZE_MAX, SIZE_MAX), 12, 15), "offsets above the length");
+    expect(is_range(nody_changed_range(NODY_UTF8, in, 15, 9, 7), 3, 12), "a start above the end");
+    expect(is_range(nody_changed_range(NODY_UTF8, NULL, 0, 0, 0), 0, 0) && is_range(nody_changed_range(NODY_UTF16LE, NULL, 0, 2, 9), 0, 0), "in nothing");
+    expect(is_range(nody_changed_range(3, in, 15, 0, 0), SIZE_MAX, SIZE_MAX), "in no encoding");
 }
 
-/* Faults alone. What is left begins with the first that did not fit. */
+/* Only faults. What is left begins with the first that did not fit. */
 static void faults(void) {
     static const uint8_t in[] = {'a', 0xff, 0xe2, 0x82, 'b', 0xf0, 0x9f, 0x98, 0x80, 0xf0, 0x9f};
     static const uint16_t units[] = {0x41, 0xdc00, 0xd83d, 0xde00, 0xd800, 0x42, 0xd83d};
@@ -322,30 +408,30 @@ static void undecided(void) {
     };
     for (size_t i = 0; i < sizeof ends / sizeof *ends; i++) {
         const uint8_t *bytes = (const uint8_t *)ends[i].bytes;
-        expect(nody_undecided_len(NODY_FORM_UTF8, bytes, ends[i].len) == ends[i].utf8, "an undecided end");
-        expect(nody_undecided_len(NODY_FORM_UTF16LE, bytes, ends[i].len) == ends[i].utf16le, "an undecided end in little-endian UTF-16");
-        expect(nody_undecided_len(NODY_FORM_UTF16BE, bytes, ends[i].len) == ends[i].utf16be, "an undecided end in big-endian UTF-16");
+        expect(nody_undecided_len(NODY_UTF8, bytes, ends[i].len) == ends[i].utf8, "an undecided end");
+        expect(nody_undecided_len(NODY_UTF16LE, bytes, ends[i].len) == ends[i].utf16le, "an undecided end in little-endian UTF-16");
+        expect(nody_undecided_len(NODY_UTF16BE, bytes, ends[i].len) == ends[i].utf16be, "an undecided end in big-endian UTF-16");
     }
-    expect(nody_undecided_len(NODY_FORM_UTF8, NULL, 0) == 0 && nody_undecided_len(3, NULL, 0) == SIZE_MAX, "an end of nothing, and in no form");
+    expect(nody_undecided_len(NODY_UTF8, NULL, 0) == 0 && nody_undecided_len(3, NULL, 0) == SIZE_MAX, "an end of nothing, and in no encoding");
 }
 
 /* The byte order marks of the Unicode standard, section 23.8. */
 static void marks(void) {
-    nody_form_t form = 9;
-    expect(nody_form_of_bom((const uint8_t *)"\xEF\xBB\xBF" "a", 4, &form) == 3 && form == NODY_FORM_UTF8, "the mark of UTF-8");
-    expect(nody_form_of_bom((const uint8_t *)"\xFF\xFE" "a", 3, &form) == 2 && form == NODY_FORM_UTF16LE, "the mark of little-endian UTF-16");
-    expect(nody_form_of_bom((const uint8_t *)"\xFE\xFF", 2, &form) == 2 && form == NODY_FORM_UTF16BE, "the mark of big-endian UTF-16");
-    expect(nody_form_of_bom((const uint8_t *)"\xFF\xFE\0\0", 4, &form) == 2 && form == NODY_FORM_UTF16LE, "the mark of UTF-32");
-    form = 9;
-    expect(nody_form_of_bom((const uint8_t *)"\xEF\xBB", 2, &form) == 0 && form == 9, "the front of a mark");
-    expect(nody_form_of_bom((const uint8_t *)"\xFE\xFE\xFF", 3, &form) == 0 && form == 9, "a mark that is not at the front");
-    expect(nody_form_of_bom(NULL, 0, &form) == 0 && form == 9, "no mark in nothing");
+    nody_encoding_t encoding = 9;
+    expect(nody_encoding_of_bom((const uint8_t *)"\xEF\xBB\xBF" "a", 4, &encoding) == 3 && encoding == NODY_UTF8, "the mark of UTF-8");
+    expect(nody_encoding_of_bom((const uint8_t *)"\xFF\xFE" "a", 3, &encoding) == 2 && encoding == NODY_UTF16LE, "the mark of little-endian UTF-16");
+    expect(nody_encoding_of_bom((const uint8_t *)"\xFE\xFF", 2, &encoding) == 2 && encoding == NODY_UTF16BE, "the mark of big-endian UTF-16");
+    expect(nody_encoding_of_bom((const uint8_t *)"\xFF\xFE\0\0", 4, &encoding) == 2 && encoding == NODY_UTF16LE, "the mark of UTF-32");
+    encoding = 9;
+    expect(nody_encoding_of_bom((const uint8_t *)"\xEF\xBB", 2, &encoding) == 0 && encoding == 9, "the front of a mark");
+    expect(nody_encoding_of_bom((const uint8_t *)"\xFE\xFE\xFF", 3, &encoding) == 0 && encoding == 9, "a mark that is not at the front");
+    expect(nody_encoding_of_bom(NULL, 0, &encoding) == 0 && encoding == 9, "no mark in nothing");
 }
 
 /* Which kind wins, what a kind is called, and the version. */
 static void words(void) {
     static const uint8_t short_surrogate[] = {0xed, 0xa0}, overlong[] = {0xe0, 0x80, 0x41}, euro[] = {0xe2, 0x82};
-    nody_recoder_t recoder = nody_recoder(NODY_FORM_UTF8, NODY_FORM_UTF8), wrong = nody_recoder(NODY_FORM_UTF8, 9);
+    nody_recoder_t recoder = nody_recoder(NODY_UTF8, NODY_UTF8), wrong = nody_recoder(NODY_UTF8, 9);
     uint8_t out[8], held[3] = {1, 2, 3};
     size_t read, written;
     expect(nody_utf8_first(overlong, 3).kind == NODY_KIND_INTERRUPTED_SEQUENCE, "E0 80 41");
@@ -354,7 +440,7 @@ static void words(void) {
     expect(strcmp(nody_kind_sentence(NODY_KIND_OVERLONG_ENCODING), "overlong encoding: the value has a shorter code") == 0, "a sentence");
     expect(strcmp(nody_kind_sentence(NODY_KIND_NONE), "nothing is left") == 0 && strcmp(nody_kind_sentence(12), "?") == 0, "the last sentence, and none");
     expect(nody_version() == NODY_VERSION && nody_version() == 1000000, "the version");
-    expect(sizeof(nody_piece_t) == 16 && sizeof(nody_recoder_t) == 16 && sizeof(nody_kind_t) == 1 && sizeof(nody_form_t) == 1, "sizes");
+    expect(sizeof(nody_piece_t) == 16 && sizeof(nody_recoder_t) == 16 && sizeof(nody_kind_t) == 1 && sizeof(nody_encoding_t) == 1, "sizes");
     expect(nody_recoder_feed(&recoder, euro, 2, out, 8, &read, &written) == NODY_STATUS_DONE && read == 2 && written == 0, "a part that waits");
     expect(nody_recoder_held(&recoder, held, 1) == 2 && held[0] == 1, "no room for what is held");
     expect(nody_recoder_held(&recoder, held, 3) == 2 && held[0] == 0xe2 && held[1] == 0x82 && held[2] == 3, "what is held");
@@ -366,20 +452,20 @@ static void words(void) {
 /* Strict calls stop at the first fault, and say where it is and why; the values are from the standards. */
 static void strictly(void) {
     static const uint8_t in[] = {0x63, 0xe9, 0x0a, 0x41, 0xff, 0xe2, 0x82}, le[] = {0x41, 0, 0x3c, 0xd8, 0x21};
-    nody_recoder_t recoder = nody_recoder(NODY_FORM_UTF8, NODY_FORM_UTF16BE), none = nody_recoder(3, 0), same;
+    nody_recoder_t recoder = nody_recoder(NODY_UTF8, NODY_UTF16BE), none = nody_recoder(3, 0), same;
     uint8_t out[32];
     size_t read, written;
     nody_fault_t fault;
-    expect(nody_recode_strict(NODY_FORM_UTF8, NODY_FORM_UTF16BE, in, 1, out, 2, &read, &written, &fault) == NODY_STATUS_DONE && read == 1 && written == 2, "a valid input");
+    expect(nody_recode_strict(NODY_UTF8, NODY_UTF16BE, in, 1, out, 2, &read, &written, &fault) == NODY_STATUS_DONE && read == 1 && written == 2, "a valid input");
     expect(fault.kind == NODY_KIND_NONE && fault.len == 0 && fault.back == 0 && out[0] == 0 && out[1] == 0x63, "no fault");
-    expect(nody_recode_strict(NODY_FORM_UTF8, NODY_FORM_UTF16BE, in, 7, out, 32, &read, &written, &fault) == NODY_STATUS_FAULT && read == 1 && written == 2, "a fault in an input");
+    expect(nody_recode_strict(NODY_UTF8, NODY_UTF16BE, in, 7, out, 32, &read, &written, &fault) == NODY_STATUS_FAULT && read == 1 && written == 2, "a fault in an input");
     expect(fault.kind == NODY_KIND_INTERRUPTED_SEQUENCE && fault.len == 1 && fault.back == 0, "its fault");
-    expect(nody_recode_strict(NODY_FORM_UTF8, NODY_FORM_UTF8, in, 2, out, 32, &read, &written, &fault) == NODY_STATUS_FAULT && read == 1 && fault.kind == NODY_KIND_TOO_FEW_BYTES, "an input that ends early");
-    expect(nody_recode_strict(NODY_FORM_UTF16LE, NODY_FORM_UTF8, le, 5, out, 32, &read, &written, &fault) == NODY_STATUS_FAULT && read == 2 && fault.len == 2 && fault.kind == NODY_KIND_INCOMPLETE, "a leading surrogate");
-    expect(nody_recode_strict(NODY_FORM_UTF16LE, NODY_FORM_UTF8, le, 1, out, 32, &read, &written, &fault) == NODY_STATUS_FAULT && read == 0 && fault.len == 1, "half a unit");
-    expect(nody_recode_strict(NODY_FORM_UTF8, NODY_FORM_UTF16LE, in, 1, out, 1, &read, &written, &fault) == NODY_STATUS_FULL && read == 0 && written == 0 && fault.kind == NODY_KIND_NONE, "no room");
-    expect(nody_recode_strict(NODY_FORM_UTF8, 3, in, 1, out, 32, &read, &written, &fault) == NODY_STATUS_REFUSED && read == 0 && written == 0 && fault.kind == NODY_KIND_NONE, "no form");
-    expect(nody_recode_strict(NODY_FORM_UTF8, NODY_FORM_UTF8, NULL, 0, NULL, 0, &read, &written, &fault) == NODY_STATUS_DONE && read == 0 && written == 0, "no input");
+    expect(nody_recode_strict(NODY_UTF8, NODY_UTF8, in, 2, out, 32, &read, &written, &fault) == NODY_STATUS_FAULT && read == 1 && fault.kind == NODY_KIND_TOO_FEW_BYTES, "an input that ends early");
+    expect(nody_recode_strict(NODY_UTF16LE, NODY_UTF8, le, 5, out, 32, &read, &written, &fault) == NODY_STATUS_FAULT && read == 2 && fault.len == 2 && fault.kind == NODY_KIND_INCOMPLETE, "a leading surrogate");
+    expect(nody_recode_strict(NODY_UTF16LE, NODY_UTF8, le, 1, out, 32, &read, &written, &fault) == NODY_STATUS_FAULT && read == 0 && fault.len == 1, "half a unit");
+    expect(nody_recode_strict(NODY_UTF8, NODY_UTF16LE, in, 1, out, 1, &read, &written, &fault) == NODY_STATUS_FULL && read == 0 && written == 0 && fault.kind == NODY_KIND_NONE, "no room");
+    expect(nody_recode_strict(NODY_UTF8, 3, in, 1, out, 32, &read, &written, &fault) == NODY_STATUS_REFUSED && read == 0 && written == 0 && fault.kind == NODY_KIND_NONE, "no encoding");
+    expect(nody_recode_strict(NODY_UTF8, NODY_UTF8, NULL, 0, NULL, 0, &read, &written, &fault) == NODY_STATUS_DONE && read == 0 && written == 0, "no input");
     expect(nody_recoder_feed_strict(&recoder, in, 3, out, 32, &read, &written, &fault) == NODY_STATUS_DONE && read == 3 && written == 2 && nody_recoder_held(&recoder, NULL, 0) == 2, "what follows decides of E9 0A");
     expect(nody_recoder_feed_strict(&recoder, in + 3, 4, out, 32, &read, &written, &fault) == NODY_STATUS_FAULT && read == 0 && written == 0, "a fault that began in a part before");
     expect(fault.kind == NODY_KIND_INTERRUPTED_SEQUENCE && fault.len == 1 && 3 - fault.back == 1, "where it began");
@@ -398,7 +484,7 @@ static void strictly(void) {
 static void replaced(void) {
     /* two: E9, which no continuation byte follows, and FF; and then the front of a character */
     static const uint8_t in[] = {0x63, 0xe9, 0x0a, 0x41, 0xff, 0xe2, 0x82}, mark[] = {0xef, 0xbf, 0xbd}, le[] = {0x00, 0xdc, 0x41, 0x00, 0x3c, 0xd8, 0x21};
-    nody_recoder_t recoder = nody_recoder(NODY_FORM_UTF8, NODY_FORM_UTF8), units = nody_recoder(NODY_FORM_UTF16LE, NODY_FORM_UTF8), none = nody_recoder(3, 0);
+    nody_recoder_t recoder = nody_recoder(NODY_UTF8, NODY_UTF8), units = nody_recoder(NODY_UTF16LE, NODY_UTF8), none = nody_recoder(3, 0);
     nody_fault_t fault;
     uint8_t out[32];
     size_t read, written;
@@ -447,7 +533,7 @@ static void lossy(void) {
         {1, 3, {0xd8}, "\xef\xbf\xbd"},
         {2, 3, {0x00, 0xd8}, "\xef\xbf\xbd"},
     };
-    nody_recoder_t none = nody_recoder(3, 0), small = nody_recoder(NODY_FORM_UTF8, NODY_FORM_UTF8), units = nody_recoder(NODY_FORM_UTF16LE, NODY_FORM_UTF8);
+    nody_recoder_t none = nody_recoder(3, 0), small = nody_recoder(NODY_UTF8, NODY_UTF8), units = nody_recoder(NODY_UTF16LE, NODY_UTF8);
     static const uint8_t le[] = {0x00, 0xdc, 0x41, 0x00, 0x3c, 0xd8, 0x21};
     uint8_t out[32];
     size_t read, written, more, last;
@@ -455,7 +541,7 @@ static void lossy(void) {
         const uint8_t *in = (const uint8_t *)cases[i].in;
         size_t len = strlen(cases[i].in), need = strlen(cases[i].want);
         for (size_t at = 0; at <= len; at++) {
-            nody_recoder_t recoder = nody_recoder(NODY_FORM_UTF8, NODY_FORM_UTF8);
+            nody_recoder_t recoder = nody_recoder(NODY_UTF8, NODY_UTF8);
             expect(nody_recoder_feed_lossy(&recoder, in, at, out, 32, &read, &written) == NODY_STATUS_DONE && read == at, "a part, lossily");
             expect(nody_recoder_feed_lossy(&recoder, in + at, len - at, out + written, 32 - written, &read, &more) == NODY_STATUS_DONE && read == len - at, "the rest, lossily");
             expect(nody_recoder_finish_lossy(&recoder, out + written + more, 32 - written - more, &last) == NODY_STATUS_DONE, "the end, lossily");
@@ -468,10 +554,10 @@ static void lossy(void) {
     expect(nody_recoder_feed_lossy(&units, le, 7, out, 32, &read, &written) == NODY_STATUS_DONE && written == 4 && nody_recoder_finish_lossy(&units, out, 32, &written) == NODY_STATUS_DONE && written == 3 && units.replaced == 0, "a leading surrogate and half a unit");
     for (size_t i = 0; i < sizeof ends / sizeof *ends; i++)
         for (size_t at = 0; at <= ends[i].len; at++)
-            for (nody_form_t form = NODY_FORM_UTF16LE; form <= NODY_FORM_UTF16BE; form++) {
-                nody_recoder_t recoder = nody_recoder(form, NODY_FORM_UTF8);
+            for (nody_encoding_t encoding = NODY_UTF16LE; encoding <= NODY_UTF16BE; encoding++) {
+                nody_recoder_t recoder = nody_recoder(encoding, NODY_UTF8);
                 uint8_t in[8];
-                for (size_t k = 0; k < ends[i].len; k++) in[k] = ends[i].in[form == NODY_FORM_UTF16BE && (k | 1) < ends[i].len ? k ^ 1 : k];
+                for (size_t k = 0; k < ends[i].len; k++) in[k] = ends[i].in[encoding == NODY_UTF16BE && (k | 1) < ends[i].len ? k ^ 1 : k];
                 nody_recoder_feed_lossy(&recoder, in, at, out, 32, &read, &written);
                 nody_recoder_feed_lossy(&recoder, in + at, ends[i].len - at, out + written, 32 - written, &read, &more);
                 nody_recoder_finish_lossy(&recoder, out + written + more, 32 - written - more, &last);
@@ -480,10 +566,10 @@ static void lossy(void) {
     expect(nody_recoder_feed_lossy(&none, le, 7, out, 32, &read, &written) == NODY_STATUS_REFUSED && read == 0 && written == 0 && nody_recoder_finish_lossy(&none, out, 32, &written) == NODY_STATUS_REFUSED, "no recoder, lossily");
 }
 
-/* Recodes the same bytes again and again, and answers how often the output was wrong. */
+/* Transcodes the same bytes again and again, and counts how often the output was wrong. */
 static void *of_a_thread(void *wrong) {
     static const uint8_t in[] = {0x41, 0xf0, 0x9f, 0x82, 0xa0, 0xe0, 0x80}, want[] = {0, 0x41, 0xd8, 0x3c, 0xdc, 0xa0, 0xff, 0xfd, 0xff, 0xfd};
-    for (int i = 0; i < 25000; i++) *(int *)wrong += !is_recoded(NODY_FORM_UTF8, NODY_FORM_UTF16BE, in, sizeof in, want, sizeof want, 3, MOST, 4);
+    for (int i = 0; i < 25000; i++) *(int *)wrong += !is_recoded(NODY_UTF8, NODY_UTF16BE, in, sizeof in, want, sizeof want, 3, MOST, 4);
     return NULL;
 }
 
@@ -507,7 +593,7 @@ enum { PAINTED = 1 << 18, TEXT = 8192 };
 static unsigned char painted[PAINTED] __attribute__((aligned(4096))), texts[6][3][3 * TEXT], made[9 * TEXT];
 static size_t lens[6][3];
 
-/* Texts of ASCII, of two, three and four bytes a character, of all of them, and damaged: in each form. */
+/* Texts of ASCII, of two, three and four bytes a character, of all of them, and damaged: in each encoding. */
 static void make_texts(void) {
     static const char *const unit[] = {"text ", "\xd1\x82\xd0\xb5", "\xe6\x96\x87\xe5", "\xf0\x9f\x98\x80", "a\xd1\x82\xe6\x96\x87\xf0\x9f\x98\x80", "text\xe6\x96\xff"};
     for (int i = 0; i < 6; i++) {
@@ -515,9 +601,9 @@ static void make_texts(void) {
         if (i == 2) len--;
         for (size_t at = 0; at < TEXT; at++) texts[i][0][at] = (unsigned char)unit[i][at % len];
         lens[i][0] = TEXT;
-        for (uint8_t form = 1; form < 3; form++) nody_recode(0, form, texts[i][0], TEXT, texts[i][form], sizeof texts[i][form], &lens[i][form]);
+        for (uint8_t encoding = 1; encoding < 3; encoding++) nody_recode(0, encoding, texts[i][0], TEXT, texts[i][encoding], sizeof texts[i][encoding], &lens[i][encoding]);
         if (i == 5)
-            for (uint8_t form = 1; form < 3; form++) texts[i][form][2 - form + 100] = 0xd8;
+            for (uint8_t encoding = 1; encoding < 3; encoding++) texts[i][encoding][2 - encoding + 100] = 0xd8;
     }
 }
 
@@ -559,7 +645,7 @@ static void take_bytes(const uint8_t *bytes, size_t len) {
     nody_utf8_faults(&back, &offset, found, 4);
 }
 
-/* One piece, its names, and what tells of the library. */
+/* The calls for a single piece, the names of kinds and encodings, and the library's version. */
 static void take_one(const uint8_t *bytes, const uint16_t *units, size_t len) {
     uint16_t pair[2];
     const nody_name_t *name;
@@ -577,28 +663,28 @@ static void take_one(const uint8_t *bytes, const uint16_t *units, size_t len) {
     nody_lanes();
 }
 
-static void decode_in_parts(uint8_t form, const uint8_t *in, size_t len) {
+static void decode_in_parts(uint8_t encoding, const uint8_t *in, size_t len) {
     static nody_located_t pieces[2 * TEXT];
     size_t read, written, most = sizeof pieces / sizeof *pieces;
-    nody_decoder_t decoder = nody_decoder(form);
-    nody_recoder_t recoder = nody_recoder(form, form);
+    nody_decoder_t decoder = nody_decoder(encoding);
+    nody_recoder_t recoder = nody_recoder(encoding, encoding);
     nody_decoder_feed(&decoder, in, len - 7, pieces, most, &read, &written);
     nody_decoder_feed(&decoder, in + len - 7, 6, pieces, most, &read, &written);
     nody_decoder_finish(&decoder, pieces, most, &written);
     nody_decoder_feed_faults(&decoder, in, len - 7, pieces, most, &read, &written);
     nody_decoder_feed_faults(&decoder, in + len - 7, 6, pieces, most, &read, &written);
     nody_decoder_finish_faults(&decoder, pieces, most, &written);
-    nody_recoder_feed(&recoder, in, 1, made, nody_recoded_len_max(form, form, 1), &read, &written);
+    nody_recoder_feed(&recoder, in, 1, made, nody_recoded_len_max(encoding, encoding, 1), &read, &written);
     nody_recoder_held(&recoder, made, sizeof made);
-    nody_boundary_before(form, in, len, len / 2);
-    nody_char_count(form, in, len);
-    nody_offset_of(form, in, len, nody_number_of(form, in, len, len / 2));
+    nody_boundary_before(encoding, in, len, len / 2);
+    nody_char_count(encoding, in, len);
+    nody_offset_of(encoding, in, len, nody_number_of(encoding, in, len, len / 2));
 }
 
 static void recode_each_way(uint8_t from, uint8_t to, const uint8_t *in, size_t len) {
     nody_recoder_t a = nody_recoder(from, to), b = a, c = a;
     nody_fault_t fault;
-    nody_form_t told = from;
+    nody_encoding_t told = from;
     size_t read, written;
     nody_recode(from, to, in, len, made, sizeof made, &written);
     nody_recoded_len(from, to, in, len);
@@ -617,7 +703,7 @@ static void recode_each_way(uint8_t from, uint8_t to, const uint8_t *in, size_t 
     nody_boundary_after(from, in, len, len / 2);
     nody_undecided_len(from, in, len / 2 + 1);
     nody_changed_range(from, in, len, len / 2, len / 2 + 1);
-    nody_form_of_bom(in, len, &told);
+    nody_encoding_of_bom(in, len, &told);
 }
 
 static void *takes_all(void *unused) {
@@ -665,6 +751,7 @@ int main(int argc, char **argv) {
     streamed();
     whole_inputs();
     boundaries();
+    shards();
     numbers();
     changes();
     faults();

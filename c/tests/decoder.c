@@ -1,5 +1,5 @@
 /* Holds the decoder for input in parts against one written here, and against nody_utf8_pieces of the whole: each division of small
- * inputs with each room, and random inputs in parts and rooms of many lengths; all pieces, the faults alone, and both in turn. The last
+ * inputs with each room, and random inputs in parts and rooms of many lengths; all pieces, only the faults, and both in turn. The last
  * line is 'N passed, M failed'.
  *
  * usage: decoder ROUNDS */
@@ -59,27 +59,27 @@ static nody_located_t first_of_utf8(const uint8_t *bytes, size_t len) {
     return character(value, needs);
 }
 
-static uint32_t unit_at(nody_form_t form, const uint8_t *bytes) {
-    return form == NODY_FORM_UTF16BE ? (uint32_t)bytes[0] << 8 | bytes[1] : (uint32_t)bytes[1] << 8 | bytes[0];
+static uint32_t unit_at(nody_encoding_t encoding, const uint8_t *bytes) {
+    return encoding == NODY_UTF16BE ? (uint32_t)bytes[0] << 8 | bytes[1] : (uint32_t)bytes[1] << 8 | bytes[0];
 }
 
-static nody_located_t first_of_utf16(nody_form_t form, const uint8_t *bytes, size_t len) {
+static nody_located_t first_of_utf16(nody_encoding_t encoding, const uint8_t *bytes, size_t len) {
     uint32_t first, second;
     if (len < 2) return fault(NODY_KIND_INCOMPLETE, 1);
-    first = unit_at(form, bytes);
+    first = unit_at(encoding, bytes);
     if (first < 0xd800 || first >= 0xe000) return character(first, 2);
     if (first >= 0xdc00) return fault(NODY_KIND_UNEXPECTED_TRAILING_SURROGATE, 2);
     if (len < 4) return fault(NODY_KIND_INCOMPLETE, 2);
-    second = unit_at(form, bytes + 2);
+    second = unit_at(encoding, bytes + 2);
     if (second < 0xdc00 || second >= 0xe000) return fault(NODY_KIND_UNMATCHED_LEADING_SURROGATE, 2);
     return character(0x10000 + ((first & 0x3ff) << 10) + (second & 0x3ff), 4);
 }
 
 /* All pieces of some bytes, from an offset on, and how many. */
-static size_t located(nody_form_t form, uint64_t offset, const uint8_t *bytes, size_t len, nody_located_t *out) {
+static size_t located(nody_encoding_t encoding, uint64_t offset, const uint8_t *bytes, size_t len, nody_located_t *out) {
     size_t place = 0, count = 0;
     while (place < len) {
-        out[count] = form == NODY_FORM_UTF8 ? first_of_utf8(bytes + place, len - place) : first_of_utf16(form, bytes + place, len - place);
+        out[count] = encoding == NODY_UTF8 ? first_of_utf8(bytes + place, len - place) : first_of_utf16(encoding, bytes + place, len - place);
         out[count].offset = offset + place;
         place += out[count++].len;
     }
@@ -114,7 +114,7 @@ struct run {
 
 static const nody_located_t MARK = {77, 77, 77, 77};
 
-/* Whether the next call asks for faults alone. */
+/* Whether the next call asks only for faults. */
 static int asks_for_faults(struct run *run) {
     return run->asks == FAULTS || (run->asks == IN_TURN && ++run->calls % 2);
 }
@@ -161,10 +161,10 @@ static void finish(struct run *run, size_t room) {
     if (run->decoder.count) run->kept = 0;
 }
 
-static struct run started(nody_form_t form, uint64_t offset, enum asks asks) {
+static struct run started(nody_encoding_t encoding, uint64_t offset, enum asks asks) {
     struct run run;
     memset(&run, 0, sizeof run);
-    run.decoder = nody_decoder(form);
+    run.decoder = nody_decoder(encoding);
     run.decoder.offset = offset;
     run.asks = asks;
     run.kept = 1;
@@ -172,19 +172,19 @@ static struct run started(nody_form_t form, uint64_t offset, enum asks asks) {
 }
 
 /* Whether what is held is the shortest end of what was fed that is not decided: some byte that may follow changes its first piece. */
-static int holds_shortest(const struct run *run, nody_form_t form) {
+static int holds_shortest(const struct run *run, nody_encoding_t encoding) {
     uint8_t bytes[8];
     nody_located_t alone[8], followed[8];
     int a, b;
     size_t held = run->decoder.count;
     if (!held) return 1;
     memcpy(bytes, run->decoder.held, held);
-    located(form, 0, bytes, held, alone);
+    located(encoding, 0, bytes, held, alone);
     for (a = 0; a < 256; a++)
         for (b = 0; b < 256; b += 85) {
             bytes[held] = (uint8_t)a;
             bytes[held + 1] = (uint8_t)b;
-            located(form, 0, bytes, held + 2, followed);
+            located(encoding, 0, bytes, held + 2, followed);
             if (!is_same(alone, followed, 1)) return 1;
         }
     return 0;
@@ -198,25 +198,25 @@ static size_t asked_of(enum asks asks, size_t count) {
     return left;
 }
 
-static void check_done(struct run *run, nody_form_t form, uint64_t offset, const uint8_t *bytes, size_t len, const char *what, unsigned long number) {
-    size_t count = asked_of(run->asks, located(form, offset, bytes, len, want));
+static void check_done(struct run *run, nody_encoding_t encoding, uint64_t offset, const uint8_t *bytes, size_t len, const char *what, unsigned long number) {
+    size_t count = asked_of(run->asks, located(encoding, offset, bytes, len, want));
     expect(run->kept && run->count == count && is_same(is, want, count) && run->decoder.offset == offset + len, what, number);
 }
 
 /* Each division of an input into three parts, with each room. */
-static void check_divisions(nody_form_t form, const uint8_t *bytes, size_t len, enum asks asks, unsigned long number) {
+static void check_divisions(nody_encoding_t encoding, const uint8_t *bytes, size_t len, enum asks asks, unsigned long number) {
     size_t i, j, room;
     for (i = 0; i <= len; i++)
         for (j = i; j <= len; j++)
             for (room = 1; room <= len + 1; room++) {
-                struct run run = started(form, 0, asks);
+                struct run run = started(encoding, 0, asks);
                 feed(&run, bytes, i, room);
-                expect(holds_shortest(&run, form), "what is held is not decided", number);
-                expect(nody_undecided_len(form, bytes, i) == run.decoder.count, "as many bytes are undecided", number);
+                expect(holds_shortest(&run, encoding), "what is held is not decided", number);
+                expect(nody_undecided_len(encoding, bytes, i) == run.decoder.count, "as many bytes are undecided", number);
                 feed(&run, bytes + i, j - i, room);
                 feed(&run, bytes + j, len - j, room);
                 finish(&run, room);
-                check_done(&run, form, 0, bytes, len, "three parts", number);
+                check_done(&run, encoding, 0, bytes, len, "three parts", number);
             }
 }
 
@@ -228,7 +228,7 @@ static uint32_t any(uint32_t below) {
 }
 
 /* Bytes that are text for the most part, so damaged, or anything. */
-static size_t make_bytes(uint8_t *out, size_t len, nody_form_t form) {
+static size_t make_bytes(uint8_t *out, size_t len, nody_encoding_t encoding) {
     static const uint32_t FIRST[] = {0x20, 0xa0, 0x400, 0x4e00, 0x1f600};
     size_t place = 0;
     uint32_t kind = any(6), damage = any(3);
@@ -236,12 +236,12 @@ static size_t make_bytes(uint8_t *out, size_t len, nody_form_t form) {
         uint32_t scalar = FIRST[kind < 5 ? (any(4) ? kind : any(5)) : any(5)] + any(60);
         uint16_t units[2];
         size_t count, k;
-        if (form == NODY_FORM_UTF8) place += nody_utf8_encode(scalar, out + place, 4);
+        if (encoding == NODY_UTF8) place += nody_utf8_encode(scalar, out + place, 4);
         else {
             count = nody_utf16_encode(scalar, units, 2);
             for (k = 0; k < count; k++) {
-                out[place++] = (uint8_t)(form == NODY_FORM_UTF16BE ? units[k] >> 8 : units[k]);
-                out[place++] = (uint8_t)(form == NODY_FORM_UTF16BE ? units[k] : units[k] >> 8);
+                out[place++] = (uint8_t)(encoding == NODY_UTF16BE ? units[k] >> 8 : units[k]);
+                out[place++] = (uint8_t)(encoding == NODY_UTF16BE ? units[k] : units[k] >> 8);
             }
         }
         if (damage == 1 && !any(20)) place -= place ? 1 : 0;
@@ -254,31 +254,31 @@ static void check_random(unsigned long rounds) {
     static uint8_t bytes[MOST];
     unsigned long round;
     for (round = 0; round < rounds; round++) {
-        nody_form_t form = (nody_form_t)any(3);
-        size_t len = make_bytes(bytes, any(4) ? any(300) : any(MOST - 8), form), place = 0, most = 1 + any(100), room = 1 + any(any(2) ? 8 : 400);
+        nody_encoding_t encoding = (nody_encoding_t)any(3);
+        size_t len = make_bytes(bytes, any(4) ? any(300) : any(MOST - 8), encoding), place = 0, most = 1 + any(100), room = 1 + any(any(2) ? 8 : 400);
         uint64_t offset = any(3) ? 0 : (any(2) ? UINT64_MAX : (uint64_t)1 << 32) - any(200);
-        struct run run = started(form, offset, (enum asks)any(3));
+        struct run run = started(encoding, offset, (enum asks)any(3));
         while (place < len) {
             size_t part = 1 + any((uint32_t)most);
             if (part > len - place) part = len - place;
             feed(&run, bytes + place, part, room);
             place += part;
-            expect(nody_undecided_len(form, bytes, place) == run.decoder.count, "as many bytes are undecided as are held", round);
+            expect(nody_undecided_len(encoding, bytes, place) == run.decoder.count, "as many bytes are undecided as are held", round);
         }
         finish(&run, room);
-        check_done(&run, form, offset, bytes, len, "random parts", round);
+        check_done(&run, encoding, offset, bytes, len, "random parts", round);
     }
 }
 
-/* The same pieces as nody_utf8_pieces gives of the whole, but for the one kind at the end. */
+/* The pieces are those of nody_utf8_pieces of the whole, but for the one kind at the end. */
 static void check_slices(unsigned long rounds) {
     static uint8_t bytes[MOST];
     static nody_piece_t pieces[MOST];
     unsigned long round;
     for (round = 0; round < rounds; round++) {
-        size_t len = make_bytes(bytes, any(600), NODY_FORM_UTF8), k, count, other = 0, place = 0;
+        size_t len = make_bytes(bytes, any(600), NODY_UTF8), k, count, other = 0, place = 0;
         nody_bytes_t left = nody_bytes(bytes, len);
-        struct run run = started(NODY_FORM_UTF8, 0, PIECES);
+        struct run run = started(NODY_UTF8, 0, PIECES);
         feed(&run, bytes, len, MOST);
         finish(&run, 3);
         count = nody_utf8_pieces(&left, pieces, MOST);
@@ -292,17 +292,17 @@ static void check_slices(unsigned long rounds) {
     }
 }
 
-/* Long text with a fault here and there, of which lanes pass the most, in parts and rooms of many lengths. What stands where it may not
- * is told once where the room has no place, and then read. */
+/* Long text with a fault here and there, most of which is scanned by SIMD, in parts and output buffers of many lengths. A piece that does
+ * not fit in the buffer is reported once, and then read. */
 static void check_long(unsigned long rounds) {
     enum { LONG = 1 << 16 };
     static uint8_t bytes[LONG];
     unsigned long round;
     for (round = 0; round < rounds; round++) {
-        nody_form_t form = (nody_form_t)(round % 3);
+        nody_encoding_t encoding = (nody_encoding_t)(round % 3);
         size_t len = 0, count = 0, found = 0, part, place, read, written;
         static size_t places[LONG];
-        nody_decoder_t decoder = nody_decoder(form);
+        nody_decoder_t decoder = nody_decoder(encoding);
         nody_status_t status;
         int is_right = 1;
         while (len + 8 < LONG) {
@@ -311,16 +311,16 @@ static void check_long(unsigned long rounds) {
                 uint16_t units[2];
                 uint32_t scalar = round % 2 ? 0x20 + any(60) : 0x1f600 - any(0x1f000 - 0xe000);
                 size_t k, all = nody_utf16_encode(scalar, units, 2);
-                if (form == NODY_FORM_UTF8) len += nody_utf8_encode(scalar, bytes + len, 4);
-                for (k = 0; form != NODY_FORM_UTF8 && k < all; k++) {
-                    bytes[len++] = (uint8_t)(form == NODY_FORM_UTF16BE ? units[k] >> 8 : units[k]);
-                    bytes[len++] = (uint8_t)(form == NODY_FORM_UTF16BE ? units[k] : units[k] >> 8);
+                if (encoding == NODY_UTF8) len += nody_utf8_encode(scalar, bytes + len, 4);
+                for (k = 0; encoding != NODY_UTF8 && k < all; k++) {
+                    bytes[len++] = (uint8_t)(encoding == NODY_UTF16BE ? units[k] >> 8 : units[k]);
+                    bytes[len++] = (uint8_t)(encoding == NODY_UTF16BE ? units[k] : units[k] >> 8);
                 }
             }
             if (rest < 3000) break;
             places[count++] = len;
-            bytes[len++] = form == NODY_FORM_UTF16LE ? 0 : form == NODY_FORM_UTF16BE ? 0xdc : 0xff;
-            if (form != NODY_FORM_UTF8) bytes[len++] = form == NODY_FORM_UTF16LE ? 0xdc : 0;
+            bytes[len++] = encoding == NODY_UTF16LE ? 0 : encoding == NODY_UTF16BE ? 0xdc : 0xff;
+            if (encoding != NODY_UTF8) bytes[len++] = encoding == NODY_UTF16LE ? 0xdc : 0;
         }
         decoder.offset = ((uint64_t)1 << 32) - 100;
         for (place = 0; place < len; place += part) {
@@ -344,7 +344,7 @@ static void check_long(unsigned long rounds) {
 
 /* Where the caller changed what is held, the end has characters: faults alone leave them out. */
 static void check_ends(void) {
-    nody_decoder_t decoder = nody_decoder(NODY_FORM_UTF8), copy;
+    nody_decoder_t decoder = nody_decoder(NODY_UTF8), copy;
     nody_located_t room[3];
     size_t read = 5, written = 5;
     decoder.count = 3;
@@ -354,16 +354,16 @@ static void check_ends(void) {
            "the fault of what is held", 0);
     expect(nody_decoder_finish_faults(&copy, room, 0, &written) == NODY_STATUS_FULL && !written && copy.offset == 1 && copy.count == 2,
            "the fault of what is held has no place", 0);
-    decoder = nody_decoder((nody_form_t)3);
+    decoder = nody_decoder((nody_encoding_t)3);
     room[0] = MARK;
     expect(nody_decoder_feed_faults(&decoder, (const uint8_t *)"\xff", 1, room, 3, &read, &written) == NODY_STATUS_REFUSED && !read && !written &&
-               is_same(room, &MARK, 1), "faults of no form", 0);
+               is_same(room, &MARK, 1), "faults of no encoding", 0);
     written = 5;
-    expect(nody_decoder_finish_faults(&decoder, room, 3, &written) == NODY_STATUS_REFUSED && !written, "faults of no form at the end", 0);
-    decoder = nody_decoder(NODY_FORM_UTF8);
+    expect(nody_decoder_finish_faults(&decoder, room, 3, &written) == NODY_STATUS_REFUSED && !written, "faults of no encoding at the end", 0);
+    decoder = nody_decoder(NODY_UTF8);
     decoder.count = 4;
     expect(nody_decoder_feed_faults(&decoder, (const uint8_t *)"a", 1, room, 3, &read, &written) == NODY_STATUS_REFUSED, "faults where four bytes are held", 0);
-    decoder = nody_decoder(NODY_FORM_UTF8);
+    decoder = nody_decoder(NODY_UTF8);
     expect(nody_decoder_feed_faults(&decoder, NULL, 0, NULL, 0, &read, &written) == NODY_STATUS_DONE && !read && !written, "faults of nothing", 0);
     expect(nody_decoder_feed_faults(&decoder, (const uint8_t *)"\xe2\x82", 2, NULL, 0, &read, &written) == NODY_STATUS_DONE && read == 2 && decoder.count == 2,
            "held without room for faults", 0);
@@ -373,17 +373,17 @@ static void check_ends(void) {
 }
 
 static void check_edges(void) {
-    nody_decoder_t decoder = nody_decoder((nody_form_t)3), copy;
+    nody_decoder_t decoder = nody_decoder((nody_encoding_t)3), copy;
     nody_located_t room[4] = {{77, 77, 77, 77}, {77, 77, 77, 77}, {77, 77, 77, 77}, {77, 77, 77, 77}};
     size_t read = 5, written = 5;
     expect(sizeof decoder <= 32 && sizeof *room == 16, "sizes", 0);
-    expect(nody_decoder_feed(&decoder, (const uint8_t *)"a", 1, room, 4, &read, &written) == NODY_STATUS_REFUSED && !read && !written, "no form", 0);
+    expect(nody_decoder_feed(&decoder, (const uint8_t *)"a", 1, room, 4, &read, &written) == NODY_STATUS_REFUSED && !read && !written, "no encoding", 0);
     written = 5;
-    expect(nody_decoder_finish(&decoder, room, 4, &written) == NODY_STATUS_REFUSED && !written && is_same(room, &MARK, 1), "no form at the end", 0);
-    decoder = nody_decoder(NODY_FORM_UTF8);
+    expect(nody_decoder_finish(&decoder, room, 4, &written) == NODY_STATUS_REFUSED && !written && is_same(room, &MARK, 1), "no encoding at the end", 0);
+    decoder = nody_decoder(NODY_UTF8);
     decoder.count = 4;
     expect(nody_decoder_feed(&decoder, (const uint8_t *)"a", 1, room, 4, &read, &written) == NODY_STATUS_REFUSED, "four bytes held", 0);
-    decoder = nody_decoder(NODY_FORM_UTF8);
+    decoder = nody_decoder(NODY_UTF8);
     expect(nody_decoder_feed(&decoder, NULL, 0, NULL, 0, &read, &written) == NODY_STATUS_DONE && !read && !written, "nothing", 0);
     expect(nody_decoder_finish(&decoder, NULL, 0, &written) == NODY_STATUS_DONE && !written, "nothing at the end", 0);
     expect(nody_decoder_feed(&decoder, (const uint8_t *)"\xe2\x82", 2, NULL, 0, &read, &written) == NODY_STATUS_DONE && read == 2, "held without room", 0);
@@ -393,7 +393,7 @@ static void check_edges(void) {
                room[0].scalar == 0x20ac && room[0].offset == 0 && room[0].len == 3, "a character in two parts", 0);
     expect(nody_decoder_finish(&copy, room, 4, &written) == NODY_STATUS_DONE && written == 2 && room[0].kind == NODY_KIND_TOO_FEW_BYTES &&
                room[1].kind == NODY_KIND_UNEXPECTED_CONTINUATION_BYTE && room[1].offset == 1, "a copy goes on by itself", 0);
-    decoder = nody_decoder(NODY_FORM_UTF8);
+    decoder = nody_decoder(NODY_UTF8);
     nody_decoder_feed(&decoder, (const uint8_t *)"\xf0\x41", 2, room, 4, &read, &written);
     expect(written == 2 && room[0].kind == NODY_KIND_INTERRUPTED_SEQUENCE && room[1].scalar == 0x41, "the one kind that differs", 0);
 }
@@ -407,8 +407,8 @@ int main(int count, char **words) {
     for (number = 0; number < 13ul * 13 * 13 * 13; number += 1 + (rounds < 1000)) {
         unsigned long rest = number;
         for (k = 0; k < 4; k++, rest /= 13) bytes[k] = BYTES[rest % 13];
-        check_divisions((nody_form_t)(number % 3), bytes, 4, PIECES, number);
-        check_divisions((nody_form_t)(number % 3), bytes, 4, number % 2 ? FAULTS : IN_TURN, number);
+        check_divisions((nody_encoding_t)(number % 3), bytes, 4, PIECES, number);
+        check_divisions((nody_encoding_t)(number % 3), bytes, 4, number % 2 ? FAULTS : IN_TURN, number);
     }
     check_ends();
     check_random(rounds);

@@ -1,9 +1,9 @@
 /* Holds the library against a decoder that is written here from the grammar of RFC 3629, section 4, and from RFC 2781, section 2.2,
  * and shares nothing with it: edges COUNT. Each buffer lies between two pages that must not be touched, once at the end of the
- * first and once at the front of the other. Every input is recoded with each room of 0 to 14 bytes and each split into two parts,
+ * first and once at the front of the other. Every input is converted with each room of 0 to 14 bytes and each split into two parts,
  * with U+FFFD for faults, which are counted, with one for each maximal subpart (the Unicode standard, D93b), and strictly, where
  * each fault has to come at its place and with its kind: all inputs of up to three bytes of those that the grammar names, and then
- * COUNT random ones. Of each first part a recoder holds the front of a code alone. Structs of random bytes are refused, or recode within bounds. Prints what failed, and then
+ * COUNT random ones. Of each first part a recoder holds the front of a code alone. Structs of random bytes are rejected, or recode within bounds. Prints what failed, and then
  * `N passed, M failed`. */
 #define _DEFAULT_SOURCE
 #include "noddychest.h"
@@ -97,10 +97,10 @@ static cut_piece first_of_utf16(const uint8_t *b, size_t len, int is_big) {
     return (cut_piece){0, len < 2 ? 1 : 2, 0xFFFD, 1, fault_of_utf16(u, len)};
 }
 
-static cut_text cut(nody_form_t form, const uint8_t *b, size_t len) {
+static cut_text cut(nody_encoding_t encoding, const uint8_t *b, size_t len) {
     cut_text made = {0, len, {{0, 0, 0, 0, NODY_KIND_OK}}};
     for (size_t at = 0; at < len;) {
-        cut_piece it = form == NODY_FORM_UTF8 ? first_of_utf8(b + at, len - at) : first_of_utf16(b + at, len - at, form == NODY_FORM_UTF16BE);
+        cut_piece it = encoding == NODY_UTF8 ? first_of_utf8(b + at, len - at) : first_of_utf16(b + at, len - at, encoding == NODY_UTF16BE);
         it.start = at;
         if (it.is_fault && at < made.valid) made.valid = at;
         made.piece[made.count++] = it;
@@ -111,8 +111,8 @@ static cut_text cut(nody_form_t form, const uint8_t *b, size_t len) {
 
 /* Whether the bytes are the front of a code and not all of it: of a row of the grammar; of units half a one, a leading surrogate, or
  * both. */
-static int is_open(nody_form_t form, const uint8_t *b, size_t len) {
-    if (form != NODY_FORM_UTF8) return len < 2 || (len < 4 && (b[form == NODY_FORM_UTF16LE] & 0xFC) == 0xD8);
+static int is_open(nody_encoding_t encoding, const uint8_t *b, size_t len) {
+    if (encoding != NODY_UTF8) return len < 2 || (len < 4 && (b[encoding == NODY_UTF16LE] & 0xFC) == 0xD8);
     for (size_t row = 0; row < sizeof GRAMMAR / sizeof *GRAMMAR; row++) {
         size_t same = 0;
         while (same < len && len < GRAMMAR[row].len && GRAMMAR[row].first[same] <= b[same] && b[same] <= GRAMMAR[row].last[same]) same++;
@@ -122,17 +122,17 @@ static int is_open(nody_form_t form, const uint8_t *b, size_t len) {
 }
 
 /* How many bytes at the end wait for others. */
-static size_t open_end(nody_form_t form, const uint8_t *b, size_t len) {
-    cut_text pieces = cut(form, b, len);
+static size_t open_end(nody_encoding_t encoding, const uint8_t *b, size_t len) {
+    cut_text pieces = cut(encoding, b, len);
     for (size_t i = 0; i < pieces.count; i++)
-        if (is_open(form, b + pieces.piece[i].start, len - pieces.piece[i].start)) return len - pieces.piece[i].start;
+        if (is_open(encoding, b + pieces.piece[i].start, len - pieces.piece[i].start)) return len - pieces.piece[i].start;
     return 0;
 }
 
-static size_t put(nody_form_t form, uint32_t s, uint8_t *out) {
+static size_t put(nody_encoding_t encoding, uint32_t s, uint8_t *out) {
     uint32_t unit[2] = {s, 0};
     size_t units = 1;
-    if (form == NODY_FORM_UTF8) {
+    if (encoding == NODY_UTF8) {
         size_t len = s < 0x80 ? 1 : s < 0x800 ? 2 : s < 0x10000 ? 3 : 4;
         static const uint8_t mark[5] = {0, 0, 0xC0, 0xE0, 0xF0};
         for (size_t i = len; i-- > 1; s /= 64) out[i] = (uint8_t)(0x80 + s % 64);
@@ -145,8 +145,8 @@ static size_t put(nody_form_t form, uint32_t s, uint8_t *out) {
         units = 2;
     }
     for (size_t i = 0; i < units; i++) {
-        out[2 * i + (form == NODY_FORM_UTF16LE)] = (uint8_t)(unit[i] / 256);
-        out[2 * i + (form == NODY_FORM_UTF16BE)] = (uint8_t)(unit[i] % 256);
+        out[2 * i + (encoding == NODY_UTF16LE)] = (uint8_t)(unit[i] / 256);
+        out[2 * i + (encoding == NODY_UTF16BE)] = (uint8_t)(unit[i] % 256);
     }
     return 2 * units;
 }
@@ -171,13 +171,13 @@ static uint8_t *fenced_bytes(fenced pages, size_t len, int at_end) { return at_e
 static char shown[8 * MOST];
 static int at_end;
 
-static void say(nody_form_t from, nody_form_t to, const uint8_t *in, size_t len) {
+static void say(nody_encoding_t from, nody_encoding_t to, const uint8_t *in, size_t len) {
     int n = sprintf(shown, "%d to %d:", from, to);
     for (size_t i = 0; i < len; i++) n += sprintf(shown + n, " %02x", in[i]);
 }
 
-/* How many of the pieces that became so many bytes are faults, or SIZE_MAX where no pieces did. */
-static size_t replaced_in(nody_form_t to, const cut_text *pieces, size_t made) {
+/* How many of the pieces whose output has `made` bytes are faults, or SIZE_MAX if no number of pieces has that output. */
+static size_t replaced_in(nody_encoding_t to, const cut_text *pieces, size_t made) {
     size_t len = 0, count = 0;
     for (size_t i = 0; i < pieces->count && len < made; i++) {
         uint8_t code[4];
@@ -189,7 +189,7 @@ static size_t replaced_in(nody_form_t to, const cut_text *pieces, size_t made) {
 
 /* Feeds the two parts into room after room. A room of less than four bytes that cannot make progress is made one of fourteen. After
  * each call the recoder has counted the faults of which something was written. */
-static int is_recoded_in(nody_form_t from, nody_form_t to, const uint8_t *in, size_t len, size_t split, size_t room, const cut_text *pieces, const uint8_t *want, size_t need) {
+static int is_recoded_in(nody_encoding_t from, nody_encoding_t to, const uint8_t *in, size_t len, size_t split, size_t room, const cut_text *pieces, const uint8_t *want, size_t need) {
     nody_recoder_t recoder = nody_recoder(from, to);
     size_t place = 0, made = 0, end = split;
     for (int calls = 0; calls < 200; calls++) {
@@ -214,18 +214,18 @@ static int is_recoded_in(nody_form_t from, nody_form_t to, const uint8_t *in, si
     return 0;
 }
 
-/* How many bytes the maximal subpart has that begins the bytes, where no character does: the longest front of a code, or one. Of UTF-16
+/* How many bytes the maximal subpart has that begins the bytes, if no character does: the longest front of a code, or one. Of UTF-16
  * it is a unit or an odd byte, or a leading surrogate with an odd byte that ends the input. */
-static size_t subpart_len(nody_form_t form, const uint8_t *b, size_t len) {
-    if (form != NODY_FORM_UTF8 && len == 3 && (b[form == NODY_FORM_UTF16LE] & 0xFC) == 0xD8) return 3;
-    if (form != NODY_FORM_UTF8) return len < 2 ? 1 : 2;
+static size_t subpart_len(nody_encoding_t encoding, const uint8_t *b, size_t len) {
+    if (encoding != NODY_UTF8 && len == 3 && (b[encoding == NODY_UTF16LE] & 0xFC) == 0xD8) return 3;
+    if (encoding != NODY_UTF8) return len < 2 ? 1 : 2;
     for (size_t n = len < 3 ? len : 3; n > 1; n--)
-        if (is_open(form, b, n)) return n;
+        if (is_open(encoding, b, n)) return n;
     return 1;
 }
 
-/* What the bytes become in another form with one U+FFFD for each maximal subpart; answers how many bytes that is. */
-static size_t lossy_of(nody_form_t from, nody_form_t to, const uint8_t *in, size_t len, const cut_text *pieces, uint8_t *out) {
+/* Transcodes the bytes with one U+FFFD for each maximal subpart; returns the length of the output. */
+static size_t lossy_of(nody_encoding_t from, nody_encoding_t to, const uint8_t *in, size_t len, const cut_text *pieces, uint8_t *out) {
     size_t made = 0, at = 0;
     for (size_t i = 0; i < pieces->count; i++) {
         const cut_piece *it = &pieces->piece[i];
@@ -236,8 +236,8 @@ static size_t lossy_of(nody_form_t from, nody_form_t to, const uint8_t *in, size
     return made;
 }
 
-/* The same as is_recoded_in, by the lossy calls, which count nothing. */
-static int is_lossy_in(nody_form_t from, nody_form_t to, const uint8_t *in, size_t len, size_t split, size_t room, const uint8_t *want, size_t need) {
+/* is_recoded_in for the lossy calls, which count no replaced bytes. */
+static int is_lossy_in(nody_encoding_t from, nody_encoding_t to, const uint8_t *in, size_t len, size_t split, size_t room, const uint8_t *want, size_t need) {
     nody_recoder_t recoder = nody_recoder(from, to);
     size_t place = 0, made = 0, end = split;
     for (int calls = 0; calls < 200; calls++) {
@@ -261,7 +261,7 @@ static int is_lossy_in(nody_form_t from, nody_form_t to, const uint8_t *in, size
     return 0;
 }
 
-static int are_lossy(nody_form_t from, nody_form_t to, const uint8_t *in, size_t len, const cut_text *pieces) {
+static int are_lossy(nody_encoding_t from, nody_encoding_t to, const uint8_t *in, size_t len, const cut_text *pieces) {
     uint8_t want[MADE];
     size_t need = lossy_of(from, to, in, len, pieces, want);
     for (size_t room = 0; room < ROOMS; room++)
@@ -270,8 +270,8 @@ static int are_lossy(nody_form_t from, nody_form_t to, const uint8_t *in, size_t
     return 1;
 }
 
-/* Where there is room, what is held of the bytes are those at the end that wait for others, and no more. */
-static int is_held(nody_form_t from, nody_form_t to, const uint8_t *in, size_t len) {
+/* Given enough capacity, the carried-over bytes are those at the end that wait for others, and no more. */
+static int is_held(nody_encoding_t from, nody_encoding_t to, const uint8_t *in, size_t len) {
     nody_recoder_t recoder = nody_recoder(from, to);
     uint8_t *out = fenced_bytes(out_fence, MADE, at_end), held[3];
     size_t read, written, wait = open_end(from, in, len);
@@ -279,7 +279,7 @@ static int is_held(nody_form_t from, nody_form_t to, const uint8_t *in, size_t l
     return nody_recoder_held(&recoder, held, 3) == wait && memcmp(held, in + len - wait, wait) == 0;
 }
 
-static int is_recoded_at_once(nody_form_t from, nody_form_t to, const uint8_t *in, size_t len, size_t room, const uint8_t *want, size_t need) {
+static int is_recoded_at_once(nody_encoding_t from, nody_encoding_t to, const uint8_t *in, size_t len, size_t room, const uint8_t *want, size_t need) {
     uint8_t *out = fenced_bytes(out_fence, room, at_end);
     size_t written = MADE + 1;
     nody_status_t status = nody_recode(from, to, in, len, out, room, &written);
@@ -288,13 +288,13 @@ static int is_recoded_at_once(nody_form_t from, nody_form_t to, const uint8_t *i
     return status == NODY_STATUS_FULL && (need - written <= 4 || room - written < 4);
 }
 
-/* What the characters are in another form, faults left out: `at` says where that of each piece begins. */
+/* What the characters are in another encoding, faults left out: `at` says where that of each piece begins. */
 typedef struct {
     uint8_t bytes[MADE];
     size_t at[MOST + 1];
 } cut_output;
 
-static cut_output text_of(nody_form_t to, const cut_text *pieces) {
+static cut_output text_of(nody_encoding_t to, const cut_text *pieces) {
     cut_output made;
     made.at[0] = 0;
     for (size_t i = 0; i < pieces->count; i++)
@@ -310,8 +310,8 @@ static size_t next_fault(const cut_text *pieces, size_t i) {
 
 static int is_no_fault(const nody_fault_t *fault) { return fault->kind == NODY_KIND_NONE && fault->len == 0 && fault->back == 0; }
 
-/* The same strictly: each fault comes at its place, with its length and kind, after all that is before it and nothing else. */
-static int is_strict_in(nody_form_t from, nody_form_t to, const uint8_t *in, size_t len, size_t split, size_t room, const cut_text *pieces, const cut_output *want) {
+/* is_recoded_in in strict mode: each fault comes at its offset, with its length and kind, after all that is before it and nothing else. */
+static int is_strict_in(nody_encoding_t from, nody_encoding_t to, const uint8_t *in, size_t len, size_t split, size_t room, const cut_text *pieces, const cut_output *want) {
     nody_recoder_t recoder = nody_recoder(from, to);
     size_t place = 0, made = 0, end = split, next = next_fault(pieces, 0);
     for (int calls = 0; calls < 200; calls++) {
@@ -344,8 +344,8 @@ static int is_strict_in(nody_form_t from, nody_form_t to, const uint8_t *in, siz
     return 0;
 }
 
-/* Where there is room, a strict recoder holds what follows decides: from the first fault on whose kind says that something lacks. */
-static int is_held_strictly(nody_form_t from, nody_form_t to, const uint8_t *in, size_t len) {
+/* Given enough capacity, a strict recoder carries over what follows decides: from the first fault on whose kind says that something is missing. */
+static int is_held_strictly(nody_encoding_t from, nody_encoding_t to, const uint8_t *in, size_t len) {
     nody_recoder_t recoder = nody_recoder(from, to);
     cut_text pieces = cut(from, in, len);
     uint8_t *out = fenced_bytes(out_fence, MADE, at_end), held[3];
@@ -362,8 +362,8 @@ static int is_held_strictly(nody_form_t from, nody_form_t to, const uint8_t *in,
     return 0;
 }
 
-/* In one call all up to the first fault is recoded, or as many characters as fit. */
-static int is_strict_at_once(nody_form_t from, nody_form_t to, const uint8_t *in, size_t len, size_t room, const cut_text *pieces, const cut_output *want) {
+/* In one call all up to the first fault is converted, or as many characters as fit. */
+static int is_strict_at_once(nody_encoding_t from, nody_encoding_t to, const uint8_t *in, size_t len, size_t room, const cut_text *pieces, const cut_output *want) {
     uint8_t *out = fenced_bytes(out_fence, room, at_end);
     size_t first = next_fault(pieces, 0), count = 0, read = 99, written = 99;
     nody_fault_t fault = {99, 99, NODY_KIND_OK};
@@ -376,7 +376,7 @@ static int is_strict_at_once(nody_form_t from, nody_form_t to, const uint8_t *in
     return status == NODY_STATUS_FAULT && fault.len == pieces->piece[first].len && fault.kind == pieces->piece[first].kind && fault.back == 0;
 }
 
-static int are_strict(nody_form_t from, nody_form_t to, const uint8_t *in, size_t len, const cut_text *pieces) {
+static int are_strict(nody_encoding_t from, nody_encoding_t to, const uint8_t *in, size_t len, const cut_text *pieces) {
     cut_output want = text_of(to, pieces);
     for (size_t room = 0; room < ROOMS; room++) {
         if (!is_strict_at_once(from, to, in, len, room, pieces, &want)) return 0;
@@ -388,9 +388,9 @@ static int are_strict(nody_form_t from, nody_form_t to, const uint8_t *in, size_
     return 1;
 }
 
-static void recodings(nody_form_t from, const uint8_t *in, size_t len, const cut_text *pieces) {
+static void recodings(nody_encoding_t from, const uint8_t *in, size_t len, const cut_text *pieces) {
     for (int other = 0; other < 3; other++) {
-        nody_form_t to = (nody_form_t)other;
+        nody_encoding_t to = (nody_encoding_t)other;
         uint8_t want[MADE];
         size_t need = 0;
         int holds = 1;
@@ -407,29 +407,42 @@ static void recodings(nody_form_t from, const uint8_t *in, size_t len, const cut
     }
 }
 
-/* Whether a character, or a unit, lies over a place. */
-static int is_over(nody_form_t form, const cut_text *pieces, size_t len, size_t at) {
-    if (at < len && form != NODY_FORM_UTF8 && at % 2) return 1;
+/* Whether the offset is inside a character, or a code unit. */
+static int is_over(nody_encoding_t encoding, const cut_text *pieces, size_t len, size_t at) {
+    if (at < len && encoding != NODY_UTF8 && at % 2) return 1;
     for (size_t i = 0; i < pieces->count; i++)
         if (!pieces->piece[i].is_fault && pieces->piece[i].start < at && at < pieces->piece[i].start + pieces->piece[i].len) return 1;
     return 0;
 }
 
-static int are_boundaries(nody_form_t form, const uint8_t *in, size_t len, const cut_text *pieces) {
+/* Whether a place lies inside a character, a maximal subpart or a unit. */
+static int is_in_part(nody_encoding_t encoding, const uint8_t *in, size_t len, const cut_text *pieces, size_t at) {
+    size_t end = 0;
+    for (size_t i = 0; i < pieces->count; i++) {
+        size_t start = pieces->piece[i].start;
+        if (start < end) continue;
+        end = start + (pieces->piece[i].is_fault ? subpart_len(encoding, in + start, len - start) : pieces->piece[i].len);
+        if (start < at && at < end) return 1;
+    }
+    return 0;
+}
+
+static int are_boundaries(nody_encoding_t encoding, const uint8_t *in, size_t len, const cut_text *pieces) {
     for (size_t at = 0; at <= len + 1; at++) {
         size_t before = at < len ? at : len, after = before;
-        while (is_over(form, pieces, len, before)) before--;
-        while (is_over(form, pieces, len, after)) after++;
-        if (nody_boundary_before(form, in, len, at) != before || nody_boundary_after(form, in, len, at) != after) return 0;
-        if (nody_shard_end(form, in, len, at) != before) return 0;
+        while (is_over(encoding, pieces, len, before)) before--;
+        while (is_over(encoding, pieces, len, after)) after++;
+        if (nody_boundary_before(encoding, in, len, at) != before || nody_boundary_after(encoding, in, len, at) != after) return 0;
+        while (is_in_part(encoding, in, len, pieces, before)) before--;
+        if (nody_shard_end(encoding, in, len, at) != before) return 0;
     }
     return 1;
 }
 
 /* How many bytes at the end depend on what follows: the front of a character, after which nothing but its continuation bytes came. */
-static size_t undecided(nody_form_t form, const uint8_t *in, size_t len) {
+static size_t undecided(nody_encoding_t encoding, const uint8_t *in, size_t len) {
     size_t odd = len % 2;
-    if (form != NODY_FORM_UTF8) return len >= 2 && (in[len - odd - (form == NODY_FORM_UTF16BE ? 2 : 1)] & 0xFC) == 0xD8 ? 2 + odd : odd;
+    if (encoding != NODY_UTF8) return len >= 2 && (in[len - odd - (encoding == NODY_UTF16BE ? 2 : 1)] & 0xFC) == 0xD8 ? 2 + odd : odd;
     for (size_t left = len < 3 ? len : 3; left > 0; left--) {
         uint8_t first = in[len - left];
         size_t needs = first < 0xC2 || first > 0xF4 ? 1 : first < 0xE0 ? 2 : first < 0xF0 ? 3 : 4, more = 1;
@@ -441,14 +454,14 @@ static size_t undecided(nody_form_t form, const uint8_t *in, size_t len) {
 
 static int is_mark(const uint8_t *in, size_t len) {
     static const uint8_t utf8[] = {0xEF, 0xBB, 0xBF}, le[] = {0xFF, 0xFE}, be[] = {0xFE, 0xFF};
-    nody_form_t form = NODY_FORM_UTF16BE;
-    size_t mark = nody_form_of_bom(in, len, &form);
-    if (len >= 3 && memcmp(in, utf8, 3) == 0) return mark == 3 && form == NODY_FORM_UTF8;
-    if (len >= 2 && memcmp(in, le, 2) == 0) return mark == 2 && form == NODY_FORM_UTF16LE;
-    return mark == (len >= 2 && memcmp(in, be, 2) == 0 ? 2 : 0) && form == NODY_FORM_UTF16BE;
+    nody_encoding_t encoding = NODY_UTF16BE;
+    size_t mark = nody_encoding_of_bom(in, len, &encoding);
+    if (len >= 3 && memcmp(in, utf8, 3) == 0) return mark == 3 && encoding == NODY_UTF8;
+    if (len >= 2 && memcmp(in, le, 2) == 0) return mark == 2 && encoding == NODY_UTF16LE;
+    return mark == (len >= 2 && memcmp(in, be, 2) == 0 ? 2 : 0) && encoding == NODY_UTF16BE;
 }
 
-/* The faults alone, with rooms for one to three, and from an offset at which 64 bits end. */
+/* Only the faults, with rooms for one to three, and from an offset at which 64 bits end. */
 static int are_faults(const uint8_t *in, size_t len, const nody_piece_t *all, size_t count) {
     for (size_t room = 1; room < 4; room++) {
         nody_bytes_t left = nody_bytes(in, len);
@@ -471,21 +484,21 @@ static int are_faults(const uint8_t *in, size_t len, const nody_piece_t *all, si
     return 1;
 }
 
-/* The offset of each number, and the number at each offset, of bytes in a form. */
-static int are_numbers_in(nody_form_t form, const uint8_t *in, size_t len, const cut_text *pieces) {
+/* The offset of each number, and the number at each offset, of bytes in an encoding. */
+static int are_numbers_in(nody_encoding_t encoding, const uint8_t *in, size_t len, const cut_text *pieces) {
     for (size_t number = 0; number <= pieces->count + 1; number++)
-        if (nody_offset_of(form, in, len, number) != (number < pieces->count ? pieces->piece[number].start : len)) return 0;
+        if (nody_offset_of(encoding, in, len, number) != (number < pieces->count ? pieces->piece[number].start : len)) return 0;
     for (size_t at = 0; at <= len + 1; at++) {
         size_t number = 0;
         while (number < pieces->count && pieces->piece[number].start < at) number++;
-        if (nody_number_of(form, in, len, at) != number) return 0;
+        if (nody_number_of(encoding, in, len, at) != number) return 0;
     }
-    return nody_char_count(form, in, len) == pieces->count && nody_offset_of(form, in, len, SIZE_MAX) == len && nody_number_of(form, in, len, SIZE_MAX) == pieces->count;
+    return nody_char_count(encoding, in, len) == pieces->count && nody_offset_of(encoding, in, len, SIZE_MAX) == len && nody_number_of(encoding, in, len, SIZE_MAX) == pieces->count;
 }
 
-/* The offset of each number, and the number at each offset, of bytes and of units that are as wide as so many bytes. */
-static int are_numbers(nody_form_t form, const uint8_t *in, size_t len, const cut_text *pieces) {
-    size_t wide = form == NODY_FORM_UTF8 ? 1 : 2, ends = len / wide;
+/* The offset of each character by number, and the reverse, in bytes and in code units of any width. */
+static int are_numbers(nody_encoding_t encoding, const uint8_t *in, size_t len, const cut_text *pieces) {
+    size_t wide = encoding == NODY_UTF8 ? 1 : 2, ends = len / wide;
     uint16_t units[MOST];
     memcpy(units, in, len);
     for (size_t number = 0; number <= pieces->count + 1; number++) {
@@ -500,7 +513,7 @@ static int are_numbers(nody_form_t form, const uint8_t *in, size_t len, const cu
     return nody_utf8_offset_of(in, len, SIZE_MAX) == len && nody_utf8_number_of(in, len, SIZE_MAX) == nody_utf8_char_count(in, len);
 }
 
-/* Whether the pieces that begin before a place, or from one on, are the same in both, where what stood at `was` stands at `is`. */
+/* Whether the pieces that begin before an offset, or from one on, are equal in both, if offset `was` of the old is `is` of the new. */
 static int are_same(const cut_text *old, const cut_text *new, size_t from, size_t to, size_t was, size_t is) {
     size_t i = 0, j = 0;
     while (i < old->count && old->piece[i].start < from) i++;
@@ -513,8 +526,8 @@ static int are_same(const cut_text *old, const cut_text *new, size_t from, size_
     return j == new->count || new->piece[j].start + was >= to + is;
 }
 
-/* Any bytes in place of a part: what the range leaves out is as it was. Of UTF-16 what follows is so where the length changes by units. */
-static int is_range_of(nody_form_t form, const uint8_t *in, size_t len, const cut_text *pieces, size_t start, size_t end, nody_range_t range) {
+/* Any bytes in place of a part: what the range leaves out is as it was. Of UTF-16 what follows is so if the length changes by units. */
+static int is_range_of(nody_encoding_t encoding, const uint8_t *in, size_t len, const cut_text *pieces, size_t start, size_t end, nody_range_t range) {
     static const uint8_t put[] = {0x00, 0x41, 0x80, 0xBF, 0xC3, 0xD8, 0xDC, 0xE2, 0xED, 0xF0, 0xF4};
     for (size_t n = 0; n < 12; n++) {
         uint8_t made[MOST];
@@ -523,22 +536,22 @@ static int is_range_of(nody_form_t form, const uint8_t *in, size_t len, const cu
         memcpy(made, in, start);
         for (size_t i = 0; i < come; i++) made[start + i] = put[(n * n + len + i * start) % sizeof put];
         memcpy(made + start + come, in + end, len - end);
-        cut_text now = cut(form, made, all);
+        cut_text now = cut(encoding, made, all);
         if (!are_same(pieces, &now, 0, range.start, 0, 0)) return 0;
-        if (form != NODY_FORM_UTF8 && (come + (end - start)) % 2) continue;
+        if (encoding != NODY_UTF8 && (come + (end - start)) % 2) continue;
         if (!are_same(pieces, &now, range.end, len + 1, end, start + come)) return 0;
     }
     return 1;
 }
 
-static int are_changes(nody_form_t form, const uint8_t *in, size_t len, const cut_text *pieces) {
+static int are_changes(nody_encoding_t encoding, const uint8_t *in, size_t len, const cut_text *pieces) {
     for (size_t end = 0; end <= len; end++)
         for (size_t start = 0; start <= end; start++) {
             size_t from = start < 3 ? 0 : start - 3, to = end + 3 < len ? end + 3 : len;
-            nody_range_t range = nody_changed_range(form, in, len, start, end);
-            while (is_over(form, pieces, len, from)) from--;
-            while (is_over(form, pieces, len, to)) to++;
-            if (range.start != from || range.end != to || !is_range_of(form, in, len, pieces, start, end, range)) return 0;
+            nody_range_t range = nody_changed_range(encoding, in, len, start, end);
+            while (is_over(encoding, pieces, len, from)) from--;
+            while (is_over(encoding, pieces, len, to)) to++;
+            if (range.start != from || range.end != to || !is_range_of(encoding, in, len, pieces, start, end, range)) return 0;
         }
     return 1;
 }
@@ -571,17 +584,17 @@ static void all_of(const uint8_t *bytes, size_t len) {
         uint8_t *in = fenced_bytes(in_fence, len, at_end);
         memcpy(in, bytes, len);
         for (int other = 0; other < 3; other++) {
-            nody_form_t form = (nody_form_t)other;
-            cut_text pieces = cut(form, in, len);
-            say(form, form, in, len);
-            expect(nody_utf16_bytes_valid_up_to(form, in, len) == pieces.valid, "valid up to", shown);
-            expect(are_boundaries(form, in, len, &pieces), "boundaries", shown);
-            expect(nody_undecided_len(form, in, len) == undecided(form, in, len) && is_mark(in, len), "undecided bytes, and a mark", shown);
-            expect(are_numbers_in(form, in, len, &pieces), "numbers in a form", shown);
-            if (form == NODY_FORM_UTF8 || (form == NODY_FORM_UTF16_NATIVE && len % 2 == 0)) expect(are_numbers(form, in, len, &pieces), "numbers", shown);
-            expect(are_changes(form, in, len, &pieces), "what a change reaches", shown);
-            if (form == NODY_FORM_UTF8) expect(are_pieces(in, len, &pieces) && nody_utf8_valid_up_to(in, len) == pieces.valid, "pieces", shown);
-            recodings(form, in, len, &pieces);
+            nody_encoding_t encoding = (nody_encoding_t)other;
+            cut_text pieces = cut(encoding, in, len);
+            say(encoding, encoding, in, len);
+            expect(nody_utf16_bytes_valid_up_to(encoding, in, len) == pieces.valid, "valid up to", shown);
+            expect(are_boundaries(encoding, in, len, &pieces), "boundaries", shown);
+            expect(nody_undecided_len(encoding, in, len) == undecided(encoding, in, len) && is_mark(in, len), "undecided bytes, and a mark", shown);
+            expect(are_numbers_in(encoding, in, len, &pieces), "numbers in an encoding", shown);
+            if (encoding == NODY_UTF8 || (encoding == NODY_UTF16_NATIVE && len % 2 == 0)) expect(are_numbers(encoding, in, len, &pieces), "numbers", shown);
+            expect(are_changes(encoding, in, len, &pieces), "what a change reaches", shown);
+            if (encoding == NODY_UTF8) expect(are_pieces(in, len, &pieces) && nody_utf8_valid_up_to(in, len) == pieces.valid, "pieces", shown);
+            recodings(encoding, in, len, &pieces);
         }
     }
 }
@@ -617,19 +630,19 @@ static void random_inputs(unsigned long count) {
 }
 
 /* The numbers of an input that is counted in blocks, piece after piece. */
-static int are_counts(nody_form_t form, const uint8_t *in, size_t len) {
-    size_t wide = form == NODY_FORM_UTF8 ? 1 : 2, ends = len / wide, count = 0;
+static int are_counts(nody_encoding_t encoding, const uint8_t *in, size_t len) {
+    size_t wide = encoding == NODY_UTF8 ? 1 : 2, ends = len / wide, count = 0;
     const uint16_t *units = (const uint16_t *)(const void *)in;
     for (size_t at = 0; at < len; count++) {
-        cut_piece it = wide == 1 ? first_of_utf8(in + at, len - at) : first_of_utf16(in + at, len - at, form == NODY_FORM_UTF16BE);
+        cut_piece it = wide == 1 ? first_of_utf8(in + at, len - at) : first_of_utf16(in + at, len - at, encoding == NODY_UTF16BE);
         if ((wide == 1 ? nody_utf8_offset_of(in, len, count) : nody_utf16_offset_of(units, ends, count)) != at / wide) return 0;
-        if (nody_offset_of(form, in, len, count) != at || nody_number_of(form, in, len, at) != count || nody_number_of(form, in, len, at + 1) != count + 1) return 0;
+        if (nody_offset_of(encoding, in, len, count) != at || nody_number_of(encoding, in, len, at) != count || nody_number_of(encoding, in, len, at + 1) != count + 1) return 0;
         for (size_t i = at + wide; i <= at + it.len; i += wide)
             if ((wide == 1 ? nody_utf8_number_of(in, len, i) : nody_utf16_number_of(units, ends, i / wide)) != count + 1) return 0;
         at += it.len;
     }
     if ((wide == 1 ? nody_utf8_offset_of(in, len, count) : nody_utf16_offset_of(units, ends, count)) != ends) return 0;
-    if (nody_offset_of(form, in, len, count) != len || nody_char_count(form, in, len) != count) return 0;
+    if (nody_offset_of(encoding, in, len, count) != len || nody_char_count(encoding, in, len) != count) return 0;
     return (wide == 1 ? nody_utf8_char_count(in, len) : nody_utf16_char_count(units, ends)) == count;
 }
 
@@ -642,11 +655,11 @@ static void long_inputs(unsigned long count) {
         at_end = (int)(count % 2);
         uint8_t *in = fenced_bytes(in_fence, len, at_end);
         for (size_t i = 0; i < len; i++) in[i] = below(rare) ? 0x41 : NAMED[below(sizeof NAMED)];
-        expect(are_counts(NODY_FORM_UTF8, in, len), "numbers", "a long input");
+        expect(are_counts(NODY_UTF8, in, len), "numbers", "a long input");
         in = fenced_bytes(in_fence, 2 * len, at_end);
         for (size_t i = 0; i < len; i++) units[i] = (uint16_t)(below(rare) ? 0x41 : 0xD800 + below(2048));
         memcpy(in, units, 2 * len);
-        expect(are_counts(NODY_FORM_UTF16_NATIVE, in, 2 * len), "numbers of units", "a long input");
+        expect(are_counts(NODY_UTF16_NATIVE, in, 2 * len), "numbers of units", "a long input");
     }
 }
 
@@ -665,7 +678,7 @@ static void random_strict(nody_recoder_t recoder, int is_one, uint8_t *out, size
     expect(fault.len <= 2 && fault.back <= 3 && (fault.kind == NODY_KIND_NONE) == (status != NODY_STATUS_FAULT), "its fault", "finish strictly");
 }
 
-/* A struct of random bytes is a recoder, or is refused and stays. No call leaves the room. */
+/* A struct of random bytes is a recoder, or is rejected and stays. No call leaves the room. */
 static void random_structs(unsigned long count) {
     while (count-- > 0) {
         nody_recoder_t recoder, before;

@@ -1,5 +1,5 @@
 /* What a program is linked with to see it fail. FAULT has a word and a number N:
- *   memory N        the Nth request for memory is refused
+ *   memory N        the Nth allocation fails
  *   short N         a read or a write moves N bytes at the most
  *   unread N        of each N reads the last is interrupted, before it moves a byte
  *   unwritten N     the same of writes
@@ -16,7 +16,7 @@ ssize_t faulty_read(int file, void *bytes, size_t len);
 ssize_t faulty_pread(int file, void *bytes, size_t len, off_t at);
 ssize_t faulty_write(int file, const void *bytes, size_t len);
 
-/* The number that stands after the word, or 0 where FAULT has another. */
+/* The number after the word in FAULT, or 0 if FAULT has another word. */
 static unsigned long number_of(const char *word) {
     const char *fault = getenv("FAULT");
     size_t len = strlen(word);

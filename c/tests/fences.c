@@ -1,8 +1,8 @@
-/* Makes each call of noddychest.h with all that it takes between pages that must not be touched: fences COUNT [no-signals]. Inputs of up to some blocks,
- * damaged at random, lie at the front or at the end of their pages, and so do outputs; structs lie at the end. Forms, offsets, rooms and the
- * bytes of structs are any. What a call reads stays, what it answers lies in its bounds, and nothing is written outside of the room, nor,
- * where the header says so, after what was written. Then a signal comes in the middle of calls, whose handler makes the same ones. (QEMU 7.2
- * ends the program there, where it shows an x86-64: a second word leaves that out)
+/* Makes each call of noddychest.h with all that it takes between pages that must not be touched: fences COUNT [no-signals]. Inputs of up
+ * to some blocks, damaged at random, lie at the front or at the end of their pages, and so do outputs; structs lie at the end. Encodings,
+ * offsets, capacities and the bytes of structs are arbitrary. Inputs stay as they are, results are in bounds, and nothing is written
+ * outside of the output, nor, if the header says so, after what was written. Then a signal interrupts calls, and its handler makes the
+ * same ones. (QEMU 7.2 ends the program there, if it emulates an x86-64: a second word leaves that out)
  * Prints what failed, and then `N passed, M failed`. */
 #define _DEFAULT_SOURCE
 #include "noddychest.h"
@@ -58,7 +58,7 @@ static uint32_t below(uint32_t n) {
 /* So many bytes at one of the ends of the pages. */
 static uint8_t *in_fence(fence it, size_t len) { return below(2) ? it.end - len : it.front; }
 
-/* The same, painted, with the bytes beside them. */
+/* Painted memory with painted bytes around it. */
 static uint8_t *room_of(size_t len) {
     uint8_t *room = in_fence(outputs, len);
     memset(room == outputs.front ? room : room - BESIDE, PAINT, len + BESIDE);
@@ -78,23 +78,23 @@ static int is_painted(const uint8_t *room, size_t from, size_t len) {
 /* An offset in the input, or one far after it. */
 static size_t any_offset(size_t len) { return below(4) ? below((uint32_t)len + 2) : SIZE_MAX - below(3); }
 
-/* What a call is asked. `none` is no form. */
+/* What a call is asked. `none` is no encoding. */
 typedef struct {
-    nody_form_t from, to, none;
+    nody_encoding_t from, to, none;
     const uint8_t *in;
     const uint16_t *units;
     size_t len, count, at, other;
 } asked;
 
 /* Text of one alphabet, or of several, with damage as rare as it may be. */
-static void fill(uint8_t *bytes, size_t len, nody_form_t form) {
+static void fill(uint8_t *bytes, size_t len, nody_encoding_t encoding) {
     static const uint32_t first[] = {0x20, 0x410, 0x4E00, 0x1F600}, damage[] = {0xE2, 0x82, 0xF0, 0x9F, 0xED, 0xA0, 0xFF, 0xC3, 0xD8, 0xDC, 0};
     uint32_t rare = below(3) ? 5000 : 2 + below(20), alphabet = below(5);
     for (size_t at = 0, count = 0; at < len; at += count) {
         uint8_t text[4], code[4];
         uint32_t scalar = first[alphabet < 4 ? alphabet : below(4)] + below(64);
         size_t written = 0;
-        nody_recode(NODY_FORM_UTF8, form, text, nody_utf8_encode(scalar, text, 4), code, 4, &written);
+        nody_recode(NODY_UTF8, encoding, text, nody_utf8_encode(scalar, text, 4), code, 4, &written);
         if (below(rare) == 0) code[0] = (uint8_t)damage[below(sizeof damage / sizeof *damage)], written = 1;
         count = written < len - at ? written : len - at;
         memcpy(bytes + at, code, count);
@@ -102,7 +102,7 @@ static void fill(uint8_t *bytes, size_t len, nody_form_t form) {
 }
 
 static asked any_question(void) {
-    asked it = {(nody_form_t)below(3), (nody_form_t)below(3), (nody_form_t)(3 + below(253)), NULL, NULL, below(below(4) ? 200 : MOST_LEN), 0, 0, 0};
+    asked it = {(nody_encoding_t)below(3), (nody_encoding_t)below(3), (nody_encoding_t)(3 + below(253)), NULL, NULL, below(below(4) ? 200 : MOST_LEN), 0, 0, 0};
     uint8_t *in = in_fence(inputs, it.len), *units;
     it.count = it.len / 2;
     units = in_fence(parts, 2 * it.count);
@@ -124,8 +124,8 @@ static const struct {
 
 static size_t (*const AT_OF_BYTES[])(const uint8_t *, size_t, size_t) = {nody_utf8_offset_of, nody_utf8_number_of};
 static size_t (*const AT_OF_UNITS[])(const uint16_t *, size_t, size_t) = {nody_utf16_offset_of, nody_utf16_number_of, nody_utf16_boundary_before, nody_utf16_boundary_after};
-static size_t (*const IN_FORM[])(nody_form_t, const uint8_t *, size_t) = {nody_utf16_bytes_valid_up_to, nody_char_count, nody_undecided_len};
-static size_t (*const AT_IN_FORM[])(nody_form_t, const uint8_t *, size_t, size_t) = {nody_offset_of, nody_number_of, nody_boundary_before, nody_boundary_after, nody_shard_end};
+static size_t (*const IN_ENCODING[])(nody_encoding_t, const uint8_t *, size_t) = {nody_utf16_bytes_valid_up_to, nody_char_count, nody_undecided_len};
+static size_t (*const AT_IN_ENCODING[])(nody_encoding_t, const uint8_t *, size_t, size_t) = {nody_offset_of, nody_number_of, nody_boundary_before, nody_boundary_after, nody_shard_end};
 static nody_piece_t (*const ENDS_OF_BYTES[])(const uint8_t *, size_t) = {nody_utf8_first, nody_utf8_first_inline, nody_utf8_last};
 static nody_piece_t (*const ENDS_OF_UNITS[])(const uint16_t *, size_t) = {nody_utf16_first, nody_utf16_last};
 
@@ -135,12 +135,12 @@ static void measure(const asked *ask) {
     EACH(i, LENGTHS) HOLDS(CALL(LENGTHS[i].in_bytes(ask->in, ask->len)) <= ask->len && LENGTHS[i].in_units(ask->units, ask->count) <= ask->count);
     EACH(i, AT_OF_BYTES) HOLDS(CALL(AT_OF_BYTES[i](ask->in, ask->len, ask->at)) <= ask->len);
     EACH(i, AT_OF_UNITS) HOLDS(CALL(AT_OF_UNITS[i](ask->units, ask->count, ask->at)) <= ask->count);
-    EACH(i, IN_FORM) HOLDS(CALL(IN_FORM[i](ask->from, ask->in, ask->len)) <= ask->len && IN_FORM[i](ask->none, ask->in, ask->len) == SIZE_MAX);
-    EACH(i, AT_IN_FORM) HOLDS(CALL(AT_IN_FORM[i](ask->from, ask->in, ask->len, ask->at)) <= ask->len && AT_IN_FORM[i](ask->none, ask->in, ask->len, ask->at) == SIZE_MAX);
+    EACH(i, IN_ENCODING) HOLDS(CALL(IN_ENCODING[i](ask->from, ask->in, ask->len)) <= ask->len && IN_ENCODING[i](ask->none, ask->in, ask->len) == SIZE_MAX);
+    EACH(i, AT_IN_ENCODING) HOLDS(CALL(AT_IN_ENCODING[i](ask->from, ask->in, ask->len, ask->at)) <= ask->len && AT_IN_ENCODING[i](ask->none, ask->in, ask->len, ask->at) == SIZE_MAX);
 }
 
 static void look(const asked *ask) {
-    nody_form_t told = ask->none;
+    nody_encoding_t told = ask->none;
     nody_range_t changed = CALL(nody_changed_range(ask->from, ask->in, ask->len, ask->at, ask->other)), none;
     EACH(i, ENDS_OF_BYTES) HOLDS(CALL(ENDS_OF_BYTES[i](ask->in, ask->len)).len <= ask->len);
     EACH(i, ENDS_OF_UNITS) HOLDS(CALL(ENDS_OF_UNITS[i](ask->units, ask->count)).len <= ask->count);
@@ -148,7 +148,7 @@ static void look(const asked *ask) {
     none = nody_changed_range(ask->none, ask->in, ask->len, ask->at, ask->other);
     HOLDS(none.start == SIZE_MAX && none.end == SIZE_MAX);
     HOLDS(CALL(nody_utf8_streamed_at(ask->in, ask->len, ask->at)).len <= ask->len);
-    size_t mark = CALL(nody_form_of_bom(ask->in, ask->len, &told));
+    size_t mark = CALL(nody_encoding_of_bom(ask->in, ask->len, &told));
     HOLDS((mark > 0) == (told != ask->none));
 }
 
@@ -215,9 +215,9 @@ static void name(nody_kind_t kind) {
     HOLDS(memchr((*name)->text, 0, sizeof(*name)->text) && memchr((*sentence)->text, 0, sizeof(*sentence)->text));
 }
 
-/* ---- Recoding */
+/* ---- Transcoding */
 
-/* What a call tells of, with what lies between. */
+/* What a call reports, with guard bytes between the fields. */
 typedef struct {
     size_t before, read, between, written, after;
     nody_fault_t fault;
@@ -318,7 +318,7 @@ static void decode_parts(const asked *ask, int is_any) {
     nody_decoder_t *decoder = (nody_decoder_t *)(void *)(structs.end - sizeof *decoder);
     *decoder = nody_decoder(ask->from);
     if (is_any) fill_any(decoder, sizeof *decoder);
-    int is_one = decoder->form < 3 && decoder->count < 4;
+    int is_one = decoder->encoding < 3 && decoder->count < 4;
     for (size_t calls = 0, at = 0; calls < 12; calls++) {
         size_t len = below(2) ? below((uint32_t)(ask->len - at) + 1) : at < ask->len, room = below(below(2) ? 5 : 200);
         const uint8_t *part = part_of(ask, at, len);
@@ -360,14 +360,14 @@ static volatile sig_atomic_t came, wrong;
 static uint8_t text[3 * MOST_LEN], made[3 * MOST_LEN], want[3 * MOST_LEN];
 static size_t text_len, want_len;
 
-/* Whether one recoding, in two parts, and one count give what they gave first. */
+/* Whether one transcoding, in two parts, and one count give what they gave first. */
 static int is_as_before(uint8_t *out) {
-    nody_recoder_t recoder = nody_recoder(NODY_FORM_UTF8, NODY_FORM_UTF16BE);
+    nody_recoder_t recoder = nody_recoder(NODY_UTF8, NODY_UTF16BE);
     size_t read, first, rest, end, half = text_len / 2;
     nody_recoder_feed(&recoder, text, half, out, sizeof made, &read, &first);
     nody_recoder_feed(&recoder, text + half, text_len - half, out + first, sizeof made - first, &read, &rest);
     nody_recoder_finish(&recoder, out + first + rest, sizeof made - first - rest, &end);
-    return first + rest + end == want_len && memcmp(out, want, want_len) == 0 && nody_char_count(NODY_FORM_UTF16BE, out, want_len) == nody_utf8_char_count(text, text_len);
+    return first + rest + end == want_len && memcmp(out, want, want_len) == 0 && nody_char_count(NODY_UTF16BE, out, want_len) == nody_utf8_char_count(text, text_len);
 }
 
 static void on_alarm(int number) {
@@ -380,8 +380,8 @@ static void on_alarm(int number) {
 static void signals(void) {
     const struct itimerval often = {{0, 500}, {0, 500}}, never = {{0, 0}, {0, 0}};
     text_len = sizeof text / 3;
-    fill(text, text_len, NODY_FORM_UTF8);
-    nody_recode(NODY_FORM_UTF8, NODY_FORM_UTF16BE, text, text_len, want, sizeof want, &want_len);
+    fill(text, text_len, NODY_UTF8);
+    nody_recode(NODY_UTF8, NODY_UTF16BE, text, text_len, want, sizeof want, &want_len);
     signal(SIGALRM, on_alarm);
     setitimer(ITIMER_REAL, &often, NULL);
     while (came < SIGNALS) wrong += !is_as_before(made);

@@ -1,13 +1,13 @@
-/* Whether the calls that validate, count and recode take the code that is right for this processor: lanes [16|32]. Without the number
- * it asks the compiler's own library what the processor has. It makes each of these calls before the library has asked the
- * processor, when they take the code that runs everywhere, and again in main; a shared library has asked before either. Prints
+/* Whether the calls that validate, count and recode take the code that is right for this CPU: lanes [16|32]. Without the number
+ * it asks the compiler's own library what the CPU has. It makes each of these calls before the library has asked the
+ * CPU, when they take the code that runs everywhere, and again in main; a shared library has asked before either. Prints
  * what failed, and then `N passed, M failed`. */
 #include "noddychest.h"
 #include "rows.h"
 
-enum { CHARS = 60, BYTES = 2 * CHARS, UTF8 = NODY_FORM_UTF8, UTF16BE = NODY_FORM_UTF16BE };
+enum { CHARS = 60, BYTES = 2 * CHARS, UTF8 = NODY_UTF8, UTF16BE = NODY_UTF16BE };
 
-/* The same text in each form, with a trailing surrogate alone after it. */
+/* The same text in each encoding, with a trailing surrogate alone after it. */
 static uint8_t utf8[BYTES + 2], utf16be[BYTES + 2];
 static uint16_t utf16[CHARS + 1];
 
@@ -81,7 +81,7 @@ static int lanes_here(void) {
 #endif
 }
 
-/* What the library goes by before its constructor has asked the processor. One that asks at each call says it as in main. */
+/* The lanes that the library uses before its constructor has asked the CPU. A build that asks at each call prints what main does. */
 #ifndef LANES_FIRST
 #define LANES_FIRST 16
 #endif

@@ -5,11 +5,12 @@ usage: c/tests/nody.py BUILD [COMPILER]
 
 BUILD has what make built. The program is compiled again with blocks of a few bytes, so that they end everywhere, and with sanitizers. Texts of
 each form, damaged at random, go through all commands, in one thread and in three. Then what fails: arguments, files, full disks, closed
-pipes, signals, reads that are interrupted. It needs Linux; what needs root, or a tool that is not there, is left out, and named. The
+pipes, signals, reads that are interrupted; and other processes that change a file at each moment while it is replaced. It needs Linux; what needs root, or a tool that is not there, is left out, and named. The
 last line is 'N passed, M failed'.
 """
 import codecs
 import contextlib
+import errno
 import fcntl
 import json
 import os
@@ -44,6 +45,8 @@ PARTS = {
     "utf-16le": [b"a\0", b"\n\0", "é€".encode("utf-16-le"), "\U0001f600".encode("utf-16-le"), b"\x3d\xd8", b"\x00\xde", b"\xff\xfe", b"\x0a\x0a", b"x"],
     "utf-16be": [b"\0a", b"\0\n", "é€".encode("utf-16-be"), "\U0001f600".encode("utf-16-be"), b"\xd8\x3d", b"\xde\x00", b"\xfe\xff", b"\x0a\x0a", b"x"],
 }
+# All that check finds: of valid and of binary files too, and each invalid byte.
+ALL = ["check", "-v", "-a", "--max", "0"]
 passed = failed = 0
 
 
@@ -132,7 +135,7 @@ def places_of(pieces):
 def recoded(data, form, to, errors):
     """What recode writes, and where it stops."""
     pieces, name = pieces_of(data, form), to.replace("utf-16", "utf-16-")
-    if errors == "maximal":
+    if errors == "lossy":
         return data.decode(form.replace("utf-16", "utf-16-"), "replace").encode(name)
     if errors == "strict":
         pieces = pieces[: next((i for i, it in enumerate(pieces) if is_error(it)), len(pieces))]
@@ -156,7 +159,7 @@ def says(words, status, output=None, error=None, data=b"", **more):
 
 
 def sentences(program):
-    """The reasons by their names, as the program tells them."""
+    """The sentences that the program prints, by the names of the reasons."""
     samples = [b"\x80", b"\xff", b"\xe2\x82", b"\xe2A\x82", b"\xe0\x80\xaf", b"\xed\xa0\x80", b"\xf4\x90\x80\x80"]
     pairs = [b"\x00\xde", b"\x3d\xd8A\0", b"\x3d\xd8"]
     told = {}
@@ -175,7 +178,7 @@ def wanted_check(name, data, form, reasons):
     pieces = pieces_of(data, form)
     wrong = [(place, it) for place, it in zip(places_of(pieces), pieces) if is_error(it)]
     lines = [f"{name}:{line}:{column}: offset {it[0]}: {reasons[it[2]]}\n" for (line, column), it in wrong]
-    lines.append(f"{name}: not valid {FORMS[form]}: {len(wrong)} {noun(form, len(wrong))}\n" if wrong else f"{name}: valid {FORMS[form]}\n")
+    lines.append(f"{name}: not valid {FORMS[form]}: {len(wrong):,} {noun(form, len(wrong))}\n" if wrong else f"{name}: valid {FORMS[form]}\n")
     return int(bool(wrong)), "".join(lines).encode()
 
 
@@ -216,7 +219,7 @@ def try_text(program, name, data, form, reasons, jobs, chance):
     here = ["--from", form] if form != "utf-8" or chance.random() < 0.5 else []
     some = ["--jobs", str(jobs)]
     for given, shown, piped in ((name, name, b""), ("-", "-", data)):
-        says([program, "check", *here, *some, given], *wanted_check(shown, data, form, reasons), b"", piped)
+        says([program, *ALL, *here, *some, given], *wanted_check(shown, data, form, reasons), b"", piped)
         says([program, "count", *here, *some, given], *wanted_count(shown, data, form, reasons), b"", piped)
         pieces = pieces_of(data, form)
         listed = "".join(line_of(data, it, reasons) for it in pieces).encode()
@@ -233,7 +236,7 @@ def try_recode(program, given, shown, piped, data, form, reasons, words, chance)
     count = f"nody: {shown}: {len(wrong)} {noun(form, len(wrong))} became U+FFFD\n".encode() if wrong else b""
     got = run([*asked, given], piped)
     expect(got == (0, recoded(data, form, to, "replace"), count), f"recode {form} {to} of {data!r}: {got}")
-    says([*asked, "--errors", "maximal", given], 0, recoded(data, form, to, "maximal"), b"", piped)
+    says([*asked, "--errors", "lossy", given], 0, recoded(data, form, to, "lossy"), b"", piped)
     got = run([*asked, "--errors", "strict", given], piped)
     first = told.splitlines(True)[0] if wrong else b""
     expect(got == (status, recoded(data, form, to, "strict"), first), f"recode strictly {form} {to} of {data!r}: {got}")
@@ -269,11 +272,11 @@ def check_large(folder, program, reasons):
             file.write(data)
         status, want = wanted_check(name, data, form, reasons)
         for jobs in ([], ["--jobs", "1"], ["--jobs", "7"]):
-            says([program, "check", "--from", form, *jobs, name], status, want, b"")
+            says([program, *ALL, "--from", form, *jobs, name], status, want, b"")
             says([program, "count", "--from", form, *jobs, name], *wanted_count(name, data, form, reasons), b"")
-            for errors in ("replace", "maximal"):
+            for errors in ("replace", "lossy"):
                 says([program, "recode", "--from", form, "--to", "utf-16be", "--errors", errors, "--quiet", *jobs, name], 0, recoded(data, form, "utf-16be", errors), b"")
-        says([program, "check", "--from", form, "-"], status, want.replace(name.encode(), b"-"), b"", data)
+        says([program, *ALL, "--from", form, "-"], status, want.replace(name.encode(), b"-"), b"", data)
         for offset in (0, 100, len(data) // 2, len(data) - 1):
             says([program, "at", "--from", form, name, hex(offset)], *wanted_at(data, form, offset, reasons), b"")
 
@@ -288,15 +291,15 @@ def check_options(folder, program, reasons):
     lines = wanted_check(name, data, "utf-8", reasons)[1].splitlines(True)
     says([program, "check", "--quiet", name], 1, b"", b"")
     says([program, "check", "-q", "-"], 0, b"", b"", b"text")
-    says([program, "check", "--max", "2", name], 1, b"".join(lines[:2]) + f"{name}: not valid UTF-8: stopped after 2 invalid bytes\n".encode(), b"")
-    says([program, "check", name, "--max=0x1", name], 1, 2 * (lines[0] + f"{name}: not valid UTF-8: stopped after 1 invalid byte\n".encode()), b"")
+    says([program, "check", "--max", "2", name], 1, b"".join(lines[:2]) + f"{name}: 1 more invalid byte (--max 0 shows all)\n".encode(), b"")
+    says([program, "check", name, "--max=0x1", name], 1, 2 * (lines[0] + f"{name}: 2 more invalid bytes (--max 0 shows all)\n".encode()), b"")
     told = [json.loads(it) for it in run([program, "check", "--json", name])[1].splitlines()]
     expect([(it["line"], it["column"], it["offset"], it["length"], it["kind"]) for it in told[:-1]] == [(i + 1, 1, 2 * i, 1, "NonUtf8Byte") for i in range(3)], f"{told}")
-    expect(told[-1] == {"file": name, "encoding": "UTF-8", "valid": False, "invalid": 3, "complete": True}, f"{told[-1]}")
+    expect(told[-1] == {"file": name, "encoding": "UTF-8", "valid": False, "binary": False, "invalid": 3, "complete": True}, f"{told[-1]}")
     told = json.loads(run([program, "count", "--json", name])[1])
     expect(told == {"file": name, "encoding": "UTF-8", "bytes": 6, "characters": 3, "lines": 3, "invalid": 3, "kinds": {"NonUtf8Byte": 3}}, f"{told}")
     told = [json.loads(it) for it in run([program, "list", "--json", name])[1].splitlines()]
-    expect(told[0]["bytes"] == "ff" and told[0]["kind"] == "NonUtf8Byte" and told[1] == {"offset": 1, "length": 1, "bytes": "0a", "scalar": 10}, f"{told}")
+    expect(told[0]["bytes"] == "ff" and told[0]["kind"] == "NonUtf8Byte" and told[1] == {"file": name, "offset": 1, "length": 1, "bytes": "0a", "scalar": 10}, f"{told}")
     expect(len(run([program, "at", "--json", name, "5"])[1].splitlines()) == 4, "at --json")
     odd = os.fsencode(folder) + b"/\"\\\n\xff"
     shutil.copy(name, odd)
@@ -328,7 +331,7 @@ def check_origin(folder, program, reasons):
     name, data = f"{folder}/origin", b"read already " + b"caf\xc3\xa9 \xff text\n" * 50000
     with open(name, "wb") as file:
         file.write(data)
-    for words, want in ((["check"], wanted_check("-", data[13:], "utf-8", reasons)), (["at", "-", "1000"], wanted_at(data[13:], "utf-8", 1000, reasons)),
+    for words, want in ((ALL, wanted_check("-", data[13:], "utf-8", reasons)), (["at", "-", "1000"], wanted_at(data[13:], "utf-8", 1000, reasons)),
                         (["recode", "-q", "--to", "utf-16le"], (0, recoded(data[13:], "utf-8", "utf-16le", "replace")))):
         with open(name, "rb", buffering=0) as file:
             file.read(13)
@@ -339,7 +342,7 @@ def check_marks(program):
     """Byte order marks, and the labels of encodings."""
     for mark, form, text in ((b"\xef\xbb\xbf", "UTF-8", "é€\n".encode()), (b"\xff\xfe", "UTF-16LE", "é€\n".encode("utf-16-le")),
                              (b"\xfe\xff", "UTF-16BE", "é€\n".encode("utf-16-be")), (b"", "UTF-8", "é€\n".encode())):
-        says([program, "check", "--from", "bom"], 0, f"-: valid {form}\n".encode(), b"", mark + text)
+        says([program, "check", "-v", "--from", "bom"], 0, f"-: valid {form}\n".encode(), b"", mark + text)
         says([program, "recode", "--from=bom", "--to", "UTF-8"], 0, "é€\n".encode(), b"", mark + text)
         says([program, "recode", "--from=bom", "--to", "unicodeFFFE"], 0, "é€\n".encode("utf-16-be"), b"", mark + text)
     says([program, "recode", "--from=utf-16", "--from=bom"], 0, "é\n".encode(), b"", "é\n".encode())
@@ -354,10 +357,10 @@ def check_marks(program):
 
 def check_words(program, name):
     """What is wrong is said in a line, with how it should be."""
-    for words in (["check", "--max", "0"], ["check", "--max", "x"], ["check", "--max", "-1"], ["check", "--max", "99999999999999999999"], ["check", "--max"],
+    for words in (["check", "--max", "x"], ["check", "--max", "-1"], ["check", "--max", "99999999999999999999"], ["check", "--max"],
                   ["check", "--to", "utf-8"], ["list", "--max", "1"], ["check", "--from", "latin1"], ["check", "--from", ""], ["recode", "--to", "bom"],
                   ["recode", "--errors", "ignore"], ["recode", "--in-place"], ["recode", "--in-place", "-"], ["recode", "--in-place", "-o", "x", name],
-                  ["recode", name, name], ["at", name], ["at", name, "0", "0"], ["check", "--follow", name, name], ["check", "-x"], ["check", "--jobs", "0"], ["recode", "--json"]):
+                  ["recode", name, name], ["at", name], ["at", name, "0", "0"], ["check", "--follow", "-r", name], ["check", "-0"], ["check", "--files0-from", name, name], ["check", "--columns", "x"], ["check", "--color", "x"], ["fix"], ["fix", "-"], ["fix", "--errors", "strict", name], ["fix", "--backup", "a/b", name], ["check", "-x"], ["check", "--jobs", "0"], ["recode", "--json"]):
         says([program, *words], 2, b"", b"usage: nody ")
     for word, want in (("-zq", b"there is no option '-z'"), ("-f", b"there is no option '-f'"), ("--none", b"there is no option '--none'"), ("--j", b"there is no option '--j'"),
                        ("--quiet=3", b"--quiet takes no value"), ("--max", b"--max needs a value"), ("-q\033", b"there is no option '-\\033'"),
@@ -366,17 +369,17 @@ def check_words(program, name):
         expect(told[0] == 2 and told[2].split(b"\n")[0] == b"nody: " + want, f"{word!r}: {told}")
     says([program, "recode", "-o"], 2, b"", b"nody: --output needs a value\n")
     for words in ([], ["chek"], ["-q"]):
-        says([program, *words], 2, b"", b"usage: nody check|list")
+        says([program, *words], 2, b"", b"usage: nody check|fix|view|count|list|at|recode")
     for offset in ("", "x", "1x", "0x", "-1", "99999999999999999999"):
         says([program, "at", name, "--", offset], 2, b"", b"an OFFSET is a number")
     says([program, "at", name, "6"], 2, b"", b"it ends before this offset")
     says([program, "at", name, "18446744073709551615"], 2, b"", b"it ends before this offset")
     version, had = run([program, "--version"])[1], contents(name)
     expect(re.fullmatch(rb"nody \d+\.\d+\.\d+\n", version), "--version")
-    for command in ("check", "list", "count", "at", "recode"):
+    for command in ("check", "list", "count", "at", "recode", "fix"):
         says([program, command, name, "--version"], 0, version, b"")
     expect(contents(name) == had, "a file that is named beside --version")
-    expect(run([program, "--help"])[1].count(b"usage: nody ") == 5 and run([program, "at", "--help"])[1].count(b"usage: nody ") == 1, "--help")
+    expect(run([program, "--help"])[1].count(b"\n  nody ") == 7 and run([program, "at", "--help"])[1].count(b"usage: nody ") == 1, "--help")
 
 
 # ---- What fails
@@ -388,12 +391,13 @@ def check_failures(folder, program):
         file.write(b"text\n")
     line = f"{valid}: valid UTF-8\n".encode()
     for command in ("check", "count", "list"):
-        got = run([program, command, missing, folder, valid])
+        command, *more = (command, "-v") if command == "check" else (command,)
+        got = run([program, command, *more, missing, folder, valid])
         expect(got[0] == 3 and got[2] == f"nody: {missing}: No such file or directory\nnody: {folder}: Is a directory\n".encode(), f"{command}: {got}")
-        expect(got[1] == run([program, command, valid])[1] != b"", f"{command} after files that cannot be read: {got}")
+        expect(got[1] == run([program, command, *more, valid])[1] != b"", f"{command} after files that cannot be read: {got}")
     says([program, "at", folder, "0"], 3, b"", b"Is a directory")
-    says([program, "check", "/dev/null"], 0, b"/dev/null: valid UTF-8\n", b"")
-    for words in (["check", valid], ["list", valid], ["count", valid], ["at", valid, "0"], ["recode", valid]):
+    says([program, "check", "-v", "/dev/null"], 0, b"/dev/null: valid UTF-8\n", b"")
+    for words in (["check", "-v", valid], ["list", valid], ["count", valid], ["at", valid, "0"], ["recode", valid]):
         with open("/dev/full", "wb") as full:
             ran = subprocess.run([program, *words], stdout=full, stderr=subprocess.PIPE)
         expect((ran.returncode, ran.stderr) == (3, b"nody: cannot write: No space left on device\n"), f"{words} to a full device: {ran}")
@@ -411,7 +415,7 @@ def check_failures(folder, program):
             expect(ran.returncode == 3 and b"nody: -: Bad file descriptor" in ran.stderr, f"{words} of a closed stream: {ran}")
     says([program, "recode", valid, "-o", "/dev/full"], 3, b"", b"nody: /dev/full: No space left on device\n")
     says([program, "recode", valid, "-o", f"{folder}/none/x"], 3, b"", b"No such file or directory")
-    says([program, "check", valid, missing], 3, line, b"No such file")
+    says([program, "check", "-v", valid, missing], 3, line, b"No such file")
     for words in (["recode", "--jobs", "1", valid], ["check", valid], ["list", "-"]):
         with open(valid, "rb") as file, open(valid, "ab") as end:
             ran = subprocess.run([program, *words], stdin=file, stdout=end, stderr=subprocess.PIPE)
@@ -430,7 +434,7 @@ def check_unreadable(folder, program, valid):
     secret = f"{folder}/secret"
     shutil.copy(valid, secret)
     os.chmod(secret, 0o600)
-    says([program, "check", secret, valid], 3, f"{valid}: valid UTF-8\n".encode(), f"nody: {secret}: Permission denied\n".encode(), user=65534)
+    says([program, "check", "-v", secret, valid], 3, f"{valid}: valid UTF-8\n".encode(), f"nody: {secret}: Permission denied\n".encode(), user=65534)
     says([program, "recode", "--in-place", valid], 3, b"", b"Permission denied", user=65534)
     with open(valid, "rb") as file:
         expect(file.read() == b"text\n", "a file in a folder that is not ours")
@@ -438,8 +442,8 @@ def check_unreadable(folder, program, valid):
 
 def check_endless(program):
     """An endless device, which an invalid byte ends, or whoever reads."""
-    ran = subprocess.run(f"'{program}' check --max 3 /dev/urandom", shell=True, capture_output=True, timeout=60)
-    expect(ran.returncode == 1 and ran.stdout.count(b"\n") == 4, f"check /dev/urandom: {ran}")
+    ran = subprocess.run(f"'{program}' check /dev/urandom", shell=True, capture_output=True, timeout=60)
+    expect(ran.returncode == 1 and b": binary file, not valid UTF-8: " in ran.stdout, f"check /dev/urandom: {ran}")
     ran = subprocess.run(f"'{program}' list /dev/urandom | head -n 3", shell=True, capture_output=True, timeout=60)
     expect(ran.stdout.count(b"\n") == 3 and ran.stderr == b"", f"list /dev/urandom: {ran}")
     ran = subprocess.run(f"'{program}' recode --jobs 3 /dev/zero | head -c 10000000 | wc -c", shell=True, capture_output=True, timeout=60)
@@ -514,21 +518,21 @@ def check_owners(place, program):
     os.chmod(shared, 0o2755)
     for owner, group, mode, user in ((0, 0, 0o6755, 0), (7, 8, 0o4640, 0), (0, 12345, 0o4754, 65534), (65534, 0, 0o2754, 65534)):
         with open(name, "wb") as file:
-            file.write(b"text")
+            file.write(b"text\xff")
         os.chown(name, owner, group)
         os.chmod(name, mode)
-        says([program, "recode", "--in-place", name], 0, b"", b"", user=user, group=12345 if user else 0, extra_groups=[])
+        says([program, "recode", "-q", "--in-place", name], 0, b"", b"", user=user, group=12345 if user else 0, extra_groups=[])
         about = os.stat(name)
         want = (owner, group, mode) if user == 0 else (65534, 12345, mode & 0o777)
         expect((about.st_uid, about.st_gid, about.st_mode & 0o7777) == want, f"a file of {owner}:{group} {oct(mode)}: {about}, not {want}")
     os.chown(name, 0, 0)
     says([program, "recode", name, "-o", name], 3, b"", f"nody: {name}: Permission denied\n".encode(), user=65534)
-    expect(contents(name) == b"text" and os.listdir(shared) == ["text"], "-o on a file that may not be written")
+    expect(contents(name) == b"text\xef\xbf\xbd" and os.listdir(shared) == ["text"], "-o on a file that may not be written")
     shutil.rmtree(shared)
 
 
 def check_descriptors(place, program):
-    """-o with another name of an open descriptor writes there: what a file had stays, where it is appended to."""
+    """-o with another name of an open descriptor writes there: what a file had stays, if it is appended to."""
     log, data, link = f"{place}/log", f"{place}/data", f"{place}/leads"
     with open(data, "wb") as file:
         file.write(b"more\n")
@@ -573,6 +577,8 @@ def check_limits(place, program):
         for words in (["--in-place", f"{disk}/text"], [f"{disk}/text", "-o", f"{disk}/out"]):
             says([program, "recode", *words], 3, b"", b"No space left on device")
             expect(contents(f"{disk}/text") == data and os.listdir(disk) == ["text"], f"recode {words} on a full disk")
+        subprocess.run(["mount", "-o", "remount,ro", disk], check=True)
+        says([program, "recode", "--in-place", f"{disk}/text"], 3, b"", b"Read-only file system")
     finally:
         subprocess.run(["umount", disk], check=False)
 
@@ -605,32 +611,264 @@ def check_killed(folder, program):
     print(f"nody.py: of 60 that were ended {seen['old']} left the old file, {seen['new']} the new one")
 
 
-def check_changed(folder, program):
+class Stops:
+    """Runs a program that another process meets at a chosen call of the system (c/tests/stops.c)."""
+
+    def __init__(self, folder, compiler):
+        self.folder, self.shared = folder, f"{folder}/stops.so"
+        self.is_there = expect(run([compiler, "-shared", "-fPIC", f"{C}/tests/stops.c", "-o", self.shared, "-ldl"])[0] == 0, "stops.c")
+
+    def run(self, words, **told):
+        return run(words, env=dict(os.environ, LD_PRELOAD=self.shared, **told))
+
+    def calls(self, words):
+        """The calls of a run, as NAME:NUMBER, in order."""
+        path, counts = f"{self.folder}/calls", {}
+        self.run(words, CALLS=path)
+        names = contents(path).decode().split()
+        os.remove(path)
+        return [f"{name}:{counts.setdefault(name, []).append(name) or len(counts[name]) - 1}" for name in names]
+
+
+def put_file(name, data):
+    """A new file of that name."""
+    with contextlib.suppress(OSError):
+        os.remove(name)
+    with open(name, "wb") as file:
+        file.write(data)
+
+
+def found_at(name):
+    """What is there: whether it is a link, and the contents, or None."""
+    return os.path.islink(name), contents(name) if os.path.exists(name) else None
+
+
+CHANGED = b": it changed while it was read, and stays as it is\n"
+LOCKED = b": another process has locked it\n"
+
+
+def check_changed(folder, program, stops):
     """A file that another program changes, or makes shorter, while it is read."""
     name = f"{folder}/changing"
-    with open(name, "wb") as file:
-        file.write(b"text\n" * 1000)
-    stopper = f"{folder}/stop.c"
-    with open(stopper, "w", encoding="ascii") as file:
-        file.write('#define _GNU_SOURCE\n#include <dlfcn.h>\n#include <stdlib.h>\n#include <unistd.h>\n#include <stdio.h>\n'
-                   'ssize_t read(int file, void *to, size_t room) { static int calls; ssize_t (*real)(int, void *, size_t);\n'
-                   '*(void **)&real = dlsym(RTLD_NEXT, "read"); if (calls++ == 1) system(getenv("BETWEEN")); return real(file, to, room); }\n')
-    shared = f"{folder}/stop.so"
-    if not expect(run(["cc", "-shared", "-fPIC", stopper, "-o", shared, "-ldl"])[0] == 0, "stop.c"):
+    put_file(name, b"text\n" * 1000)
+    check, recode = ([program, command, "--jobs", "1", *more, name] for command, more in (("check", []), ("recode", ["--in-place", "--to", "utf-16be"])))
+    for words, command, status, said in ((check, "truncate -s 10", 3, b"it became shorter while it was read"), (recode, "echo >>", 3, CHANGED), (recode, "printf new 1<>", 3, CHANGED),
+                                         (check, "rm", 0, b"")):
+        got = stops.run(words, STOP="read:1", BETWEEN=f"{command} {name}")
+        expect(got[0] == status and said in got[2], f"{words[1:]} with {command}: {got}")
+        if "printf" in command:
+            expect(contents(name)[:3] == b"new", "in place, where another program wrote as many bytes at once")
+    for jobs in ("1", "3"):
+        put_file(name, b"text\n" * 1000)
+        got = stops.run([program, "recode", "--jobs", jobs, "--in-place", "--to", "utf-16be", name], STOP="fsync:0", BETWEEN=f"echo more >>{name}")
+        expect(got[0] == 3 and CHANGED in got[2] and contents(name) == b"text\n" * 1000 + b"more\n", f"a line that is appended while the new file is flushed, {jobs} threads: {got}")
+    put_file(f"{name}.2", b"\xff")
+    with open(name, "rb") as file:
+        fcntl.flock(file, fcntl.LOCK_EX)
+        says([program, "recode", "-q", "--in-place", name, f"{name}.2"], 3, b"", f"nody: {name}: another process has locked it\n".encode())
+    expect(contents(f"{name}.2") == b"\xef\xbf\xbd", "a file after one that is locked")
+
+
+def enemies(name):
+    """What another process may do to a file meanwhile."""
+    return [f"printf 'more\\n' >>{name}", f"printf new 1<>{name}", f"touch -r {name} {name}.time; printf new 1<>{name}; touch -r {name}.time {name}; rm {name}.time",
+            f"truncate -s 10 {name}", f"truncate -s 10 {name}; truncate -s 600 {name}", f": >{name}", f"cp {name} {name}.new; printf x >>{name}.new; mv {name}.new {name}",
+            f"rm {name}", f"cp -p {name} {name}.new; mv {name}.new {name}", f"mv {name} {name}.moved; ln -s {name}.moved {name}"]
+
+
+def check_moments(folder, program, stops):
+    """Another process changes a file that is converted in place, at each call of the system. Its change is there afterwards, or converted with the
+    rest; but for one instant: that between the last look, which is a call of lstat, and rename."""
+    place = f"{folder}/moments"
+    os.mkdir(place)
+    name, old = f"{place}/text", b"caf\xc3\xa9 \xff text\n" * 40
+    old += b"x" * (600 - len(old))
+    become = lambda data: recoded(data, "utf-8", "utf-16le", "replace")
+
+    def after(command, data):
+        """What a command finds and leaves of a file."""
+        put_file(name, data)
+        subprocess.run(["sh", "-c", command], check=True)
+        return found_at(name)
+
+    for target in (["--in-place", name], [name, "-o", name]):
+        words = [program, "recode", "--jobs", "1", "-q", "--to", "utf-16le", *target]
+        put_file(name, old)
+        calls = stops.calls(words)
+        expect(contents(name) == become(old), "in place, under stops.c")
+        last = calls.index("rename:0")
+        expect(calls[last - 1] == "lstat:1" and "fsync:0" in calls[: last - 1], f"the last look at a file is right before rename: {calls}")
+        for command in enemies(name):
+            is_link, changed = after(command, old)
+            late = after(command, become(old))
+            for i, call in enumerate(calls):
+                put_file(name, old)
+                got = stops.run(words, STOP=call, BETWEEN=command)
+                is_left, is_recoded = got[0] == 3 and found_at(name) == (is_link, changed), changed is not None and got[0] == 0 and found_at(name) == (is_link, become(changed))
+                expect(is_left or is_recoded or i == last or (i > last and got[0] == 0 and found_at(name) == late), f"{command} at {call}: {got} {found_at(name)}"[:400])
+                for it in os.listdir(place):
+                    os.remove(f"{place}/{it}")
+    words = [program, "recode", "--jobs", "1", "-q", "--to", "utf-16le", "--in-place", name]
+    put_file(name, old)
+    calls = stops.calls(words)
+    check_two_runs(place, stops, words, calls)
+    check_signals(place, stops, words, calls)
+    check_refused_calls(place, program, stops)
+
+
+def check_two_runs(place, stops, words, calls):
+    """A second run on the file, at each call of the first one: it ends with 3 while the first one has the file; and as often as a run ended with 0
+    the file was recoded."""
+    name, old = f"{place}/text", b"caf\xc3\xa9 \xff text\n" * 40
+    for call in calls:
+        put_file(name, old)
+        got = stops.run(words, STOP=call, BETWEEN=f"{' '.join(words)} 2>{place}/said; echo $? >{place}/status")
+        inner, said = int(contents(f"{place}/status")), contents(f"{place}/said")
+        want = old
+        for status in (got[0], inner):
+            want = recoded(want, "utf-8", "utf-16le", "replace") if status == 0 else want
+        has_file = calls.index("flock:0") < calls.index(call) <= calls.index("rename:0")
+        expect({got[0], inner} <= {0, 3} and contents(name) == want, f"a second run at {call}: {got} {inner} {said} {contents(name)[:40]}")
+        expect(not has_file or (got[0], inner, said) == (0, 3, b"nody: " + os.fsencode(name) + LOCKED), f"a second run at {call}: {got} {inner} {said}")
+    with open(name, "rb") as file:
+        for lock in (fcntl.LOCK_EX, fcntl.LOCK_SH):
+            fcntl.flock(file, lock)
+            had = contents(name)
+            says(words, 3, b"", LOCKED)
+            says([*words[:-2], name, "-o", name], 3, b"", LOCKED)
+            expect(contents(name) == had, "a file that is locked")
+        fcntl.flock(file, fcntl.LOCK_UN)
+        says([*words[:-2], "-o", name], 0, b"", b"", stdin=file)
+        fcntl.flock(file, fcntl.LOCK_SH | fcntl.LOCK_NB)
+    for it in os.listdir(place):
+        os.remove(f"{place}/{it}")
+
+
+def check_signals(place, stops, words, calls):
+    """A signal at each call leaves the old file or the new one, and nothing else."""
+    name, old = f"{place}/text", b"caf\xc3\xa9 \xff text\n" * 40
+    new = recoded(old, "utf-8", "utf-16le", "replace")
+    for number in (signal.SIGTERM, signal.SIGHUP):
+        for i, call in enumerate(calls):
+            put_file(name, old)
+            got = stops.run(words, STOP=call, BETWEEN=f"kill -{int(number)} $PPID")
+            want = new if i > calls.index("rename:0") else old
+            expect(got[0] == -number and contents(name) == want and os.listdir(place) == ["text"], f"signal {number} at {call}: {got} {os.listdir(place)}")
+    os.remove(name)
+
+
+def check_refused_calls(place, program, stops):
+    """Calls of the system that fail: the old file stays, and nothing else. Without locks the file is converted all the same."""
+    name, old = f"{place}/text", b"caf\xc3\xa9 text\n" * 40
+    words = [program, "recode", "--jobs", "1", "--to", "utf-16le", "--in-place", name]
+    for call, error in (("fsync", errno.EIO), ("fsync", errno.ENOSPC), ("rename", errno.EACCES), ("rename", errno.EBUSY), ("write", errno.EDQUOT), ("mkstemp", errno.EROFS), ("fchmod", errno.EPERM),
+                        ("read", errno.EIO), ("lstat", errno.EIO)):
+        put_file(name, old)
+        got = stops.run(words, FAIL=f"{call}:{error}")
+        said = CHANGED if call == "lstat" else b"" if call == "write" else f": {os.strerror(error)}\n".encode()
+        expect(got[0] == 3 and said in got[2] and contents(name) == old and os.listdir(place) == ["text"], f"{call} that fails: {got} {os.listdir(place)}")
+    for error in (errno.ENOLCK, errno.EBADF, errno.EOPNOTSUPP, errno.ENOSYS, errno.EINTR):
+        put_file(name, old)
+        got = stops.run(words, FAIL=f"flock:{error}")
+        expect(got == (0, b"", b"") and contents(name) == recoded(old, "utf-8", "utf-16le", "replace"), f"a file system without locks: {got}")
+    os.remove(name)
+
+
+def check_at_once(folder, program):
+    """Runs on one file at the same time, many times: as often as one ended with 0 the file was converted, and the others say why not."""
+    place = f"{folder}/at-once"
+    os.mkdir(place)
+    name, old, ended = f"{place}/text", b"caf\xc3\xa9 \xff text\n" * 3000, {0: 0, 3: 0}
+    for number in range(40):
+        put_file(name, old)
+        runs = [subprocess.Popen([program, "recode", "-q", "--to", "utf-16le", "--in-place", name], stderr=subprocess.PIPE) for _ in range(2 + number % 3)]
+        said = [it.communicate()[1] for it in runs]
+        want = old
+        for it, words in zip(runs, said):
+            ended[it.returncode] += 1
+            want = recoded(want, "utf-8", "utf-16le", "replace") if it.returncode == 0 else want
+            expect(it.returncode == 0 or CHANGED in words or LOCKED in words or b"became shorter" in words, f"two runs at once: {it.returncode} {words}")
+        expect(contents(name) == want and os.listdir(place) == ["text"], f"runs at once: {[it.returncode for it in runs]} {len(contents(name))} bytes, not {len(want)}")
+    print(f"nody.py: of runs on one file at once {ended[0]} ended with 0, {ended[3]} with 3")
+
+
+def check_appended(folder, program):
+    """A line that somebody appends at a random time. (it may come in the instant that is left, right before rename)"""
+    name, old, chance, lost, took = f"{folder}/appended", b"caf\xc3\xa9 \xff text\n" * 300000, random.Random(80), 0, 0
+    for number in range(20):
+        put_file(name, old)
+        begun = time.time()
+        ran = subprocess.Popen([program, "recode", "-q", "--to", "utf-16le", "--in-place", name], stderr=subprocess.PIPE)
+        if number == 0: # (as long as it takes where nobody appends)
+            ran.wait()
+            took = time.time() - begun
+        time.sleep(chance.random() * took)
+        with open(name, "ab") as file:
+            file.write(b"more\n")
+        said = ran.communicate()[1]
+        expect(ran.returncode == 0 or (CHANGED in said and contents(name) == old + b"more\n"), f"a file that grows: {ran.returncode} {said}")
+        lost += ran.returncode == 0 and not contents(name).endswith((b"more\n", "more\n".encode("utf-16-le")))
+    expect(lost <= 1, f"of 20 lines that were appended {lost} are lost")
+
+
+def check_alone(folder, program):
+    """A file that would become what it is stays as it is: its inode, its times, its links."""
+    place = f"{folder}/alone"
+    os.mkdir(place)
+    name, link = f"{place}/text", f"{place}/other"
+    text = "naïve €uro \U0001f600 and so on\n" * 40
+    palindromes = b"AA\x00\x00\xd8\xd8\xdc\xdc" * 30
+    for data, words in ((text.encode(), []), (text.encode(), ["--errors", "strict"]), (text.encode(), ["--errors", "lossy", "--jobs", "1"]), (b"", ["--to", "utf-16le"]),
+                        (text.encode("utf-16-be"), ["--from", "utf-16be", "--to", "utf-16be"]), (palindromes, ["--from", "utf-16le", "--to", "utf-16be"]), (text.encode(), ["--from", "bom"])):
+        for target in (["--in-place", name], [name, "-o", name]):
+            put_file(name, data)
+            os.link(name, link)
+            os.chmod(name, 0o444)
+            had = os.stat(name)
+            says([program, "recode", *words, *target], 0, b"", b"")
+            now = os.stat(name)
+            expect(contents(name) == data and all(getattr(had, it) == getattr(now, it) for it in ("st_ino", "st_mtime_ns", "st_ctime_ns", "st_nlink", "st_mode")), f"{words} of what it is: {had} {now}")
+            expect(sorted(os.listdir(place)) == ["other", "text"], f"what is left: {os.listdir(place)}")
+            os.remove(link)
+    for data, words in ((b"\xef\xbb\xbf" + text.encode(), ["--from", "bom"]), (text.encode() + b"\xff", []), (text.encode() + b"\xf0\x9f\x98", ["--errors", "lossy"]),
+                        (text.encode("utf-16-le") + b"\x00\xd8", ["--from", "utf-16le", "--to", "utf-16le"])):
+        put_file(name, data)
+        os.link(name, link)
+        says([program, "recode", "-q", *words, "--in-place", name], 0, b"", b"")
+        form = "utf-16le" if "--to" in words else "utf-8"
+        want = recoded(data[3:] if "bom" in words else data, form, form, "lossy" if "lossy" in words else "replace")
+        expect(contents(name) == want and contents(link) == data and os.stat(name).st_nlink == 1, f"{words} of what differs at one end: {contents(name)[-20:]}")
+        os.remove(link)
+    check_elsewhere(place, program)
+
+
+def check_elsewhere(place, program):
+    """Links that lead to another folder, and folders that may not be written."""
+    name, other = f"{place}/text", f"{place}/folder"
+    os.mkdir(other)
+    put_file(f"{other}/text", b"\xff")
+    os.remove(name)
+    os.symlink("folder/text", name)
+    says([program, "recode", "-q", "--in-place", name], 0, b"", b"")
+    expect(contents(f"{other}/text") == b"\xef\xbf\xbd" and os.readlink(name) == "folder/text" and os.listdir(other) == ["text"], "a link that leads to another folder")
+    if os.geteuid() != 0:
+        print("nody.py: left out: a folder that may not be written, which takes another user")
         return
-    env = dict(os.environ, LD_PRELOAD=shared)
-    says([program, "check", "--jobs", "1", name], 3, None, b"it became shorter while it was read", env=dict(env, BETWEEN=f"truncate -s 10 {name}"))
-    says([program, "recode", "--jobs", "1", "--in-place", name], 3, None, b"it changed while it was read", env=dict(env, BETWEEN=f"echo >>{name}"))
-    says([program, "recode", "--jobs", "1", "--in-place", name], 3, None, b"it changed while it was read", env=dict(env, BETWEEN=f"printf new 1<>{name}"))
-    expect(contents(name)[:3] == b"new", "in place, where another program wrote as many bytes at once")
-    says([program, "check", "--jobs", "1", name], 0, None, b"", env=dict(env, BETWEEN=f"rm {name}"))
+    for it in (place, os.path.dirname(place), os.path.dirname(os.path.dirname(place))):
+        os.chmod(it, 0o755)
+    put_file(f"{other}/text", b"\xff")
+    os.chown(f"{other}/text", 65534, 65534)
+    os.chmod(other, 0o555)
+    for words in (["--in-place", f"{other}/text"], [f"{other}/text", "-o", f"{other}/text"]):
+        says([program, "recode", *words], 3, b"", b"text: Permission denied\n", user=65534)
+    expect(contents(f"{other}/text") == b"\xff" and os.listdir(other) == ["text"], "a folder that may not be written")
 
 
 # ---- Reads that fail, memory, threads
 
 
 def check_faults(folder, programs, compiler, build):
-    """Reads and writes that move little, or are interrupted, change nothing; memory that is refused ends with 3, and says so."""
+    """Reads and writes that move little, or are interrupted, change nothing; a failed allocation ends with 3, and says so."""
     data = b"caf\xc3\xa9 \xff text\n\xe2\x82" * 40
     name = f"{folder}/faulty-text"
     with open(name, "wb") as file:
@@ -733,7 +971,7 @@ def check_passed_over(folder, program):
 
 def check_follow_kernel(program):
     """A file of the kernel, which is said to have no bytes, becomes no shorter by being read."""
-    ran = subprocess.Popen([program, "check", "--follow", "/proc/version"], stdout=subprocess.PIPE, stderr=subprocess.PIPE)
+    ran = subprocess.Popen([program, "check", "-v", "--follow", "/proc/version"], stdout=subprocess.PIPE, stderr=subprocess.PIPE)
     waits_for_open(ran, "/proc/version")
     time.sleep(0.5)
     ran.send_signal(signal.SIGINT)
@@ -742,19 +980,30 @@ def check_follow_kernel(program):
 
 
 def check_follow_renamed(folder, program):
-    """A file that is renamed is followed on, as by tail -f, and not the one that gets its name."""
-    name = f"{folder}/renamed"
-    with open(name, "wb") as file:
-        file.write(b"a\n")
-    ran = subprocess.Popen([program, "check", "--follow", name], stdout=subprocess.PIPE)
-    waits_for_open(ran, name)
+    """A file that is renamed is read to its end, and then the one that gets its name; another file meanwhile, and one that comes late."""
+    name, other, late = f"{folder}/renamed", f"{folder}/other", f"{folder}/late"
+    for it in (name, other):
+        put_file(it, b"a\n")
+    ran = subprocess.Popen([program, "check", "--follow", name, other, late], stdout=subprocess.PIPE, stderr=subprocess.PIPE)
+    waits_for_open(ran, other)
     os.rename(name, f"{name}.1")
-    for it, more in ((name, b"\xfe"), (f"{name}.1", b"\xff")):
+    for it, more, want in ((f"{name}.1", b"\xff", f"{name}:2:1: offset 2: "), (other, b"\xff\n", f"{other}:2:1: offset 2: "), (late, b"\xff", f"{late}:1:1: offset 0: ")):
         with open(it, "ab") as file:
             file.write(more)
-    expect(reads(ran.stdout, 1).startswith(f"{name}:2:1: offset 2: ".encode()), "--follow of a file that is renamed")
+        told = reads(ran.stdout, 1)
+        expect(told.startswith(want.encode()), f"--follow of several files: {told}, not {want}")
+    put_file(name, b"b\xfe\n")
+    told = reads(ran.stdout, 2)
+    expect(told.startswith(f"{name}: not valid UTF-8: 1 invalid byte\n{name}:1:2: offset 1: ".encode()), f"--follow of a file that gets the name: {told}")
+    put_file(f"{name}.2", b"\xc0\n")
+    os.rename(f"{name}.2", name)
+    told = reads(ran.stdout, 2)
+    expect(told.startswith(f"{name}: not valid UTF-8: 1 invalid byte\n{name}:1:1: offset 0: ".encode()), f"--follow of a file that replaces another: {told}")
     ran.send_signal(signal.SIGINT)
-    ran.communicate(timeout=10)
+    out, said = ran.communicate(timeout=10)
+    expect(out.count(b": not valid UTF-8: 1 invalid byte\n") == 3 and ran.returncode == 3, f"the end of --follow: {ran.returncode} {out}")
+    for it in (f"{late}: No such file", f"{name}: it is not there any more, and is waited for", f"{name}: another file has its name, and is followed"):
+        expect(f"nody: {it}".encode() in said, f"--follow says {it}: {said}")
 
 
 def check_follow_input(folder, program):
@@ -806,7 +1055,7 @@ def check_unblocked(program):
 
 
 def check_slow(program):
-    """From a pipe each invalid byte is told of at once."""
+    """From a pipe each invalid byte is reported without waiting for more input."""
     ran = subprocess.Popen([program, "check"], stdin=subprocess.PIPE, stdout=subprocess.PIPE)
     for i in range(3):
         ran.stdin.write(b"\xff\n")
@@ -829,7 +1078,7 @@ def told_on(main):
 
 
 def progress(program, words, columns, kind):
-    """What comes to a terminal of so many columns while a pipe is slow."""
+    """What is written to a terminal of `columns` columns while a pipe is slow."""
     main, terminal = pty.openpty()
     fcntl.ioctl(terminal, termios.TIOCSWINSZ, struct.pack("HHHH", 24, columns, 0, 0))
     ran = subprocess.Popen([program, "check", *words], stdin=subprocess.PIPE, stdout=subprocess.PIPE, stderr=terminal, env=dict(os.environ, TERM=kind))
@@ -854,7 +1103,7 @@ def check_progress(program):
 
 
 def check_progress_of_file(folder, program):
-    """The bar of a file whose name is long and commands a terminal, where the whole is known, on terminals that are narrow and wide."""
+    """The bar of a file whose name is long and commands a terminal, if the whole is known, on terminals that are narrow and wide."""
     name = f"{folder}/" + 40 * "é" + "\u6587\033[31m"
     with open(name, "wb") as file:
         file.truncate(3 << 30)
@@ -892,15 +1141,20 @@ def check_completion():
         print("nody.py: left out: bash is not there")
         return
     script = '. "$0"; COMP_WORDS=("$@") COMP_CWORD=$(($# - 1)); _nody; echo "${COMPREPLY[*]}"'
-    for words, want in (("nody c", "check count"), ("nody check nody ", ""), ("nody check nody -", "--from --quiet --max --json --follow --jobs --help"),
-                        ("nody recode --errors m", "maximal"), ("nody check --from = utf-16l", "utf-16le"), ("nody check --from =", "utf-8 utf-16le utf-16be bom"),
+    for words, want in (("nody c", "check count"), ("nody check nody ", ""), ("nody check nody -", OFFERED["check"]),
+                        ("nody recode --errors l", "lossy"), ("nody check --from = utf-16l", "utf-16le"), ("nody check --from =", "utf-8 utf-16le utf-16be auto bom"), ("nody check --encoding a", "auto"), ("nody check --columns d", "display"),
                         ("nody at --from b", "bom"), ("nody check -- -", ""), ("nody recode -o ", ""), ("nody --v", "--version"), ("nody recode --to ", "utf-8 utf-16le utf-16be")):
         got = run(["bash", "-c", script, f"{os.path.dirname(C)}/packaging/completions/nody", *words.split(" ")])
         expect(got == (0, f"{want}\n".encode(), b""), f"completion of {words!r}: {got}, not {want}")
 
 
-OFFERED = {"check": "--from --quiet --max --json --follow --jobs --help", "list": "--from --quiet --json --help", "count": "--from --quiet --json --jobs --help",
-           "at": "--from --json --help", "recode": "--from --to --errors --quiet --jobs --output --in-place --help"}
+OFFERED = {"check": "--encoding --names --null --recursive --files0-from --exclude --text --verbose --max --columns --context --no-context --color --follow --quiet --json --jobs --help",
+           "view": "--encoding --color --help",
+           "fix": "--encoding --errors --color --backup --dry-run --quiet --jobs --help",
+           "list": "--encoding --quiet --json --help",
+           "count": "--encoding --quiet --json --jobs --help",
+           "at": "--encoding --columns --json --help",
+           "recode": "--encoding --to --errors --bom --output --in-place --quiet --jobs --help"}
 
 
 def check_completion_of_zsh():
@@ -912,9 +1166,9 @@ def check_completion_of_zsh():
     path = f"{os.path.dirname(C)}/packaging/completions/_nody"
     for command, want in OFFERED.items():
         status, out, err = run(["zsh", "-f", "-c", script, path, "nody", "nody", command, ""])
-        offered = set(re.findall(rb"^(?:\([^)]*\))?(--[a-z-]+)", out, re.M))
+        offered = set(re.findall(rb"^(?:\([^)]*\)|\*)?(--[a-z0-9-]+)", out, re.M))
         expect(status == 0 and not err and offered == set(want.encode().split()), f"completion of zsh for {command}: {status}, {out}, {err}")
-    for words, want in (("nody nody", ["check:", "list:", "count:", "at:", "recode:", "(-)--version"]), ("nody-pieces nody-pieces", ["(--ends)--merge", "(--merge)--ends"]), ("nody-recode nody-recode", ["utf16be"])):
+    for words, want in (("nody nody", ["check:", "fix:", "view:", "list:", "count:", "at:", "recode:", "(-)--version"]), ("nody-pieces nody-pieces", ["(--ends)--merge", "(--merge)--ends"]), ("nody-recode nody-recode", ["utf16be"])):
         status, out, err = run(["zsh", "-f", "-c", script, path, *words.split(), ""])
         expect(status == 0 and not err and all(it.encode() in out for it in want), f"completion of zsh for {words}: {status}, {out}, {err}")
 
@@ -925,7 +1179,7 @@ def check_completion_of_fish():
         print("nody.py: left out: fish is not there")
         return
     folder = f"{os.path.dirname(C)}/packaging/completions"
-    asked = [("nody c", "check count"), ("nody check nody --q", "--quiet"), ("nody recode --errors m", "maximal"), ("nody check --from=utf-16l", "--from=utf-16le"), ("nody at --from b", "bom"),
+    asked = [("nody c", "check count"), ("nody check nody --q", "--quiet"), ("nody recode --errors l", "lossy"), ("nody check --encoding=utf-16l", "--encoding=utf-16le"), ("nody at --encoding a", "auto"),
              ("nody --v", "--version"), ("nody list --m", ""), ("nody recode --t", "--to"), ("nody-pieces --m", "--merge"), ("nody-recode utf16", "utf16be utf16le")]
     script = f"for it in {folder}/*.fish; source $it; end; for it in $argv; complete -C $it | string replace -r '\\t.*' '' | sort | string join ' '; echo; end"
     status, out, err = run(["fish", "--no-config", "-c", script, *[words for words, _ in asked]])
@@ -965,8 +1219,14 @@ def main():
                     check_options(place, it, reasons)
                     check_failures(place, it)
                     check_replaced(place, it)
+                    check_alone(place, it)
             check_killed(folder, built)
-            check_changed(folder, f"{folder}/plain") if compiles(compiler, f"{folder}/plain", 256, build, ["-O1"]) else None
+            stops = Stops(folder, compiler)
+            if stops.is_there and compiles(compiler, f"{folder}/plain", 256, build, ["-O1"]):
+                check_changed(folder, f"{folder}/plain", stops)
+                check_moments(folder, f"{folder}/plain", stops)
+            check_at_once(folder, built)
+            check_appended(folder, built)
             check_faults(folder, [built], compiler, build)
             check_races(folder, compiler, build)
             check_follow(folder, built, reasons)

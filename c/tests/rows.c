@@ -1,4 +1,4 @@
-/* Holds the library's calls against the rows of crates/conformance and crates/run_rows, as far as a call for C answers what a
+/* Compares the library's calls with the rows of crates/conformance and crates/run_rows, as far as a call for C returns what a
  * row asks: rows CRATES. Prints what differs, and then `N passed, M failed`. */
 #include "noddychest.h"
 #include "rows.h"
@@ -40,7 +40,7 @@ static void expect_text(struct text *text, const char *want, const char *what, c
     free(text->at);
 }
 
-/* The next piece in line, and by a call of the library. */
+/* The next piece by the header's inline path: nody_utf8_next is a macro here. */
 static nody_piece_t next_in_line(nody_bytes_t *left) {
     return nody_utf8_next(left);
 }
@@ -170,11 +170,11 @@ static void of_lists(const char *crates) {
     }
 }
 
-/* The form that a word names; `end` is where the word ends. */
-static uint8_t form_of(const char *word, const char **end) {
+/* The encoding that a word names; `end` is where the word ends. */
+static uint8_t encoding_of(const char *word, const char **end) {
     size_t len = strcspn(word, " ");
     *end = word + len + (word[len] == ' ');
-    return len == 4 ? NODY_FORM_UTF8 : word[5] == 'l' ? NODY_FORM_UTF16LE : NODY_FORM_UTF16BE;
+    return len == 4 ? NODY_UTF8 : word[5] == 'l' ? NODY_UTF16LE : NODY_UTF16BE;
 }
 
 /* Offsets of faults, ends of shards and bounds of what is recoded. */
@@ -188,11 +188,11 @@ static void of_places(const char *crates, const char *name) {
             is = nody_utf16_valid_up_to(units, len);
             free(units);
         } else if (strcmp(call, "front_of_text") != 0) {
-            uint8_t *bytes = bytes_of(digits, &len), from = *asked ? form_of(asked, &asked) : NODY_FORM_UTF8;
+            uint8_t *bytes = bytes_of(digits, &len), from = *asked ? encoding_of(asked, &asked) : NODY_UTF8;
             if (strcmp(call, "valid_up_to") == 0) is = nody_utf8_valid_up_to(bytes, len);
             if (strcmp(call, "shard_end") == 0) is = nody_shard_end(from, bytes, len, strtoul(asked, NULL, 10));
             if (strcmp(call, "room_for") == 0) {
-                uint8_t to = form_of(asked, &asked);
+                uint8_t to = encoding_of(asked, &asked);
                 is = nody_recoded_len_max(from, to, strtoul(asked, NULL, 10));
                 if (strcmp(rows.column[3], "none") == 0) want = SIZE_MAX;
             }
@@ -214,7 +214,7 @@ static unsigned long scalar_of(const char *text) {
     return scalar;
 }
 
-/* Whether a piece is what an answer in calls.txt says: `Ok('A')`, `Ok(('A', 1))`, `Some((0, Ok('A'), 1))`, `None`, and with
+/* Whether a piece is the result in calls.txt: `Ok('A')`, `Ok(('A', 1))`, `Some((0, Ok('A'), 1))`, `None`, and with
  * `Err(KIND)` or `Err(Utf8Error { kind: KIND })` in place of `Ok`. */
 static int is_answer(nody_piece_t piece, size_t place, const char *answer) {
     const char *ok = strstr(answer, "Ok("), *err = strstr(answer, "kind: "), *end = strrchr(answer, ',');
@@ -227,7 +227,7 @@ static int is_answer(nody_piece_t piece, size_t place, const char *answer) {
     return strncmp(err, name, strlen(name)) == 0 && !strchr("abcdefghijklmnopqrstuvwxyz", err[strlen(name)]);
 }
 
-/* Cuts a text at the first place of another, and answers what follows, or NULL. */
+/* Cuts a text at the first occurrence of another, and returns what follows, or NULL. */
 static char *cut_at(char *text, const char *between) {
     char *at = text ? strstr(text, between) : NULL;
     if (!at) return NULL;

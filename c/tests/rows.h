@@ -13,7 +13,7 @@ struct rows {
     FILE *file;
     char *line;
     size_t room;
-    char *column[COLUMNS]; /* "" where there are fewer */
+    char *column[COLUMNS]; /* "" if there are fewer */
 };
 
 static unsigned long passed, failed;
@@ -44,7 +44,7 @@ static inline struct rows open_rows(const char *folder, const char *name) {
     return rows;
 }
 
-/* Takes the next row, or closes the file and answers 0. */
+/* Takes the next row, or closes the file and returns 0. */
 static inline int next_row(struct rows *rows) {
     ssize_t len;
     while ((len = getline(&rows->line, &rows->room, rows->file)) >= 0) {
@@ -81,7 +81,7 @@ static inline uint8_t *bytes_of(const char *digits, size_t *len) {
     return bytes;
 }
 
-/* The same of units, four digits each. */
+/* Code units from hexadecimal, four digits each. */
 static inline uint16_t *units_of(const char *digits, size_t *len) {
     uint16_t *units = block_of((*len = strlen(digits) / 4) * sizeof *units);
     for (size_t i = 0; i < *len; i++) {

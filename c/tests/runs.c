@@ -1,10 +1,10 @@
-/* Runs the programs as a user does, and holds what they write, say and end with against the rows of crates/conformance and
- * crates/run_rows, and against what must be where reads, writes and memory fail:
+/* Runs the programs as a user does, and compares their output, their errors and their status with the rows of crates/conformance and
+ * crates/run_rows, and with what is required if reads, writes or allocations fail:
  *
  *   runs CRATES PIECES RECODE FAULTY_PIECES FAULTY_RECODE EXAMPLE_PIECES EXAMPLE_RECODE
  *
- * Two are linked with faults.c, and the last two are those of c/examples. Words in RUN stand before each program. Prints what
- * differs, and then `N passed, M failed`. */
+ * The FAULTY programs are linked with faults.c; the last two are those of c/examples. Each is run with the words of RUN before its own.
+ * Prints what differs, and then `N passed, M failed`. */
 #include "rows.h"
 
 #include <fcntl.h>
@@ -46,7 +46,7 @@ static char *contents(int file, size_t *len) {
     return bytes;
 }
 
-/* The words of RUN, and then the program. Answers how many. */
+/* The words of RUN, and then the program. Returns how many. */
 static int start_words(char *program) {
     int count = 0;
     static char run[1000];
@@ -58,7 +58,7 @@ static int start_words(char *program) {
     return count;
 }
 
-/* Runs the words with this standard output, and answers the status, or 1000 and the signal that ended it. */
+/* Runs the words with this standard output, and returns the status, or 1000 and the signal that ended it. */
 static int run_to(int out, int is_bare) {
     int status = 0;
     pid_t child = fork();
@@ -85,7 +85,7 @@ static int says(const char *want) {
 }
 
 /* Runs the words, and says whether all is as it must be. A run that may stop early, since a write fails, wrote a part from the
- * front, and ends with 3, or with 2 where it had only an error to say. */
+ * front, and ends with 3, or with 2 if it had only an error to say. */
 static int is_wanted(const void *input, size_t input_len, const struct want *want) {
     size_t len;
     set_file(in_file, input, input_len);
@@ -187,7 +187,7 @@ static void of_runs(const char *crates, const char *name, char *pieces, char *re
 }
 
 /* Refuses each request for memory in turn. The run then ends with 3, says so, and what it wrote is a part from the front; or it
- * could do without, and all is as with ample memory, as it is once no request is refused. */
+ * could do without, and all is as with ample memory, as it is once no allocation fails. */
 static void refuse_each(char *program, char *word, char *other, const char *said) {
     enum { INPUT = 5000, MOST = 60 };
     static char input[INPUT], fault[40];

@@ -11,9 +11,9 @@ int main() {
     const uint8_t bytes[] = {0xE2, 0x82, 0x41};
     nody_piece_t piece = nody_utf8_first(bytes, sizeof bytes);
     std::ostringstream text;
-    text << piece.kind << ' ' << NODY_FORM_UTF16BE << ' ' << NODY_STATUS_FULL;
+    text << piece.kind << ' ' << NODY_UTF16BE << ' ' << NODY_STATUS_FULL;
     std::ostream &out = std::cout;
-    out << piece.kind << ' ' << nody_form_t(NODY_FORM_UTF16BE) << ' ' << NODY_STATUS_FULL << ' ' << text.str() << ' ';
+    out << piece.kind << ' ' << nody_encoding_t(NODY_UTF16BE) << ' ' << NODY_STATUS_FULL << ' ' << text.str() << ' ';
     (std::ostringstream() << piece.kind).swap(text);
     std::cout << text.str() << '\n';
     /* (what is no stream is shifted as before) */

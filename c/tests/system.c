@@ -1,4 +1,4 @@
-/* Tests the functions of generated/system.c, one by one, with memory that is refused and with words of each size. */
+/* Tests the functions of generated/system.c, one by one, with allocations that fail and with words of each size. */
 #include "rows.h"
 
 #include <errno.h>

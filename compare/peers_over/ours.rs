@@ -1,7 +1,7 @@
-//! What the peers' tests ask, answered by the library for C of this project.
+//! What the peers' tests call, over this project's library for C.
 //!
-//! A peer takes a maximal subpart (definition D93b of the Unicode standard) for one fault, where this project has a fault for each
-//! byte. How long such a subpart is is asked of the library too: the longest front of what is left that begins the code of some
+//! A peer takes a maximal subpart (definition D93b of the Unicode standard) for one fault, but this project has a fault for each
+//! byte. The length of such a subpart is computed by the library too: the longest prefix of what is left that begins the encoding of some
 //! character, or one byte. `crates/utf_base` proves that it is a run of faults (`subparts_are_faults`).
 #![allow(dead_code)]
 
@@ -85,7 +85,7 @@ pub fn last_subpart(bytes: &[u8]) -> Answer {
     }
 }
 
-/// Where the first fault is, and the length of its subpart, or `None` where more bytes could complete it.
+/// Where the first fault is, and the length of its subpart, or `None` if more bytes could complete it.
 pub fn fault(bytes: &[u8]) -> Option<(usize, Option<usize>)> {
     let at = valid_up_to(bytes);
     let rest = &bytes[at..];
@@ -115,7 +115,7 @@ pub fn lossy(mut bytes: &[u8], count: impl Fn(usize) -> usize) -> String {
 pub const UTF8: u8 = 0;
 pub const UTF16LE: u8 = 1;
 
-/// Recodes all of the input into room of a fixed size, as far as it goes: how much was read and written, and whether that was all.
+/// Transcodes all of the input into room of a fixed size, as far as it goes: how much was read and written, and whether that was all.
 pub fn recode_into(from: u8, to: u8, bytes: &[u8], out: &mut [u8]) -> (usize, usize, bool) {
     unsafe {
         let (mut recoder, mut read, mut written, mut last) = (nody_recoder(from, to), 0, 0, 0);
@@ -129,7 +129,7 @@ pub fn recode_into(from: u8, to: u8, bytes: &[u8], out: &mut [u8]) -> (usize, us
     }
 }
 
-/// All of the input recoded, in two parts.
+/// All of the input converted, in two parts.
 pub fn recode(from: u8, to: u8, bytes: &[u8], at: usize) -> Vec<u8> {
     unsafe {
         let (mut recoder, mut out, mut made) = (nody_recoder(from, to), vec![0; 3 * bytes.len() + 16], 0);

@@ -1,6 +1,6 @@
 //! Blocks of text with one thing in them that is other, at every place: a fault, or a code of another length.
 //!
-//! Each is recoded into each form: whole, cut in two at every place, byte by byte, and into rooms of one size each; and it
+//! Each is converted into each form: whole, cut in two at every place, byte by byte, and into rooms of one size each; and it
 //! is asked how far it is well-formed. Some go into a first room of every size, and are asked where shards may end.
 
 use crate::tally::Tally;
@@ -23,7 +23,7 @@ const LONG_ROOMS: [usize; 4] = [100, 1000, 1985, 4096];
 /// The sizes of rooms: less than a code, and about those in which runs write.
 const ROOMS: [usize; 13] = [1, 3, 4, 5, 8, 15, 16, 17, 32, 33, 64, 65, 100];
 
-/// One block in so many goes into a first room of each size and is asked where its shards end, and one in so many is
+/// One block in `ONE_OF` goes into a first buffer of each size and is asked for the ends of its shards, and one in `SAMPLE_OF` is
 /// written out as a sample.
 const ONE_OF: usize = 16;
 const SAMPLE_OF: usize = 400;
@@ -58,7 +58,7 @@ const BYTES: [&[u8]; 37] = [
     b"\xf0\x90\x80\x80", b"\xf4\x8f\xbf\xbf",
 ];
 
-/// The same in a block of UTF-16. Blocks of odd length have half a unit at their end.
+/// What may differ in a block of UTF-16. Blocks of odd length have half a unit at their end.
 const UNITS: [&[u16]; 16] = [
     // leading surrogates: at the end of a block they are incomplete
     &[0xd800], &[0xdbff], &[0xd83c, 0xd83c],
@@ -79,7 +79,7 @@ struct Found {
     sample: String,
 }
 
-/// Holds all blocks against std, and against `encoding_rs` where it is there, on all processors. Answers how much
+/// Holds all blocks against std, and against `encoding_rs` if it is installed, on all CPUs. Returns how much
 /// differs, and lines `FROM TO|INPUT|OUTPUT` of some.
 pub fn all() -> (usize, String) {
     let works: Vec<(usize, &str)> = (0..3).flat_map(|form| FILLS.map(|fill| (form, fill))).collect();
@@ -110,7 +110,7 @@ impl Found {
         self.sample.push_str(&more.sample);
     }
 
-    // Prints what was asked, and answers how much differs.
+    // Prints the counts, and returns how much differs.
     fn print(&self) -> usize {
         println!("blocks: {} in {} cuts, {} differ", self.blocks, self.cuts.asked, self.cuts.differing);
         println!("rooms: {} sizes, {} differ", self.rooms.asked, self.rooms.differing);
@@ -186,7 +186,7 @@ fn others(form: usize) -> Vec<Vec<u8>> {
     }
 }
 
-// As many characters as fit into so many bytes, and ASCII for the rest, after them or before.
+// As many characters as fit into `len` bytes, and ASCII for the rest, after them or before.
 fn text(form: usize, fill: &str, len: usize, is_ascii_last: bool) -> Vec<u8> {
     let mut codes = Vec::new();
     for c in fill.chars().cycle() {
@@ -246,7 +246,7 @@ fn hold_cuts(from: usize, to: usize, block: &[u8], expected: &[u8], tally: &mut 
 
 fn hold_rooms(from: usize, to: usize, block: &[u8], expected: &[u8], found: &mut Found) {
     for size in ROOMS {
-        // Where there is room for four bytes, a call leaves at most three of it, or has read the rest.
+        // If there is room for four bytes, a call leaves at most three of it, or has read the rest.
         let calls = expected.len() / size.saturating_sub(3).max(1) + 2;
         hold_calls(from, to, block, expected, &vec![[block.len() as u32, size as u32]; calls], size, &mut found.rooms);
     }
@@ -272,7 +272,7 @@ fn hold_well_formed(from: usize, block: &[u8], tally: &mut Tally) {
         let units = judge::units(from, block);
         (ours::units_valid_up_to(&units), judge::units_valid_up_to(&units))
     };
-    tally.count(answer == expected, || format!("{}: well-formed up to {answer}, not {expected}", told(from, from, block)));
+    tally.count(answer == Some(expected), || format!("{}: well-formed up to {answer:?}, not {expected}", told(from, from, block)));
 }
 
 // Where its shards may end.

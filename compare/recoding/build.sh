@@ -1,4 +1,4 @@
-# Builds the comparison of recoding as "$work/recode", with `encoding_rs` where Debian's package of its source is there.
+# Builds the comparison of transcoding as "$work/recode", with `encoding_rs` if Debian's package of its source is installed.
 # Sourced by the scripts that need it, which set `name`, `here`, `top` and `work`.
 
 # The newest folder of a crate's source, or nothing.
@@ -12,7 +12,7 @@ build_rust() {
     rustc -O --out-dir "$work" -L "$work" "$@" >>"$work/log" 2>&1
 }
 
-# Sets `peer` to what rustc is told of `encoding_rs`.
+# Sets `peer` to rustc's options for `encoding_rs`.
 build_peer() {
     local encoding cfg_if
     peer=()
@@ -34,11 +34,10 @@ build_peer() {
 }
 
 build_comparison() {
-    build_crate compare_c lib libcompare_c.a "the library" || exit 2
+    build_library || exit 2
     build_peer
     if ! build_rust --edition 2021 --check-cfg 'cfg(encoding_rs)' "${peer[@]}" "$here/recoding/recode.rs" \
-        -L "native=$top/crates/compare_c/out" -l static=compare_c \
-        -L "native=$(dirname "$(rt doc)")/c" -l static=libc_c; then
+        -L "native=$top/build" -l static=noddychest; then
         cat "$work/log" >&2
         echo "$name: the comparison could not be built" >&2
         exit 2

@@ -1,5 +1,5 @@
 #!/usr/bin/env python3
-"""Makes inputs of a seed, with what they are recoded as, by the plain reference: a line `FROM TO|INPUT|OUTPUT` each.
+"""Makes inputs of a seed, with what they are converted to, by the plain reference: a line `FROM TO|INPUT|OUTPUT` each.
 
 usage: cases.py FOLDER SEED COUNT
 

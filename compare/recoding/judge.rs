@@ -1,7 +1,7 @@
-//! What recoding has to give, by std alone: one U+FFFD for each faulty byte of UTF-8, for each faulty unit of UTF-16, and
+//! What transcoding has to give, by std alone: one U+FFFD for each invalid byte of UTF-8, for each invalid unit of UTF-16, and
 //! for an odd byte at the end of units, as docs/rattle/DEFINITIONS.md says.
 
-/// What the bytes are recoded as.
+/// What the bytes are converted to.
 pub fn recode(from: usize, to: usize, src: &[u8]) -> Vec<u8> {
     written(to, &shown(from, src))
 }
@@ -53,7 +53,7 @@ pub fn units_valid_up_to(units: &[u16]) -> usize {
     all.map_while(Result::ok).map(char::len_utf16).sum()
 }
 
-/// The last place up to `at` over which no code of the bytes lies, and no unit.
+/// The last place up to `at` that is inside no character, no maximal subpart and no unit.
 pub fn shard_end(from: usize, src: &[u8], at: usize) -> usize {
     if src.len() <= at {
         return src.len();
@@ -61,16 +61,24 @@ pub fn shard_end(from: usize, src: &[u8], at: usize) -> usize {
     let unit = if from == 0 { 1 } else { 2 };
     let place = at - at % unit;
     let begins = (1..=3).rev().filter(|back| back % unit == 0 && *back <= place);
-    let over = begins.map(|back| place - back).find(|start| lies_over(from, &src[*start..], place - start));
+    let over = begins.map(|back| place - back).find(|start| place - start < part_len(from, &src[*start..]));
     over.unwrap_or(place)
 }
 
-// Whether a code begins the bytes that has more than so many.
-fn lies_over(from: usize, src: &[u8], len: usize) -> bool {
-    (len + 1..=4).any(|len| src.get(..len).is_some_and(|code| is_code(from, code)))
-}
-
-fn is_code(from: usize, src: &[u8]) -> bool {
-    let shown = shown(from, src);
-    shown.chars().count() == 1 && written(from, &shown) == src
+// How many bytes the part has that begins these: a character, or what std replaces by one U+FFFD.
+fn part_len(from: usize, src: &[u8]) -> usize {
+    if from == 0 {
+        let error_len = |error: std::str::Utf8Error| match error.valid_up_to() {
+            0 => Some(error.error_len().unwrap_or(src.len())),
+            _ => None,
+        };
+        let first = || (1..=4).find(|len| src.get(..*len).is_some_and(|code| std::str::from_utf8(code).is_ok()));
+        return std::str::from_utf8(src).err().and_then(error_len).or_else(first).unwrap_or(0);
+    }
+    let units = units(from, src);
+    match char::decode_utf16(units.iter().copied()).next() {
+        Some(Ok(c)) => 2 * c.len_utf16(),
+        Some(Err(error)) if src.len() == 3 && error.unpaired_surrogate() < 0xdc00 => 3,
+        _ => src.len().min(2),
+    }
 }

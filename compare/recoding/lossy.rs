@@ -1,4 +1,4 @@
-//! Recoding with one U+FFFD for each maximal subpart, beside std's `from_utf8_lossy` and, where the script found it, the
+//! Transcoding with one U+FFFD for each maximal subpart, compared with std's `from_utf8_lossy` and, if the script found it, the
 //! decoder of `encoding_rs`.
 
 use crate::ours::recode_lossy;
@@ -6,8 +6,8 @@ use crate::tally::Tally;
 use crate::{peer, Random};
 use std::fmt::Write;
 
-/// Damaged UTF-8 of `count` kinds in turn, each recoded whole and by calls with random parts and rooms. Of each a line
-/// `INPUT|OUTPUT` of hexadecimal digits goes into the answer, by std.
+/// Damaged UTF-8 of `count` kinds in turn, each converted whole and by calls with random parts and capacities. The result has a line
+/// `INPUT|OUTPUT` in hexadecimal for each, by std.
 pub fn all(seed: u64, count: usize) -> (usize, String) {
     let mut random = Random(seed);
     let (mut beside_std, mut beside_peer, mut as_units) = (Tally::default(), Tally::default(), Tally::default());

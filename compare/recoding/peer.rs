@@ -1,12 +1,12 @@
-//! What recoding has to give, by the crate `encoding_rs`, where the script found it.
+//! What transcoding has to give, by the crate `encoding_rs`, if the script found it.
 //!
-//! Its own mark is one U+FFFD for a maximal subpart, where there is one for each byte here. So it is asked to put out none,
+//! Its own mark is one U+FFFD for a maximal subpart, if there is one for each byte here. So it is asked to put out none,
 //! and to say where each well-formed piece ends and how many bytes are faulty after it.
 
 #[cfg(encoding_rs)]
 use encoding_rs::{DecoderResult, UTF_16BE, UTF_16LE, UTF_8};
 
-/// What the bytes show as text of the form. `None` where that crate is not there.
+/// What the bytes show as text of the form. `None` if that crate is not installed.
 #[cfg(encoding_rs)]
 pub fn shown(from: usize, src: &[u8]) -> Option<String> {
     let mut decoder = [UTF_8, UTF_16LE, UTF_16BE][from].new_decoder_without_bom_handling();
@@ -25,7 +25,7 @@ pub fn shown(from: usize, src: &[u8]) -> Option<String> {
     }
 }
 
-// How many faults so many faulty bytes are.
+// How many faults that number of invalid bytes is.
 #[cfg(encoding_rs)]
 fn faults_of(from: usize, bytes: usize) -> usize {
     if from == 0 {

@@ -1,14 +1,14 @@
-//! Holds the recoder against what is expected. `compare/recode` builds and runs it.
+//! Compares the recoder with what is expected. `compare/recode` builds and runs it.
 //!
 //! `recode cases FILE`: each line of the file is `FROM TO|INPUT|OUTPUT`, both in hexadecimal digits. Each input is fed
 //! whole, byte by byte, and in every way of cutting it into two parts.
-//! `recode texts SEED BYTES`: random texts of that many bytes in all, fed in random parts, for all pairs of forms,
-//! beside iconv(3), and each also damaged, beside std.
-//! `recode lossy SEED COUNT SAMPLE`: so many damaged inputs with one U+FFFD for each maximal subpart, beside std; a line of
+//! `recode texts SEED BYTES`: random texts of that many bytes in all, fed in random parts, for all pairs of encodings,
+//! compared with iconv(3), and each also damaged, compared with std.
+//! `recode lossy SEED COUNT SAMPLE`: COUNT damaged inputs with one U+FFFD for each maximal subpart, compared with std; a line of
 //! each goes into the file.
-//! `recode blocks SAMPLE`: blocks with one thing in them that is other, beside std; lines of some go into the file.
+//! `recode blocks SAMPLE`: blocks with one thing in them that differs, compared with std; lines of some go into the file.
 //!
-//! Where the script found `encoding_rs`, that is asked as well.
+//! If the script found `encoding_rs`, that is compared as well.
 //!
 //! Status 0: nothing differs. 1: something does.
 
@@ -112,7 +112,7 @@ fn bytes_of(digits: &str) -> Option<Vec<u8>> {
     pairs.map(|pair| u8::from_str_radix(std::str::from_utf8(pair).ok()?, 16).ok()).collect()
 }
 
-// Texts of some size each, until there are so many bytes, for the pairs of forms in turn, and then the same damaged.
+// Texts of some size each, until they have `bytes` bytes, for the pairs of encodings in turn, and then the same damaged.
 fn texts(seed: u64, bytes: usize) -> usize {
     let mut random = Random(seed);
     let mut tally = Tally::default();
@@ -149,7 +149,7 @@ fn damage(random: &mut Random, src: &mut [u8]) {
     }
 }
 
-// Lengths of parts that come to no more than about so many bytes.
+// Lengths of parts, about `len` bytes in all.
 fn parts(random: &mut Random, len: usize) -> Vec<u32> {
     let most = 1 << random.below(18);
     let mut lengths = Vec::new();

@@ -32,7 +32,7 @@ UNITS = ['d800', 'dbff', 'dc00', 'dfff', 'd83cd83c', 'dca0d83c', 'd83cdca0dca0']
 
 
 def filled(rng, codec, fill, size):
-    """Codes of the characters in turn, from any of them on, up to so many bytes, and ASCII for the rest."""
+    """Encodings of the characters in turn, from any of them on, up to `size` bytes, and ASCII for the rest."""
     data, at = b'', rng.randrange(len(fill))
     while len(data) + len(fill[at % len(fill)].encode(codec)) <= size:
         data += fill[at % len(fill)].encode(codec)

@@ -14,7 +14,7 @@ impl Tally {
         self.differing += more.differing;
     }
 
-    /// One more answer, and what to say where it differs.
+    /// Counts a comparison, and prints what `said` returns if it differs.
     pub fn count(&mut self, agrees: bool, said: impl FnOnce() -> String) {
         self.asked += 1;
         if !agrees {

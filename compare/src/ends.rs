@@ -1,12 +1,12 @@
 //! Both ends of the decoder of a slice, compared.
 //!
-//! `next_back` of the Rust crate has two bugs, which docs/DIFFERENCES.md lists. They are mended before the
-//! answers are compared, and the walks that have one are counted.
+//! `next_back` of the Rust crate has two bugs, which docs/DIFFERENCES.md lists. They are fixed before the
+//! results are compared, and the walks that have one are counted.
 
 use crate::inputs::{self, Random, FROM_BACK};
 use crate::numbers::{Answers, NOTHING};
-use crate::ours;
 use crate::tally::Kind;
+use crate::{library, ours};
 use encode_unicode::error::Utf8Error;
 use encode_unicode::iterator::Utf8CharDecoder;
 use encode_unicode::Utf8Char;
@@ -19,7 +19,7 @@ type Item = (usize, Result<Utf8Char, Utf8Error>, usize);
 pub struct Slips {
     /// It panics where only continuation bytes are left.
     panicked: u64,
-    /// It gives an error from the back one place too low.
+    /// It gives an error from the end one place too low.
     too_low: u64,
 }
 
@@ -31,7 +31,7 @@ impl Slips {
     }
 }
 
-/// Bytes of every class, and of those whose second byte is told from others two.
+/// Bytes of every class: for lead bytes with a restricted second byte, two of these.
 const BYTES: [u8; 10] = [0x41, 0x80, 0x90, 0xa0, 0xc1, 0xc3, 0xe0, 0xed, 0xf0, 0xf4];
 
 /// Each list of bytes by words of calls.
@@ -66,7 +66,7 @@ pub fn walks(seed: u64, count: usize) -> (Vec<Kind>, Slips) {
     (kinds, slips)
 }
 
-// All lists of so many of the ten bytes.
+// All lists of `len` of the ten bytes.
 fn lists_of(len: u32) -> impl Iterator<Item = Vec<u8>> {
     (0..BYTES.len().pow(len)).map(move |number| {
         (0..len)
@@ -102,14 +102,15 @@ pub(crate) fn walk_kind(
     let mut kind = Kind::new(name);
     for (list, word) in walks {
         let input = || format!("{list:02x?} by {}", String::from_utf8_lossy(&word));
-        kind.compare(input, &ours::ends(&list, &word), &judged(slips, &list, &word));
+        let ours = ours::ends(&list, &word).and(library::ends(&list, &word));
+        kind.compare(input, &ours, &judged(slips, &list, &word));
     }
     kind
 }
 
-// What the Rust crate answers, its slips mended.
+// The results of the Rust crate, its bugs fixed: once with what `as_slice` has, and once only the items.
 fn judged(slips: &mut Slips, list: &[u8], word: &[u8]) -> Answers {
-    let mut to = Answers::default();
+    let (mut to, mut items) = (Answers::default(), Answers::default());
     let mut walk = Walk::new(list);
     to.put_front("from_slice_end", last_of(list));
     for letter in word {
@@ -119,10 +120,11 @@ fn judged(slips: &mut Slips, list: &[u8], word: &[u8]) -> Answers {
             _ => walk.decoder.next(),
         };
         put_item(&mut to, item);
+        put_item(&mut items, item);
     }
     slips.panicked += u64::from(walk.panicked);
     slips.too_low += u64::from(walk.too_low);
-    to
+    to.and(items)
 }
 
 // The Rust crate has no `from_slice_end`. Its decoder's last item is the judge.
@@ -139,20 +141,17 @@ fn error_at_front(list: &[u8]) -> Utf8Error {
 }
 
 fn put_item(to: &mut Answers, item: Option<Item>) {
-    let Some((offset, answer, len)) = item else {
-        to.put("no item", NOTHING);
-        return;
-    };
-    to.put_size("offset", offset);
-    to.put_size("length", len);
-    to.put_answer("item", answer);
+    match item {
+        Some((offset, answer, len)) => to.put_item(offset, answer, len),
+        None => to.put("no item", NOTHING),
+    }
 }
 
 // The Rust crate's decoder, and where it slipped.
 struct Walk<'a> {
     list: &'a [u8],
     decoder: Utf8CharDecoder<'a>,
-    // How many bytes the calls from the back have left of the list.
+    // How many bytes the calls from the end have left of the list.
     back: usize,
     panicked: bool,
     too_low: bool,

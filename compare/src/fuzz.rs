@@ -5,10 +5,10 @@ use compare::one_input::Input;
 use std::sync::OnceLock;
 use std::{env, panic, process, slice};
 
-/// Whether recoding alone is asked.
+/// Whether transcoding alone is asked.
 static RECODING: OnceLock<bool> = OnceLock::new();
 
-/// Called once. The Rust crate panics where the comparison knows of it, and nothing is to be shown of that.
+/// Called once. The comparison expects some panics of the Rust crate; they are not printed.
 #[no_mangle]
 extern "C" fn LLVMFuzzerInitialize(_count: *mut i32, _arguments: *mut *mut *mut u8) -> i32 {
     panic::set_hook(Box::new(|_| {}));

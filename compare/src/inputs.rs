@@ -208,7 +208,7 @@ pub fn char_pairs(random: &mut Random) -> Vec<(char, char)> {
     pairs
 }
 
-/// All texts of up to so many edge characters.
+/// All texts of up to `most` edge characters.
 pub fn edge_texts(most: u32) -> Vec<String> {
     (0..=most)
         .flat_map(|len| (0..EDGE_CHARS.len().pow(len)).map(move |number| edge_text(number, len)))
@@ -226,7 +226,7 @@ fn edge_text(number: usize, len: u32) -> String {
 /// The letter of a word that calls `next_back`.
 pub const FROM_BACK: u8 = b'B';
 
-/// All words of so many letters, each of them a call from the front or from the back.
+/// All words of `len` letters, each of them a call from the front or from the end.
 pub fn words(len: u32) -> Vec<Vec<u8>> {
     (0..1 << len)
         .map(|number: u32| (0..len).map(|bit| letter((number >> bit) & 1)).collect())

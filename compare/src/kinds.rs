@@ -2,7 +2,7 @@
 
 use crate::inputs::{self, Random, EDGE_CHARS};
 use crate::tally::Kind;
-use crate::{errors, ours, theirs, unicode};
+use crate::{library, ours, theirs};
 
 /// The lists of bytes, as decoders and as texts.
 pub fn lists(seed: u64, count: usize) -> Vec<Kind> {
@@ -33,16 +33,9 @@ pub(crate) fn list_kind(name: &'static str, lists: impl IntoIterator<Item = Vec<
     let mut kind = Kind::new(name);
     for list in lists {
         let input = || format!("{list:02x?}");
-        let both = [
-            ours::forward(&list),
-            ours::indices(&list),
-            ours::text(&list),
-        ]
-        .concat();
-        let mut judged = theirs::forward(&list);
-        judged.append(theirs::indices(&list));
-        judged.append(theirs::text(&list));
-        kind.compare(input, &both, &judged);
+        let ours = ours::decoders(&list).and(ours::text(&list)).and(library::pieces(&list));
+        let judged = theirs::decoders(&list).and(theirs::text(&list)).and(theirs::pieces(&list));
+        kind.compare(input, &ours, &judged);
     }
     kind
 }
@@ -79,21 +72,9 @@ pub fn numbers(seed: u64) -> Vec<Kind> {
             &ours::utf16_char(number, byte, unit),
             &theirs::utf16_char(number, byte, unit),
         );
-        compare_shown(&mut shown, number);
+        shown.compare(input, &ours::shown(number), &theirs::shown(number));
     }
     vec![plain, chars, utf8, utf16, shown]
-}
-
-// `Debug` escapes a character that the Unicode version of its std does not know. One that is new must be shown
-// as it is here.
-fn compare_shown(kind: &mut Kind, number: u32) {
-    let (ours, judged) = (ours::shown(number), theirs::shown(number));
-    let differ = ours != judged.numbers;
-    if differ && unicode::is_new(number) && ours == theirs::shown_unescaped(number).numbers {
-        kind.pass_newer();
-    } else {
-        kind.compare(|| format!("{number:#x}"), &ours, &judged);
-    }
 }
 
 /// Characters beside bytes and units that are not their own.
@@ -108,14 +89,8 @@ fn beside_bytes() -> Kind {
     {
         let input = || format!("{number:#x} beside {byte:#x}");
         let unit = u16::from(byte);
-        let both = [
-            ours::utf8_char(number, byte),
-            ours::utf16_char(number, byte, unit),
-        ]
-        .concat();
-        let mut judged = theirs::utf8_char(number, byte);
-        judged.append(theirs::utf16_char(number, byte, unit));
-        kind.compare(input, &both, &judged);
+        let ours = ours::utf8_char(number, byte).and(ours::utf16_char(number, byte, unit));
+        kind.compare(input, &ours, &theirs::utf8_char(number, byte).and(theirs::utf16_char(number, byte, unit)));
     }
     kind
 }
@@ -208,16 +183,13 @@ pub fn pairs(seed: u64) -> Kind {
     kind
 }
 
-/// The texts of the errors. One type and one place more than there are must be empty.
+/// The texts of the errors.
 pub fn error_texts() -> Kind {
     let mut kind = Kind::new("texts of errors");
-    let texts = errors::texts_by_type();
-    let places = (0..=texts.len()).flat_map(|family| (0..8).map(move |place| (family, place)));
-    for (family, place) in places {
-        let input = || format!("error {place} of type {family}");
-        let judged = texts.get(family).and_then(|texts| texts.get(place));
-        let ours = ours::error_text(family as u8, place as u8);
-        kind.compare_texts(input, &ours, judged.map_or("", String::as_str));
+    for (number, (ours, judged)) in ours::error_texts().iter().zip(theirs::error_texts()).enumerate() {
+        for (place, (ours, judged)) in ours.iter().zip(judged).enumerate() {
+            kind.compare_texts(|| format!("error {place} of type {number}"), ours, &judged);
+        }
     }
     kind
 }

@@ -1,12 +1,12 @@
-//! What the programs of this folder share: the answers of both sides to each kind of input.
+//! What the programs of this folder share: the results of both sides for each kind of input.
 
 pub mod collections;
 pub mod ends;
-mod errors;
 pub mod inputs;
 #[path = "../recoding/judge.rs"]
 mod judge;
 pub mod kinds;
+mod library;
 pub mod mergers;
 mod numbers;
 pub mod one_input;
@@ -19,6 +19,4 @@ pub mod tables;
 pub mod tally;
 pub mod text_kinds;
 mod theirs;
-mod theirs_by_calls;
-mod unicode;
 pub mod unit_decoder;

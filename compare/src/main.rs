@@ -61,7 +61,7 @@ fn print_and_keep(all: &mut Vec<Kind>, kinds: Vec<Kind>) {
     all.extend(kinds);
 }
 
-// Prints the sums, and answers how many differ.
+// Prints the sums, and returns how many differ.
 fn print_sums(kinds: &[Kind], slips: &Slips) -> u64 {
     let cases: u64 = kinds.iter().map(Kind::cases).sum();
     let differ: u64 = kinds.iter().map(Kind::differ).sum();

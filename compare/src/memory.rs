@@ -12,7 +12,7 @@ fn main() -> ExitCode {
         eprintln!("usage: memory SEED COUNT");
         return ExitCode::from(2);
     };
-    // The Rust crate panics where the comparison knows of it.
+    // The comparison expects some panics of the Rust crate.
     panic::set_hook(Box::new(|_| {}));
     let random = &mut Random::new(*seed);
     let differences: Vec<String> = (0..*count).filter_map(|_| Input::random(random).difference()).collect();

@@ -1,12 +1,17 @@
-//! Answers as plain numbers, as `crates/compare_c` numbers them.
+//! Results as plain numbers.
+
+use std::io;
 
 /// The number of the first variant of each type of error.
 pub const FIRST_ERROR: u64 = 0x8000_0000;
 
-/// What stands for a number that is not there.
+/// In place of a number that is missing.
 pub const NOTHING: u64 = 0xffff_ffff;
 
-/// The answers to one input: each with the name of the call that gave it.
+/// The name of the number that `error_range` begins with.
+pub const RANGE_START: &str = "error_range().start()";
+
+/// The results for one input: each with the name of the call that returned it.
 #[derive(Default)]
 pub struct Answers {
     pub names: Vec<&'static str>,
@@ -19,10 +24,11 @@ impl Answers {
         self.numbers.push(number);
     }
 
-    /// Adds the answers of another call.
-    pub fn append(&mut self, other: Answers) {
+    /// These results, followed by those of another call.
+    pub fn and(mut self, other: Answers) -> Answers {
         self.names.extend(other.names);
         self.numbers.extend(other.numbers);
+        self
     }
 
     pub fn put_size(&mut self, name: &'static str, size: usize) {
@@ -64,6 +70,37 @@ impl Answers {
             Ok(c) => self.put_char(name, c.into()),
             Err(error) => self.put(name, error.number()),
         }
+    }
+
+    /// A piece: its offset, its length, and the scalar or the number of the error.
+    pub fn put_item<C, E>(&mut self, offset: usize, answer: Result<C, E>, len: usize)
+    where
+        C: Into<char>,
+        E: ErrorNumber,
+    {
+        self.put_size("offset", offset);
+        self.put_size("length", len);
+        self.put_answer("item", answer);
+    }
+
+    pub fn put_hint(&mut self, (least, most): (usize, Option<usize>)) {
+        self.put_size("size_hint().0", least);
+        self.put("size_hint().1", most.map_or(NOTHING, |most| most as u64));
+    }
+
+    pub fn put_next(&mut self, item: Option<impl Into<u64>>) {
+        self.put("next()", item.map_or(NOTHING, Into::into));
+    }
+
+    /// How many bytes were read, if the read did not fail, and all bytes of the buffer.
+    pub fn put_read(&mut self, read: io::Result<usize>, buffer: &[u8]) {
+        self.put("read()", read.map_or(NOTHING, |count| count as u64));
+        self.put_bytes("buffer of a read", buffer);
+    }
+
+    pub fn put_text(&mut self, name: &'static str, text: &str) {
+        self.put_size(name, text.len());
+        self.put_bytes(name, text.as_bytes());
     }
 
     /// The scalar and the length, or the number of the error and 0.

@@ -1,5 +1,5 @@
 //! One input, asked of all that decodes: its bytes by every iterator, from both ends, and as units; where they are
-//! a text, that text too. Its bytes are recoded as well.
+//! a text, that text too. Its bytes are converted as well.
 
 use crate::ends::{self, Slips};
 use crate::inputs::{self, Random, FROM_BACK};
@@ -57,7 +57,7 @@ impl Input {
         }
     }
 
-    /// The first difference, where there is one.
+    /// The first difference, if there is one.
     pub fn difference(&self) -> Option<String> {
         let Input { bytes, replacements, .. } = self;
         let units = self.units();
@@ -79,7 +79,7 @@ impl Input {
         all.iter().find_map(Kind::first)
     }
 
-    /// The first difference of what the bytes are recoded as, where there is one.
+    /// The first difference of what the bytes are converted to, if there is one.
     pub fn recoding_difference(&self) -> Option<String> {
         self.recoded().first()
     }

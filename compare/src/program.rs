@@ -1,4 +1,4 @@
-//! The program `pieces`, run on inputs, beside lines made from the Rust crate's items.
+//! The program `pieces`, run on inputs, compared with lines made from the Rust crate's items.
 
 use crate::inputs::{self, Random};
 use crate::tally::Kind;

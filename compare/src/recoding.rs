@@ -1,10 +1,11 @@
-//! Recoding in all nine pairs of forms, into memory and into rooms, beside two judges: std, and the decoders of the Rust
-//! crate. How far bytes and units are well-formed is compared as well.
+//! Transcoding in all nine pairs of forms, compared with two judges: std, and the decoders of the Rust crate. The crate for Cargo converts the
+//! whole into memory, and the library for C in parts, and into rooms. How far bytes and units are well-formed is compared as well.
 
 use crate::inputs::{self, Random};
 use crate::tally::Kind;
 use crate::{judge, recoder};
 use encode_unicode::iterator::{Utf16CharDecoder, Utf8CharDecoder};
+use noddychest::Encoding;
 
 /// Bytes as texts of each form, cut at random.
 pub fn lists(seed: u64, count: usize) -> Vec<Kind> {
@@ -36,6 +37,7 @@ pub fn compare(kind: &mut Kind, bytes: &[u8], cuts: &[u8]) {
         let judged = judge::recode(from, to, bytes);
         let input = |how: &str| format!("{} to {}{how} {cuts:?}: {bytes:02x?}", recoder::FORMS[from], recoder::FORMS[to]);
         kind.compare_equal(|| input(", std and the Rust crate"), &judge::written(to, &shown(from, bytes)), &judged);
+        kind.compare_equal(|| input(" by the crate"), &noddychest::recode(Encoding::ALL[from], Encoding::ALL[to], bytes), &judged);
         let judged = Some(judged);
         kind.compare_equal(|| input(" in parts"), &recoder::recode(from, to, bytes, &lengths), &judged);
         kind.compare_equal(|| input(" in rooms"), &recoder::recode_into(from, to, bytes, &calls, last), &judged);
@@ -57,11 +59,11 @@ fn shown(from: usize, bytes: &[u8]) -> String {
 
 fn compare_places(kind: &mut Kind, bytes: &[u8]) {
     let input = || format!("well-formed: {bytes:02x?}");
-    kind.compare_equal(input, &recoder::valid_up_to(bytes), &judge::valid_up_to(bytes));
+    kind.compare_equal(input, &recoder::valid_up_to(bytes), &Some(judge::valid_up_to(bytes)));
     for from in [1, 2] {
         let units = judge::units(from, bytes);
         let input = || format!("well-formed: {units:04x?}");
-        kind.compare_equal(input, &recoder::units_valid_up_to(&units), &judge::units_valid_up_to(&units));
+        kind.compare_equal(input, &recoder::units_valid_up_to(&units), &Some(judge::units_valid_up_to(&units)));
     }
     for from in 0..3 {
         let at = bytes.len() * 2 / 3;

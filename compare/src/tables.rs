@@ -31,7 +31,7 @@ pub fn replacements(seed: u64, count: usize) -> Vec<Kind> {
 // One list, and these replacements in it.
 pub(crate) fn compare(kind: &mut Kind, list: &[u8], steps: &[Replacement]) {
     let input = || format!("{list:02x?} by {steps:02x?}");
-    kind.compare(input, &ours::replacements(list, &steps.concat()), &judged(list, steps));
+    kind.compare(input, &ours::replacements(list, steps), &judged(list, steps));
 }
 
 // One that takes up to seven bytes away.
@@ -52,9 +52,7 @@ fn judged(list: &[u8], steps: &[Replacement]) -> Answers {
         to.put_bool("a table made anew has the same pieces", true);
         to.put_size("pieces().len()", items.len());
         for (offset, answer, len) in items {
-            to.put_size("offset", offset);
-            to.put_size("length", len);
-            to.put_answer("item", answer);
+            to.put_item(offset, answer, len);
         }
     }
     to

@@ -1,7 +1,6 @@
 //! What was compared, and what differed.
 
-use crate::numbers::Answers;
-use crate::theirs::RANGE_START;
+use crate::numbers::{Answers, RANGE_START};
 use std::fmt::Debug;
 
 /// How many differences of a kind are shown.
@@ -9,9 +8,6 @@ const SHOWN: usize = 5;
 
 /// A difference that docs/DIFFERENCES.md has, under "Behaviour".
 const RANGE_MEANT: &str = "CodepointError::TooHigh.error_range() begins one higher here";
-
-/// What `Debug` of a character follows, so that two versions of std may differ.
-const SHOWN_MEANT: &str = "Debug does not escape what came with Unicode 18.0 here";
 
 // Whether the two numbers of that name may differ so.
 fn is_meant(name: &str, ours: u64, theirs: u64) -> bool {
@@ -24,7 +20,6 @@ pub struct Kind {
     cases: u64,
     differ: u64,
     meant: u64,
-    why: &'static str,
     shown: Vec<String>,
 }
 
@@ -35,7 +30,6 @@ impl Kind {
             cases: 0,
             differ: 0,
             meant: 0,
-            why: RANGE_MEANT,
             shown: Vec::new(),
         }
     }
@@ -48,39 +42,32 @@ impl Kind {
         self.differ
     }
 
-    /// Counts a case that differs since the versions of Unicode do.
-    pub fn pass_newer(&mut self) {
-        self.cases += 1;
-        self.meant += 1;
-        self.why = SHOWN_MEANT;
-    }
-
-    /// What differed first, where something did.
+    /// What differed first, if something did.
     pub fn first(&self) -> Option<String> {
         let Kind { name, shown, .. } = self;
         shown.first().map(|difference| format!("{name}: {difference}"))
     }
 
-    /// How many cases differed and were meant to, where there are any.
+    /// How many cases differed and were meant to, if there are any.
     pub fn print_meant(&self) {
         if self.meant > 0 {
-            println!("meant to differ: {}: {} cases", self.why, self.meant);
+            println!("meant to differ: {RANGE_MEANT}: {} cases", self.meant);
         }
     }
 
-    /// Compares the answers to one input.
-    pub fn compare(&mut self, input: impl FnOnce() -> String, ours: &[u64], theirs: &Answers) {
+    /// Compares the results for one input.
+    pub fn compare(&mut self, input: impl FnOnce() -> String, ours: &Answers, theirs: &Answers) {
         self.cases += 1;
-        if ours == theirs.numbers {
+        if ours.numbers == theirs.numbers {
             return;
         }
-        match first_difference(ours, theirs) {
+        match first_difference(&ours.numbers, theirs) {
             Some(difference) => self.note(|| format!("{}: {difference}", input())),
             None => self.meant += 1,
         }
     }
 
-    /// Compares two answers as they are.
+    /// Compares two results by equality.
     pub fn compare_equal<T: PartialEq + Debug>(&mut self, input: impl FnOnce() -> String, ours: &T, theirs: &T) {
         self.cases += 1;
         if ours != theirs {

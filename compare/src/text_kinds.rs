@@ -2,7 +2,7 @@
 
 use crate::inputs::{self, Random};
 use crate::tally::Kind;
-use crate::{ours, theirs_by_calls as theirs};
+use crate::{ours, theirs};
 
 /// Each text by the iterators over its characters, from both ends.
 pub fn walks(seed: u64, count: usize) -> Vec<Kind> {
@@ -39,14 +39,7 @@ pub(crate) fn walk_kind(name: &'static str, walks: impl Iterator<Item = (String,
     let mut kind = Kind::new(name);
     for (text, word) in walks {
         let input = || format!("{text:?} by {}", String::from_utf8_lossy(&word));
-        let all = [
-            ours::utf8char_indices(&text, &word),
-            ours::utf8chars(&text, &word),
-            ours::utf16char_indices(&text, &word),
-            ours::utf16chars(&text, &word),
-        ]
-        .concat();
-        kind.compare(input, &all, &theirs::walks(&text, &word));
+        kind.compare(input, &ours::walks(&text, &word), &theirs::walks(&text, &word));
     }
     kind
 }
@@ -57,17 +50,7 @@ pub fn codes(seed: u64) -> Kind {
     let mut kind = Kind::new("characters, by the iterators over their codes");
     for c in '\0'..=char::MAX {
         let steps = inputs::steps(random, 6);
-        let input = || format!("{c:?} by {steps:?}");
-        let all = [
-            ours::bytes_of_char(c, &inputs::NEXTS),
-            ours::bytes_of_char(c, &steps),
-            ours::units_of_char(c, 4),
-        ]
-        .concat();
-        let mut judged = theirs::bytes_of_char(c, &inputs::NEXTS);
-        judged.append(theirs::bytes_of_char(c, &steps));
-        judged.append(theirs::units_of_char(c, 4));
-        kind.compare(input, &all, &judged);
+        kind.compare(|| format!("{c:?} by {steps:?}"), &ours::codes_of_char(c, &steps), &theirs::codes_of_char(c, &steps));
     }
     kind
 }
@@ -97,15 +80,8 @@ fn compare_split(kind: &mut Kind, random: &mut Random, text: &str) {
     compare_steps(kind, text, &steps, calls);
 }
 
-// By these steps, and by so many calls for units.
+// By these steps, and by `calls` calls for units.
 pub(crate) fn compare_steps(kind: &mut Kind, text: &str, steps: &[u8], calls: usize) {
     let input = || format!("{text:?} by {steps:?} and {calls} calls");
-    let both = [
-        ours::bytes_of_text(text, steps),
-        ours::units_of_text(text, calls),
-    ]
-    .concat();
-    let mut judged = theirs::bytes_of_text(text, steps);
-    judged.append(theirs::units_of_text(text, calls));
-    kind.compare(input, &both, &judged);
+    kind.compare(input, &ours::codes_of_text(text, steps, calls), &theirs::codes_of_text(text, steps, calls));
 }

@@ -1,11 +1,8 @@
 //! The decoder of units, compared.
 
 use crate::inputs::{Random, EDGE_UNITS};
-use crate::numbers::{Answers, NOTHING};
-use crate::ours::filled;
 use crate::tally::Kind;
-use encode_unicode::iterator::Utf16CharDecoder;
-use encode_unicode::SliceExt;
+use crate::{library, ours, theirs};
 
 /// Lists of units, as the decoder cuts them.
 pub fn lists(seed: u64, count: usize) -> Vec<Kind> {
@@ -31,10 +28,9 @@ pub fn lists(seed: u64, count: usize) -> Vec<Kind> {
 pub(crate) fn kind_of(name: &'static str, lists: impl IntoIterator<Item = Vec<u16>>) -> Kind {
     let mut kind = Kind::new(name);
     for list in lists {
-        let both = [ours_from(&list), ours_indices(&list)].concat();
-        let mut judged = theirs(Utf16CharDecoder::from(list.as_slice()));
-        judged.append(theirs(list.as_slice().utf16char_indices()));
-        kind.compare(|| format!("{list:04x?}"), &both, &judged);
+        let input = || format!("{list:04x?}");
+        let ours = ours::units(&list).and(library::units(&list));
+        kind.compare(input, &ours, &theirs::units(&list).and(theirs::unit_pieces(&list)));
     }
     kind
 }
@@ -87,49 +83,4 @@ pub fn damaged_text(random: &mut Random) -> Vec<u16> {
         }
     }
     units
-}
-
-// Declared in `crates/compare_c/src/unit_decoder.rt`, as those of `ours` are.
-extern "C" {
-    fn compare_c_unit_decoder(src: *const u16, len: usize, answers: *mut u64, room: usize)
-        -> usize;
-    fn compare_c_unit_indices(src: *const u16, len: usize, answers: *mut u64, room: usize)
-        -> usize;
-}
-
-// Room for each call of `next`, beside the units that are left before it.
-const ROOM_PER_ITEM: usize = 6;
-
-fn room_of(src: &[u16]) -> usize {
-    (ROOM_PER_ITEM + src.len()) * (src.len() + 1)
-}
-
-fn ours_from(src: &[u16]) -> Vec<u64> {
-    filled(room_of(src), |at, room| unsafe {
-        compare_c_unit_decoder(src.as_ptr(), src.len(), at, room)
-    })
-}
-
-fn ours_indices(src: &[u16]) -> Vec<u64> {
-    filled(room_of(src), |at, room| unsafe {
-        compare_c_unit_indices(src.as_ptr(), src.len(), at, room)
-    })
-}
-
-fn theirs(mut decoder: Utf16CharDecoder) -> Answers {
-    let mut to = Answers::default();
-    loop {
-        let (least, most) = decoder.size_hint();
-        to.put_size("size_hint().0", least);
-        to.put("size_hint().1", most.map_or(NOTHING, |most| most as u64));
-        to.put_size("as_slice().len()", decoder.as_slice().len());
-        to.put_units("as_slice()", decoder.as_slice());
-        let Some((offset, answer, len)) = decoder.next() else {
-            to.put("next() at the end", NOTHING);
-            return to;
-        };
-        to.put_size("offset", offset);
-        to.put_size("length", len);
-        to.put_answer("item", answer);
-    }
 }

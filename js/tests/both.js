@@ -1,7 +1,7 @@
-// Prints for how many of so many inputs two modules answer otherwise: both.js ONE OTHER COUNT. Each input is recoded between all forms,
-// lossy and strict, at once and in two parts, and split from the front, from both ends, at each place and in two parts.
+// Prints for how many of COUNT inputs two modules return different results: both.js ONE OTHER COUNT. Each input is converted between all
+// encodings, lossy and strict, whole and in two parts, and split from the front, from both ends, at each offset and in two parts.
 import { readFileSync } from "node:fs";
-import { Codec, MAXIMAL, REPLACE, STRICT, joined } from "../codec.js";
+import { Codec, LOSSY, REPLACE, STRICT, joined } from "../codec.js";
 import { chances, damaged } from "./help.js";
 
 const load = async (path) => new Codec((await WebAssembly.instantiate(readFileSync(new URL(path, import.meta.url)))).instance.exports);
@@ -41,7 +41,7 @@ function told(codec, bytes, word, cut) {
     const streamed = run.map((it) => codec.streamedAt(it.place));
     const ends = [codec.validUpTo(), codec.boundary(bytes.length >> 1), codec.formOfBom(), ...FORMS.map((form) => codec.undecidedLength(form))];
     const pairs = FORMS.flatMap((from) => FORMS.map((to) => [from, to]));
-    const recoded = pairs.map(([from, to]) => [REPLACE, MAXIMAL, STRICT].map((mode) => inParts(codec, bytes, cut, from, to, mode)));
+    const recoded = pairs.map(([from, to]) => [REPLACE, LOSSY, STRICT].map((mode) => inParts(codec, bytes, cut, from, to, mode)));
     const whole = pairs.map(([from, to]) => [...joined(codec.recode(from, to, bytes))]);
     const parts = FORMS.map((form) => located(codec, bytes, cut, form, 1 + (bytes.length % 40)));
     return JSON.stringify([run, walk, streamed, ends, codec.names, recoded, whole, parts]);

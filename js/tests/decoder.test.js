@@ -5,12 +5,19 @@ import test from "node:test";
 import v8 from "node:v8";
 import vm from "node:vm";
 import { MessageChannel } from "node:worker_threads";
-import * as api from "../api.js";
+import { callsOf } from "../api.js";
 import { Codec, hasVectors } from "../codec.js";
 import * as installed from "noddychest";
 import { chances, damaged, divided, hexOf, ofHex } from "./help.js";
 
-const { Decoder, Recoder, encodingOfBom, faults, isValid, pieces, recode, undecidedLength, use } = api;
+let api, Decoder, Recoder, encodingOfBom, faults, isValid, pieces, recode, undecidedLength;
+
+// Lets the tests that follow call these.
+function use(instance) {
+    api = callsOf(new Codec(instance.exports));
+    ({ Decoder, Recoder, encodingOfBom, faults, isValid, pieces, recode, undecidedLength } = api);
+}
+
 const FORMS = ["utf-8", "utf-16le", "utf-16be"];
 const GONE = { name: "TypeError", message: /^noddychest: the bytes are gone/ };
 const load = (name) => new WebAssembly.Instance(new WebAssembly.Module(readFileSync(new URL(`../${name}.wasm`, import.meta.url))));
@@ -26,7 +33,7 @@ function each(name, body) {
     }
 }
 
-// ---- The merger: what the bytes that wait begin with, as [length, character, error], or null where the next byte decides it.
+// ---- The merger: what the bytes that wait begin with, as [length, character, error], or null if the next byte decides it.
 
 const NEEDS = [0x80, 0xc0, 0xc2, 0xe0, 0xf0, 0xf5];
 const LEAST = [0, 0, 0x80, 0x800, 0x10000];
@@ -137,7 +144,7 @@ each("how many bytes at the end are undecided: as many as are held", () => {
                 merger.feed(block);
                 const told = `${encoding} ${hexOf(block)}`;
                 assert.deepEqual([undecidedLength(block, encoding), decoder.held], [merger.waiting.length, merger.waiting.length], told);
-                // (bytes that stand at an odd address)
+                // (bytes at an odd address)
                 assert.equal(undecidedLength(Uint8Array.of(1, ...block).subarray(1), encoding), merger.waiting.length, told);
             }
         }

@@ -1,9 +1,9 @@
-// Invalid bytes alone, UTF-16, boundaries, counts, maximal subparts and strings with the list of what was wrong.
+// Only invalid bytes, UTF-16, boundaries, counts, maximal subparts and strings with the list of what was wrong.
 import assert from "node:assert/strict";
 import { readFileSync } from "node:fs";
 import test from "node:test";
 import { Codec, UTF16LE, UTF8 } from "../codec.js";
-import { Ends, FaultError, Recoder, boundaryAfter, boundaryBefore, changedRange, charCount, decode, faults, firstFault, isValid, numberOf, offsetOf, pieces, piecesBack, recode, recodedLength, sentence, streamText } from "noddychest";
+import { Ends, FaultError, Recoder, boundaryAfter, boundaryBefore, changedRange, charCount, decode, faults, firstFault, isValid, numberOf, offsetOf, pieces, piecesBack, recode, recodedLength, sentence, shardEnd, streamText } from "noddychest";
 import { chances, damaged, hexOf, ofHex } from "./help.js";
 
 const FORMS = ["utf-8", "utf-16le", "utf-16be"];
@@ -112,6 +112,26 @@ test("other calls between two faults change nothing", () => {
     assert.deepEqual(have, want);
 });
 
+test("shards join: TextDecoder gives the text of the whole", () => {
+    assert.deepEqual([0, 1, 2, 3, 9].map((at) => shardEnd(ofHex("e28241"), at)), [0, 0, 2, 3, 3]);
+    assert.deepEqual([0, 1, 2, 3].map((at) => shardEnd(ofHex("3dd841"), at, "utf-16le")), [0, 0, 0, 3]);
+    for (const [encoding, most, some] of [["utf-8", 4, "4180a0c3e0e2edf0f4"], ["utf-16le", 5, "0041d8dc"], ["utf-16be", 5, "0041d8dc"]]) {
+        const [bytes, decoder] = [ofHex(some), new TextDecoder(encoding, { ignoreBOM: true })];
+        for (let length = 0; length <= most; length++) {
+            for (let number = 0; number < bytes.length ** length; number++) {
+                const data = Uint8Array.from({ length }, (_, i) => bytes[Math.floor(number / bytes.length ** i) % bytes.length]);
+                for (let at = 0; at <= length; at++) {
+                    const end = shardEnd(data, at, encoding);
+                    assert.ok(end <= at && at <= end + 3);
+                    assert.equal(decoder.decode(data.subarray(0, end)) + decoder.decode(data.subarray(end)), decoder.decode(data), `${encoding} ${hexOf(data)} at ${at}`);
+                    const [first, rest] = [data.subarray(0, end), data.subarray(end)].map((it) => hexOf(recode(it, encoding, "utf-8")));
+                    assert.equal(first + rest, hexOf(recode(data, encoding, "utf-8")));
+                }
+            }
+        }
+    }
+});
+
 test("a boundary is no offset inside of a piece", () => {
     const chance = chances(14);
     for (let i = 0; i < 400; i++) {
@@ -207,9 +227,9 @@ test("maximal subparts: as TextDecoder shows them, at once and in parts", () => 
         const encoding = FORMS[chance(3)];
         const bytes = (chance(2) ? damaged : units)(chance, chance(20));
         const want = shownBy(bytes, encoding);
-        assert.equal(Buffer.from(recode(bytes, encoding, "utf-8", { errors: "maximal" })).toString(), want, `${encoding} ${hexOf(bytes)}`);
-        assert.equal(decode(bytes, encoding, { errors: "maximal" }).text, want);
-        const recoder = new Recoder(encoding, "utf-8", { errors: "maximal" });
+        assert.equal(Buffer.from(recode(bytes, encoding, "utf-8", { errors: "lossy" })).toString(), want, `${encoding} ${hexOf(bytes)}`);
+        assert.equal(decode(bytes, encoding, { errors: "lossy" }).text, want);
+        const recoder = new Recoder(encoding, "utf-8", { errors: "lossy" });
         const parts = [];
         for (let at = 0, len; at < bytes.length; at += len) parts.push(recoder.feed(bytes.subarray(at, at + (len = 1 + chance(4)))));
         assert.equal(Buffer.concat([...parts, recoder.finish()]).toString(), want);
@@ -219,7 +239,7 @@ test("maximal subparts: as TextDecoder shows them, at once and in parts", () => 
 test("a string with the list of what was wrong", () => {
     assert.deepEqual(decode(ofHex("68c3a9e28241")), { text: "hé\ufffd\ufffdA", faults: [
         { offset: 3, length: 1, char: null, error: "InterruptedSequence" }, { offset: 4, length: 1, char: null, error: "UnexpectedContinuationByte" }] });
-    assert.equal(decode(ofHex("68c3a9e28241"), "utf-8", { errors: "maximal" }).text, "hé\ufffdA");
+    assert.equal(decode(ofHex("68c3a9e28241"), "utf-8", { errors: "lossy" }).text, "hé\ufffdA");
     assert.deepEqual(decode(ofHex("efbbbf41efbfbd")), { text: "\ufeffA\ufffd", faults: [] });
     assert.deepEqual(decode(ofHex("00dc4100"), "utf-16le").faults.map(told), [[0, 2, "UnexpectedTrailingSurrogate"]]);
     for (const options of [{ errors: "strict" }, { fatal: true }, { errors: "strict", fatal: true }]) {
@@ -252,7 +272,7 @@ test("a text that is too long for a string", async (t) => {
 
 test("words for errors that are none", () => {
     for (const call of [(it) => recode(ofHex("41"), "utf8", "utf8", it), (it) => new Recoder("utf8", "utf8", it), (it) => decode(ofHex("41"), "utf8", it)]) {
-        for (const it of ["ignore", "", "STRICT", "toString", null, 1]) assert.throws(() => call({ errors: it }), { name: "RangeError", message: `noddychest: errors is "replace", "maximal" or "strict", and not ${it}` });
+        for (const it of ["ignore", "", "STRICT", "toString", null, 1]) assert.throws(() => call({ errors: it }), { name: "RangeError", message: `noddychest: errors is "replace", "lossy" or "strict", and not ${it}` });
         assert.throws(() => call({ errors: "replace", fatal: true }), { name: "TypeError", message: /fatal is the same as errors: "strict"/ });
     }
 });

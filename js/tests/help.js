@@ -33,7 +33,7 @@ export function damaged(chance, len) {
     return Uint8Array.from(found.slice(0, len));
 }
 
-// Bytes in parts of no bytes up to so many.
+// Bytes in random parts of at most `most` bytes; a part can be empty.
 export function divided(chance, bytes, most) {
     const parts = [];
     for (let at = 0; at < bytes.length; ) {

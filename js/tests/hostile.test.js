@@ -5,9 +5,10 @@ import { readFileSync } from "node:fs";
 import { createRequire } from "node:module";
 import test from "node:test";
 import vm from "node:vm";
-import { MessageChannel, receiveMessageOnPort } from "node:worker_threads";
+import { MessageChannel, Worker, receiveMessageOnPort } from "node:worker_threads";
 import { Decoder, Ends, FaultError, Recoder, boundaryAfter, boundaryBefore, changedRange, charCount, decode, encodingOfBom, faults, firstFault, isValid, numberOf, offsetOf, pieces, piecesBack, recode, recodedLength, recoderStream, streamFaults, streamPieces, streamText, undecidedLength } from "noddychest";
-import * as api from "../api.js";
+import { callsOf } from "../api.js";
+import { codecOf } from "../loading.js";
 import { chances, damaged, hexOf, ofHex } from "./help.js";
 
 const GONE = { name: "TypeError", message: /^noddychest: the bytes are gone: their buffer was detached, or made smaller$/ };
@@ -227,7 +228,7 @@ test("options that are none throw a sentence", () => {
     for (const given of [undefined, {}, { fatal: undefined }, { fatal: 0 }, Object.create(null)]) assert.equal(recode(ofHex("ff"), "utf8", "utf8", given).length, 3);
 });
 
-// What all calls that have options, or records of their own, answer.
+// The results of all calls that have options, or records of their own.
 async function answers() {
     const bytes = ofHex("61e282ff62f09f9880c3");
     const thrown = (call) => {
@@ -238,7 +239,7 @@ async function answers() {
         }
     };
     const all = [];
-    for (const given of [[], [{}], [Object.create(null)], [{ errors: "maximal" }], [{ fatal: true }], [{ fatal: false, errors: "strict" }]]) {
+    for (const given of [[], [{}], [Object.create(null)], [{ errors: "lossy" }], [{ fatal: true }], [{ fatal: false, errors: "strict" }]]) {
         for (const form of ["utf-8", "utf-16le", "utf-16be"]) {
             const recoder = new Recoder(form, "utf-8", ...given);
             const feeds = [() => hexOf(recoder.feed(bytes)), () => hexOf(recoder.finish()), () => recoder.replaced];
@@ -269,7 +270,7 @@ async function answers() {
     return [...all, changedRange(bytes, 2, 3), boundaryBefore(bytes, 6), offsetOf(bytes, 2), numberOf(bytes, 3), recodedLength(bytes, "utf-8", "utf-16le")];
 }
 
-const NAMES = ["most", "base", "end", "errors", "fatal", "encoding", "offset", "mode", "isLast", "form", "length", "error", "char", "cause", "settings", "ignoreBOM", "stream", "bytes", "isEnd", "at", "isOver", "filled", "read", "count", "kind", "place", "len", "scalar", "fault", "readableType", "writableType", "from", "to"];
+const NAMES = ["most", "base", "end", "errors", "fatal", "encoding", "offset", "mode", "isLast", "form", "length", "error", "char", "cause", "settings", "ignoreBOM", "stream", "bytes", "isEnd", "at", "isOver", "filled", "read", "count", "kind", "place", "len", "scalar", "fault", "readableType", "writableType", "from", "to", "next", "done", "value", "total", "names", "calls", "memory"];
 
 test("what somebody put into Object.prototype changes no answer", async () => {
     const want = await answers();
@@ -348,19 +349,18 @@ test("text that is longer than the module's memory, and offsets in it", () => {
     assert.deepEqual([text.length, text[text.length - 1], wrong.length], [40_000_000, "a", 1]);
 });
 
-// Calls something from so many calls deep, of which the first has some arguments more.
+// Calls something at a depth of `depth` calls, of which the first has some arguments more.
 const deep = (depth, call) => (depth > 0 ? (deep(depth - 1, call), 0) : (call(), 0));
 const wide = (depth, call, ..._) => deep(depth, call) + 1;
 
-test("where the stack is full a call throws, and those after it answer as before", () => {
-    const module = new WebAssembly.Module(readFileSync(new URL("../noddychest.wasm", import.meta.url)));
-    api.use(new WebAssembly.Instance(module), module);
+test("where the stack is full a call throws, and those after it answer as before", async () => {
+    const api = callsOf(await codecOf(readFileSync(new URL("../noddychest.wasm", import.meta.url))));
     const bytes = damaged(chances(31), 200);
-    const want = recode(bytes, "utf-16be", "utf-8", { errors: "maximal" });
+    const want = recode(bytes, "utf-16be", "utf-8", { errors: "lossy" });
     const [decoder, recoder, found] = [new api.Decoder(), new api.Recoder("utf-8", "utf-16le"), api.faults(damaged(chances(32), 9000))];
     const [held, made] = [[...decoder.feed(ofHex("41e282"))], [...recoder.feed(ofHex("41e282"))]];
     const first = found.next().value;
-    const call = () => api.recode(bytes, "utf-16be", "utf-8", { errors: "maximal" });
+    const call = () => api.recode(bytes, "utf-16be", "utf-8", { errors: "lossy" });
     let thrown = 0;
     const fits = (depth, more) => {
         try {
@@ -439,4 +439,155 @@ test("a host without TextDecoder is told as that", () => {
     const program = 'delete globalThis.TextDecoder; const { decode, faults } = require("noddychest"); console.log([...faults(Uint8Array.of(255))].length); try { decode(Uint8Array.of(65)); } catch (it) { console.log(it.message); }';
     const ran = spawnSync(process.execPath, ["-e", program], { cwd: new URL("..", import.meta.url), encoding: "utf8" });
     assert.equal(ran.stdout, "1\nTextDecoder is not defined\n", ran.stderr);
+});
+
+test("memory that another thread changes meanwhile: of decode the text and the list of faults belong together", async () => {
+    const shared = new SharedArrayBuffer(1 << 20);
+    const bytes = new Uint8Array(shared).fill(0x61);
+    const worker = new Worker("const bytes = require('node:worker_threads').workerData; for (let i = 0; ; i++) if (i % 4096 === 0) bytes[bytes.length - 1] ^= 0x80;", { eval: true, workerData: bytes });
+    try {
+        await new Promise((done) => worker.once("online", done));
+        for (let began = Date.now(), i = 0; Date.now() - began < 2000 || i < 50; i++) {
+            const { text, faults: wrong } = decode(shared);
+            assert.equal(text.endsWith("\ufffd"), wrong.length === 1);
+            try {
+                assert.ok(decode(shared, "utf-8", { fatal: true }).text.endsWith("a"));
+            } catch (it) {
+                assert.ok(it instanceof FaultError, it);
+            }
+        }
+    } finally {
+        await worker.terminate();
+    }
+});
+
+test("what somebody put in the place of calls of Uint8Array changes no answer", async () => {
+    const prototype = Object.getPrototypeOf(Uint8Array.prototype);
+    const want = await answers();
+    // (one that does nothing, and one that calls the package)
+    const others = [() => function () { return this; }, (own) => function (...given) {
+        const was = Object.getOwnPropertyDescriptor(Uint8Array.prototype, name);
+        delete Uint8Array.prototype[name];
+        recode(new Uint8Array(9).fill(0xff), "utf-8", "utf-16le"), isValid(new Uint8Array(9)), new Ends(new Uint8Array(9)).next();
+        Object.defineProperty(Uint8Array.prototype, name, was);
+        return own.apply(this, given);
+    }];
+    let name;
+    // (the prototype of Uint8Array has none of its own; a test asks for the text of bytes by subarray)
+    for (name of ["set", "slice"]) {
+        for (const make of others) {
+            Object.defineProperty(Uint8Array.prototype, name, { value: make(prototype[name]), writable: true, configurable: true });
+            let have;
+            try {
+                have = await answers();
+            } finally {
+                delete Uint8Array.prototype[name];
+            }
+            assert.deepEqual(have, want, name);
+        }
+    }
+});
+
+test("decode of a text that fits in no string throws before it makes the text", () => {
+    const { TextDecoder } = globalThis;
+    // (V8 has strings of 2^29 - 24 units)
+    const bytes = new Uint8Array(2 ** 29);
+    const told = { name: "RangeError", message: /^noddychest: a text of 536870912 units of UTF-16 is too long for a string here/ };
+    globalThis.TextDecoder = () => assert.fail("the text was made");
+    try {
+        for (const errors of ["replace", "lossy", "strict"]) assert.throws(() => decode(bytes, "utf-8", { errors }), told);
+        bytes[5] = 0xff;
+        assert.throws(() => decode(bytes, "utf-8", { fatal: true }), { name: "FaultError", offset: 5 });
+    } finally {
+        globalThis.TextDecoder = TextDecoder;
+    }
+});
+
+test("decode of a text of more units than the TextDecoder of Node takes, with a character at each edge of a part", () => {
+    const bytes = new Uint8Array(2 ** 27 + 40).fill(0x61);
+    for (let at = 2 ** 24 - 1; at < bytes.length; at += 2 ** 24) bytes.set(ofHex("f09f9880"), at);
+    bytes[bytes.length - 1] = 0xff;
+    const { text, faults: wrong } = decode(bytes);
+    assert.deepEqual([text.length, wrong.map((it) => it.offset), text.slice(-3)], [bytes.length - 16, [bytes.length - 1], "aa\ufffd"]);
+    let count = 0;
+    for (let at = text.indexOf("😀"); at >= 0; at = text.indexOf("😀", at + 1)) count++;
+    assert.equal(count, 8);
+});
+
+test("a FaultError is made of a fault and its encoding, or says so", () => {
+    const told = { name: "TypeError", message: 'noddychest: a FaultError is made of a fault, as { offset: 3, length: 1, error: "NonUtf8Byte" }, and its encoding' };
+    for (const it of [undefined, null, "x", 5, Symbol("x"), {}, new Error("x"), { offset: 1.5, length: 1, error: "Incomplete" }, { offset: -1, length: 1, error: "Incomplete" }, { offset: 1, length: 3, error: "Incomplete" }, { offset: 1, length: 1 }]) {
+        assert.throws(() => new FaultError(it, "utf-8"), told);
+        assert.throws(() => new FaultError(it), told);
+    }
+    assert.throws(() => new FaultError(firstFault(ofHex("ff")), "latin1"), { name: "RangeError", message: /latin1/ });
+    const bytes = ofHex("410000dc");
+    for (const encoding of ["utf-16le", "UTF-16BE"]) {
+        const [made, thrown] = [() => new FaultError(firstFault(bytes, encoding), encoding), () => recode(bytes, encoding, "utf-8", { fatal: true })].map((call) => {
+            try {
+                return call();
+            } catch (it) {
+                return it;
+            }
+        });
+        if (encoding === "utf-16le") assert.deepEqual([made.message, made.offset, made.length, made.error, { ...made.cause }, made.name], [thrown.message, thrown.offset, thrown.length, thrown.error, { ...thrown.cause }, thrown.name]);
+        else assert.ok(made instanceof TypeError, String(made));
+    }
+    assert.match(new FaultError(firstFault(ofHex("ff"))).message, /invalid UTF-8 at offset 0: NonUtf8Byte$/);
+});
+
+// Calls something with stack left for no more than `left` calls of this function. Returns whether it threw.
+function nearTheEnd(left, call) {
+    let told = false;
+    const dive = () => {
+        let depth;
+        try {
+            depth = dive();
+        } catch {
+            return 0;
+        }
+        if (depth !== left) return depth + 1;
+        try {
+            call();
+        } catch {
+            told = true;
+        }
+        return depth + 1;
+    };
+    dive();
+    return told;
+}
+
+test("where the stack is full, a part was fed or was not, and no piece comes twice or never", () => {
+    const chance = chances(33);
+    let thrown = 0;
+    for (const [encoding, feed, finish] of [["utf-8", "feed", "finish"], ["utf-16be", "feed", "finish"], ["utf-8", "feedFaults", "finishFaults"], ["utf-16be", "feedFaults", "finishFaults"]]) {
+        for (let round = 0; round < 60; round++) {
+            const parts = Array.from({ length: 5 }, () => damaged(chance, chance(60)));
+            const [whole, decoder, found] = [new Decoder(encoding), new Decoder(encoding), []];
+            const want = [...whole[feed](Uint8Array.from(parts.flatMap((it) => [...it]))), ...whole[finish]()];
+            for (const part of [...parts, null]) {
+                let given;
+                const put = () => (given = part ? decoder[feed](part) : decoder[finish]());
+                if (nearTheEnd(chance(40), put)) thrown++, put();
+                for (let steps = chance(5), isOver = false; steps > 0 && !isOver; steps--) {
+                    let step;
+                    isOver = nearTheEnd(chance(40), () => (step = given.next()));
+                    thrown += isOver;
+                    if (step && !step.done) found.push(step.value);
+                }
+            }
+            found.push(...decoder[feed](new Uint8Array(0)));
+            assert.deepEqual(found, want, `${feed} of ${encoding}`);
+            const recoder = new Recoder(encoding, "utf-8");
+            const made = [...parts, null].map((part) => {
+                let it;
+                const put = () => (it = part ? recoder.feed(part) : recoder.finish());
+                if (nearTheEnd(chance(40), put)) put();
+                return hexOf(it);
+            });
+            assert.equal(made.join(""), hexOf(recode(Uint8Array.from(parts.flatMap((it) => [...it])), encoding, "utf-8")));
+        }
+    }
+    assert.ok(thrown > 100);
 });

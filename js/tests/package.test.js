@@ -72,7 +72,10 @@ test("packed, installed offline and imported", { skip: needs("npm") }, () => {
         npm("install", `./${packed.filename}`);
         writeFileSync(`${folder}/used.mjs`, 'import { firstFault } from "noddychest"; console.log(firstFault(Uint8Array.of(65, 255)).error);');
         writeFileSync(`${folder}/used.cjs`, 'console.log(require("noddychest").firstFault(Uint8Array.of(65, 255)).error);');
-        for (const it of ["used.mjs", "used.cjs"]) assert.equal(execFileSync(process.execPath, [it], { cwd: folder, encoding: "utf8" }), "NonUtf8Byte\n");
+        const loads = 'load().then((n) => console.log(n.firstFault(Uint8Array.of(65, 255)).error));';
+        writeFileSync(`${folder}/loads.mjs`, `import { load } from "noddychest/load"; ${loads}`);
+        writeFileSync(`${folder}/loads.cjs`, `const { load } = require("noddychest/load"); ${loads}`);
+        for (const it of ["used.mjs", "used.cjs", "loads.mjs", "loads.cjs"]) assert.equal(execFileSync(process.execPath, [it], { cwd: folder, encoding: "utf8" }), "NonUtf8Byte\n");
     } finally {
         rmSync(folder, { recursive: true });
     }
@@ -86,7 +89,8 @@ test("the types are those of the calls", { skip: needs("tsc") }, () => {
 test("what is exported is what the types declare", async () => {
     const declared = [...readFileSync(at("../index.d.ts"), "utf8").matchAll(/^export (?:function|class|const) (\w+)/gm)].map((it) => it[1]);
     assert.deepEqual(Object.keys(await import("noddychest")).sort(), declared.sort());
-    const told = (name) => readFileSync(at(`../${name}`), "utf8").match(/export \{(.*)\} from .*/)[1];
+    assert.deepEqual(Object.keys(await import("noddychest/load")), [...readFileSync(at("../load.d.ts"), "utf8").matchAll(/^export (?:function|class|const) (\w+)/gm)].map((it) => it[1]));
+    const told = (name) => readFileSync(at(`../${name}`), "utf8").match(/^export const \{(.*)\} = .*/m)[1];
     assert.equal(told("web.js"), told("node.js"));
 });
 

@@ -66,9 +66,9 @@ test("more than the module makes at once: as TextDecoder and Buffer have it, and
         const bytes = new TextEncoder().encode("plain text, Grüße, 天地 😀 ".repeat(1 + size / 30)).subarray(0, size);
         const text = new TextDecoder().decode(bytes);
         const units = Buffer.from(text, "utf16le");
-        assert.ok(units.equals(recode(bytes, "utf-8", "utf-16le", { errors: "maximal" })), `${size}`);
-        assert.ok(units.swap16().equals(recode(bytes, "utf-8", "utf-16be", { errors: "maximal" })), `${size}`);
-        assert.ok(Buffer.from(text).equals(recode(units, "utf-16be", "utf-8", { errors: "maximal" })), `${size}`);
+        assert.ok(units.equals(recode(bytes, "utf-8", "utf-16le", { errors: "lossy" })), `${size}`);
+        assert.ok(units.swap16().equals(recode(bytes, "utf-8", "utf-16be", { errors: "lossy" })), `${size}`);
+        assert.ok(Buffer.from(text).equals(recode(units, "utf-16be", "utf-8", { errors: "lossy" })), `${size}`);
         const spoiled = new Uint8Array(size).fill(0x61);
         spoiled[size - 3] = 0xff;
         assert.equal(Buffer.from(recode(spoiled, "utf-8", "utf-16le").buffer).length, 2 * size);

@@ -35,7 +35,7 @@ test("however the input is divided, the pieces are those of the whole", async ()
         const parts = divided(chance, bytes, i % 100 ? 4 : 9000);
         assert.deepEqual(await all(streamPieces(parts, encoding)), [...pieces(bytes, encoding)], `${encoding} ${hexOf(bytes)}`);
         assert.deepEqual(await all(streamFaults(parts, encoding)), [...faults(bytes, encoding)]);
-        for (const errors of ["replace", "maximal"]) {
+        for (const errors of ["replace", "lossy"]) {
             const told = await all(streamText(parts, encoding, { errors }));
             const want = decode(bytes, encoding, { errors });
             assert.equal(told.map((it) => it.text).join(""), want.text);

@@ -1,6 +1,8 @@
-// Read by tsc alone: each call as a caller with types writes it, and what has to be refused.
+// Read only by tsc: each call as a caller with types writes it, and what has to be rejected.
 import { Decoder, Ends, FaultError, Recoder, boundaryAfter, boundaryBefore, changedRange, charCount, decode, encodingOfBom, faults, firstFault, isValid, numberOf, offsetOf, pieces, piecesBack, recode, recodedLength, recoderStream, streamFaults, streamPieces, streamText, undecidedLength } from "noddychest";
-import type { Encoding, ErrorName, Fault, Piece } from "noddychest";
+import type { Encoding, FaultKind, Fault, Piece } from "noddychest";
+import { load } from "noddychest/load";
+import type { Noddychest, Source } from "noddychest/load";
 
 const bytes = new Uint8Array([0xe2]);
 for (const piece of pieces(bytes)) {
@@ -9,7 +11,7 @@ for (const piece of pieces(bytes)) {
     console.log(offset, told);
 }
 const back: Piece[] = [...piecesBack(new DataView(bytes.buffer))];
-const name: ErrorName | undefined = firstFault(bytes.buffer)?.error;
+const name: FaultKind | undefined = firstFault(bytes.buffer)?.error;
 const encodings: Encoding[] = ["utf-16le", "UTF-8", "utf8", "utf16le", "UTF-16BE"];
 const [encoding] = encodings;
 const made: Uint8Array = recode(bytes, "utf-8", encoding);
@@ -22,7 +24,7 @@ const offset: number | null = offsetOf(bytes, 3, "utf-16le");
 const changed: { start: number; end: number } = changedRange(bytes, 0, numberOf(bytes, offset ?? bytes.length));
 const mark: { encoding: Encoding; length: number } | null = encodingOfBom(bytes);
 const marked: Piece[] = [...pieces(bytes.subarray(mark?.length ?? 0, changed.start + changed.end), mark?.encoding ?? "utf-8")];
-const { text, faults: wrong }: { text: string; faults: Fault[] } = decode(bytes, "utf-8", { errors: "maximal" });
+const { text, faults: wrong }: { text: string; faults: Fault[] } = decode(bytes, "utf-8", { errors: "lossy" });
 export async function read(stream: ReadableStream<Uint8Array>): Promise<string> {
     let all = text + wrong.length + numbers.join();
     for await (const piece of streamPieces(stream)) all += piece.char ?? piece.error;
@@ -45,6 +47,19 @@ try {
 } catch (error) {
     if (error instanceof FaultError) console.log(error.offset + error.length + error.cause.offset, error.error === "Incomplete", error.message);
 }
+const wrongFirst = firstFault(bytes);
+if (wrongFirst) throw new FaultError(wrongFirst, "utf-16be");
+export async function loaded(given: Uint8Array | ArrayBuffer | WebAssembly.Module | URL | Request | Response | Promise<Response> | string): Promise<Piece[]> {
+    const n: Noddychest = await load(given);
+    const [all, own]: [Piece[], InstanceType<Noddychest["Decoder"]>] = [[...n.pieces(bytes)], new n.Decoder("utf-16le")];
+    const source: Source = bytes;
+    const calls: typeof import("noddychest") = await load();
+    return [...all, ...own.feed(bytes), ...(await load(source)).pieces(bytes), ...calls.faults(bytes)];
+}
+// @ts-expect-error: a number is no module
+load(5);
+// @ts-expect-error: an error is made of a fault
+new FaultError("text");
 // @ts-expect-error: a stream of strings is no bytes
 streamText(new ReadableStream<string>());
 // @ts-expect-error: no such way
@@ -57,7 +72,7 @@ isValid("text");
 new Decoder(bytes);
 // @ts-expect-error: an offset is no BigInt
 new Decoder("utf-8", { offset: 1n });
-// @ts-expect-error: what a decoder tells is not set
+// @ts-expect-error: the properties of a decoder are read-only
 decoder.offset = 1;
 // @ts-expect-error: no such encoding
 recode(bytes, "latin1", "utf-8");

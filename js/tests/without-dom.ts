@@ -1,6 +1,7 @@
-// Read by tsc alone, without the types of browsers: those of the package need only the language's own.
+// Read only by tsc, without the types of browsers: those of the package need only the language's own.
 import { Decoder, pieces, recode, recoderStream, streamText } from "noddychest";
 import type { Piece, RecodeOptions } from "noddychest";
+import { load } from "noddychest/load";
 
 const bytes = new Uint8Array([0xe2]);
 const found: Piece[] = [...pieces(bytes), ...new Decoder().feed(bytes)];
@@ -11,6 +12,7 @@ export async function read(parts: AsyncIterable<Uint8Array>): Promise<string> {
     return all;
 }
 export const stream = recoderStream("utf-8", "utf-8");
+export const loaded = async (): Promise<boolean> => (await load(bytes)).isValid(bytes) && (await load("https://example.org/noddychest.wasm")).isValid(bytes);
 // @ts-expect-error: a number is no stream
 streamText(5);
 

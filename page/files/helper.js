@@ -1,12 +1,13 @@
-// The worker, and where there is none, the same work in the page, in small steps.
-import { Codec } from "./codec.js";
-import { recodedOf, surveyOf } from "./survey.js";
+// The worker, which is made once it is needed, and if there is none the same work in the page, in small steps.
+import { codecOf } from "./loading.js";
+import { work } from "./work.js";
 
 // How long a worker may take to begin.
-const PATIENCE = 3000;
+const PATIENCE = 5000;
 
 export class Helper {
     #module;
+    #make;
     #isReady;
     #waiting = new Map();
     #count = 0;
@@ -15,9 +16,14 @@ export class Helper {
 
     constructor(module, make) {
         this.#module = module;
-        this.#isReady = new Promise((done) => {
+        this.#make = make;
+    }
+
+    // Whether there is a worker.
+    get isReady() {
+        return (this.#isReady ??= new Promise((done) => {
             try {
-                this.worker = make();
+                this.worker = this.#make();
             } catch {
                 return done(false);
             }
@@ -29,31 +35,31 @@ export class Helper {
                 this.#waiting.clear();
             });
             this.worker.addEventListener("message", ({ data }) => (data.isReady ? done(true) : this.#hear(data)));
-            this.worker.postMessage({ module });
+            this.worker.postMessage({ module: this.#module });
             setTimeout(() => done(false), PATIENCE);
-        });
+        }));
     }
 
-    // Whether there is a worker.
-    get isReady() {
-        return this.#isReady;
-    }
-
-    #hear({ number, part, result, error }) {
+    #hear({ number, news, result, error }) {
         const { done, fail, tell, task } = this.#waiting.get(number) ?? {};
         const isLast = this.#last[task] === number;
-        if (part !== undefined) return isLast ? tell(part) : undefined;
+        if (news !== undefined) return isLast ? tell(news) : undefined;
         this.#waiting.delete(number);
         if (!isLast) return done?.(null);
         if (error === undefined) done?.(result);
         else fail?.(new Error(error));
     }
 
-    // What a task gives for a Blob, or null where another one of its kind was asked for meanwhile.
+    // What a task gives for a Blob, or null if another one of its kind was asked for meanwhile.
     async ask(task, asked, tell) {
         const number = ++this.#count;
         this.#last[task] = number;
-        if (!(await this.#isReady)) return this.#here(task, number, asked, tell);
+        const isWanted = () => this.#last[task] === number;
+        if (!(await this.isReady)) {
+            this.#codec ??= await codecOf(this.#module);
+            return work(this.#codec, { task, ...asked }, (news) => isWanted() && tell(news), isWanted);
+        }
+        if (!isWanted()) return null;
         return new Promise((done, fail) => {
             this.#waiting.set(number, { done, fail, tell, task });
             this.worker.postMessage({ task, number, ...asked });
@@ -63,15 +69,6 @@ export class Helper {
     // Lets a task go that is under way.
     stop(task) {
         this.#last[task] = ++this.#count;
-    }
-
-    async #here(task, number, { form, to, source }, tell) {
-        this.#codec ??= new Codec((await WebAssembly.instantiate(this.#module)).exports);
-        const step = async (part) => {
-            tell(part);
-            await new Promise((done) => setTimeout(done));
-            return this.#last[task] === number;
-        };
-        return task === "survey" ? surveyOf(this.#codec, form, source, step) : recodedOf(this.#codec, form, to, source, step);
+        if (this.worker) this.worker.postMessage({ task, number: this.#count, isStop: true });
     }
 }

@@ -2,9 +2,8 @@
 import { MOST } from "./codec.js";
 import { bytesOfDump, looksLikeDump } from "./dumps.js";
 
-const STILL = "The last good bytes are still shown.";
-const TOO_MANY = { told: `That is more than 10 MB. ${STILL}` };
-const wrong = (told) => ({ told: `${told} ${STILL}` });
+const TOO_MANY = { told: "That is more than 10 MB." };
+const wrong = (told) => ({ told });
 const quoted = (text, at = 0) => `'${[...text.slice(at, at + 4)][0]}'`;
 
 const fromHex = (digits) => Uint8Array.from({ length: digits.length / 2 }, (_, i) => parseInt(digits.slice(2 * i, 2 * i + 2), 16));
@@ -232,14 +231,6 @@ export function bytesOf(given, reader = "") {
     const read = READERS[reader] ?? (text ? LOOKS.find(([fits, it]) => fits(shown(it)))[1] : hexadecimal);
     const made = read(shown(read));
     return made.bytes?.length > MOST ? TOO_MANY : { note: "", took: "", ...made };
-}
-
-// Whether a text can be meant as bytes and hardly as text: then the page asks.
-export function looksLikeBytes(given) {
-    const text = given.trim();
-    if (text.length > 100000) return false;
-    const isOne = /^b["'].*\\.*["']$|^(?:[xX]'[0-9a-fA-F]+'|<Buffer [^>]*>)$|\\x[0-9a-f]{2}|\\[0-3][0-7]{2}|(?:%[0-9a-f]{2})/i.test(text) || text.includes("\n") && bytesOfDump(text) !== null;
-    return isOne && "bytes" in bytesOf(text);
 }
 
 // An offset in decimal or, after 0x, in hexadecimal; NaN where it is none, or empty.

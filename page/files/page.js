@@ -1,869 +1,570 @@
 // The page: what a person does, and what it then asks the module.
-import { Codec, FORMS, MOST, NONE, OK, SEEN, UTF16BE, UTF16LE, UTF8, hasVectors, joined } from "./codec.js";
-import { Cut } from "./cut.js";
-import { Faults, saveAs } from "./faults.js";
+import { Codec, FORMS, MOST, UTF16LE, UTF8, hasVectors } from "./codec.js";
+import { $, button, copy, element, put, saveAs } from "./dom.js";
+import { EXAMPLES, FIRST, boxOf } from "./examples.js";
+import { Explore } from "./explore.js";
+import { Files } from "./files.js";
+import { findingOf, metaOf, showFinding, showTrouble } from "./finding.js";
+import { Grid } from "./grid.js";
+import { around, groupsOf } from "./groups.js";
+import { Evidence } from "./guess.js";
+import { formOf, guessesOf, likeliest, showGuesses } from "./guesses.js";
 import { Helper } from "./helper.js";
-import { READERS, bytesOf, looksLikeBytes, offsetOf } from "./input.js";
+import { bytesOf, offsetOf } from "./input.js";
 import { IN_LINK, linkOf, linked } from "./link.js";
-import { others, othersNear } from "./others.js";
-import { Survey } from "./survey.js";
-import { View, element } from "./view.js";
-import { ERROR_NAMES, counted, hexByte, hexOf, offsetText, offsets, readByByte, sentence, shortKind, why } from "./words.js";
+import { List } from "./list.js";
+import { moduleOf } from "./loading.js";
+import { WAYS, encoded, reading } from "./reading.js";
+import { repairedOf } from "./repair.js";
+import { csvOf, jsonOf, reportOf } from "./report.js";
+import { Source } from "./source.js";
+import { Strip } from "./strip.js";
+import { Places, Survey, guessAt } from "./survey.js";
+import { ENCODINGS, counted, hexOf, number, offsets, shown, sizeText } from "./words.js";
+import { explain } from "./why.js";
 
-// Bytes that the boxes show, and the recoded forms; that are gone over at once, without the worker; and of a large file at a time.
-const IN_BOXES = 16384;
-const SHOWN = 256;
+// So many bytes are walked over at once, without the worker; so many are copied; and of more text the field is not filled.
 const AT_ONCE = 1 << 18;
-const PART = 4 << 20;
-const IN_TEXT = 1 << 20;
-const ANSWERS = 200;
-// Files that came together and have a button each.
-const MOST_FILES = 20;
-// How far before the end of a part a character is looked for after which it may end.
-const EDGE = 64;
+const HEAD = 1 << 15;
+const COPIED = MOST;
+const IN_FIELD = 200000;
+// Bytes around the first place by which an encoding is chosen.
+const SAMPLE = 4096;
+// Of UTF-16 so many bytes are looked at for a guess.
+const SAMPLED = 1 << 18;
 
-const TO_CHANGE = "Change one byte: what it changes in the split is marked above.";
-const TO_TAKE = "Ask for a character or invalid byte from either end.";
-const NO_BYTES = "There are no bytes.";
-
-const utf8 = (text) => Array.from(new TextEncoder().encode(text));
-const EXAMPLES = [
-    ["Two invalid bytes", [0x68, 0xc3, 0xa9, 0xe2, 0x82, 0x41, 0xf0, 0x9f, 0x98, 0x80]],
-    ["Four scripts", utf8("Grüße, Привет, नमस्ते, 你好")],
-    ["Emoji", utf8("👩‍🚀 😀 🇨🇭")],
-    ["Latin-1 taken for UTF-8", Array.from("café, déjà vu", (it) => it.charCodeAt(0))],
-    ["Overlong slash", [0x2e, 0x2e, 0xc0, 0xaf, 0x78]],
-    ["Encoded surrogate", [0x41, 0xed, 0xa0, 0x80, 0x42]],
-    ["Truncated emoji", [0x48, 0x69, 0x20, 0xf0, 0x9f, 0x98]],
-    ["UTF-16 taken for UTF-8", [0xff, 0xfe, 0x48, 0, 0xe9, 0, 0xac, 0x20]],
-    ["Truncated after two bytes", [0x41, 0xe0, 0x80]],
-    ["Two names for one byte", [0xe0, 0x80, 0x80], { word: "BBF" }],
-    ["Broken emoji, streamed", [0x48, 0x69, 0x20, 0xf0, 0x9f, 0x21], { isByByte: true }],
-];
-
-const $ = (id) => document.getElementById(id);
-let codec, cut, view, helper, list;
+// All that is known of the input. `how` is the guess in use, `at` the chosen offset, `number` the state of the history.
+const input = { codec: null, source: null, size: 0, form: UTF8, places: new Places(), found: null, guess: null, how: "utf-8", at: 0, isExample: false, likely: "windows-1251", likeness: 0, fail: tellUnread };
+let grid, list, strip, helper, explore, files;
 let turn = 0;
-// The first digit typed over a byte; the letters that were taken from both ends; what Undo and Redo do, the last one last.
-let [typed, taken, undoable, redoable] = ["", "", [], []];
-// Whether an example is shown, whether text may be typed over what the box cannot show, and whether digits change bytes.
-let [isExample, mayEdit, isEditing] = [false, false, false];
-// The name of the file that is shown; the file itself where it is too large to be shown whole; what the list of all bytes told; and
-// the address that was followed, as long as its bytes are shown.
-let [name, large, surveyed, followed] = ["", null, null, ""];
+// What was shown, by number, for Back; the text of the field as it came, with its CRs; what Back shows as one.
+const [states, field] = [new Map(), { raw: "", isFile: false }];
+let count = 0;
 
-const formName = () => FORMS[codec.form].toUpperCase();
-const total = () => (large ? large.size : codec.len);
+const link = () => linkOf({ bytes: input.source?.bytes, form: input.form, at: input.at === firstOffset() ? 0 : input.at, how: input.how === bestHow() ? "" : input.how });
+const firstOffset = () => (input.places.length ? input.places.offsets[0] : 0);
+const bestHow = () => guessesOf(input)[0]?.how ?? "utf-8";
 
-// Takes new bytes; a box that a person types in stays as it is. What else is known of them: `from`, the box; their form; what the
-// link keeps; whether they are an example; what Undo and Redo do; what to say; the name of their file, and the file itself where it is
-// shown in parts, with the offset at which this part begins; the place to show; and whether the list is that of the file already.
-async function take(bytes, given = {}) {
+// Takes an input. What else is known of it: `form`, `at`, `how`; the text of the field and for what it was `took`; whether it is an
+// example; and how it goes into the history: a new state, the one that is there, or as it is.
+async function take(source, { form = UTF8, at = null, how = "", text = null, way = "", took = "", isExample = false, keeps = "push", isDoubtful = false, changed = new Set(), note = [] } = {}) {
     const mine = ++turn;
-    codec.fill(bytes, given.form ?? codec.form);
-    [name, large, followed] = [given.called ?? "", given.file ?? null, ""];
-    offsets.base = given.base ?? 0;
-    if (!(await makeCut(mine))) return;
-    showBoxes(given);
-    showControls(given);
-    begin();
-    $("word").value = given.word ?? "";
-    view.layOut();
-    // (an example shows first what it is about)
-    view.choose(given.at ?? (given.example && cut.faults ? codec.validUpTo() : 0));
-    if (given.word) walk();
-    if (!given.keepList) surveyAll();
-    afterChange();
-}
-
-// Goes over the bytes; answers whether nothing else was asked for meanwhile.
-async function makeCut(mine) {
-    const isQuick = codec.len <= IN_BOXES;
-    $("reading").hidden = isQuick;
-    cut.clear();
-    const finished = cut.make(async (part) => {
-        $("bar").value = part;
-        await new Promise((done) => setTimeout(done));
-        return mine === turn;
-    });
-    Object.assign(view, { at: 0, left: null, changed: new Set() });
-    view.scroll.scrollTop = 0;
-    if (!isQuick) view.layOut();
-    await finished;
-    if (mine === turn) $("reading").hidden = true;
-    return mine === turn;
-}
-
-// The boxes, and what stands below them.
-function showBoxes({ from, note = "", took = "" }) {
-    if (from !== "text") {
-        showText();
-        mayEdit = false;
-    }
-    if (from !== "hex") showHex();
-    showTook(from === "hex" ? took : "");
-    $("file-note").textContent = note;
-    for (const id of ["hex-trouble", "copied", "went", "text-note"]) $(id).textContent = "";
-    $("hex").setAttribute("aria-invalid", "false");
-    for (const id of ["text-warning", "text-offer"]) $(id).hidden = true;
-}
-
-// What can be done with the bytes, and how they are read.
-function showControls({ isByByte = $("by-byte").checked, example = false, undo = [], redo = [] }) {
-    const { form } = codec;
+    document.documentElement.dataset.state = "reading";
+    helper.stop("survey");
+    Object.assign(input, { source, size: source.size, form, places: new Places(), found: null, guess: null, how: how || "utf-8", at: 0, isExample, wantedHow: how, wantedAt: at, hasChosen: false });
+    Object.assign(grid, { changed, taken: null });
+    // (no row is left of what was listed before)
+    list.show(true);
     $("form").value = form;
-    $("text-form").textContent = formName();
-    $("by-byte-row").hidden = form !== UTF8;
-    $("by-byte").checked = view.isByByte = isByByte && form === UTF8;
-    $("damaged").textContent = large ? "A file that is shown in parts is not changed here." : TO_CHANGE;
-    $("parts").hidden = !large;
-    isExample = example;
-    setUndo(undo, redo);
-    setEditing(isEditing && !large);
+    field.raw = text ?? "";
+    showField({ text, way, took, isDoubtful, note });
+    keepState(keeps, { text, way, took, isExample });
+    $("trouble-part").hidden = true;
+    showParts();
+    grid.frame.scrollTop = 0;
+    grid.draw();
+    await survey(mine);
 }
 
-// What follows every change of the bytes.
-function afterChange() {
-    showTotals();
-    showRead();
-    showOthers();
-    recode();
-    keepInLink();
+// Whether there is something to show below the field.
+function showParts() {
+    const hasBytes = input.size > 0;
+    for (const id of ["grid-part", "why", "copying"]) $(id).hidden = !hasBytes;
+    $("sum").hidden = !hasBytes;
+    if (hasBytes) return;
+    for (const id of ["guess-part", "list-part", "strip"]) $(id).hidden = true;
 }
 
-function showTotals() {
-    const [count, faults] = large ? [surveyed?.count, surveyed?.faults] : [cut.count, cut.faults];
-    const told = count === undefined ? "" : `: ${counted(count - faults, "character")} and ${faults ? counted(faults, "invalid byte") : "no invalid byte"}`;
-    $("totals").textContent = `${counted(total(), "byte")}${told}.`;
+// Walks over all bytes: at once, or beside the page, and shows what is found as it is found.
+async function survey(mine) {
+    const { codec, form, source } = input;
+    if (!source.isFile && source.size <= AT_ONCE) {
+        const made = new Survey(codec, form, { size: source.size, evidence: new Evidence() });
+        made.take(source.bytes, true);
+        hear(made.news(true), mine);
+        return;
+    }
+    showAll();
+    try {
+        // (the first places are shown before a worker has begun)
+        const head = new Survey(codec, form, { size: source.size });
+        head.take(await source.read(0, Math.min(HEAD, source.size)), false);
+        hear(head.news(false), mine);
+        const last = await helper.ask("survey", { form, source: source.blob }, (news) => hear(news, mine));
+        if (last) hear(last, mine);
+    } catch {
+        if (mine === turn) tellUnread();
+    }
 }
 
-function showRead() {
-    $("read").replaceChildren(...withNames(view.isByByte ? readByByte(cut.otherwise, codec.names) : "", true));
+// Takes what a survey tells; the first places are shown at once.
+function hear(news, mine) {
+    if (mine !== turn) return;
+    const isFirst = !input.places.length;
+    input.places.take(news.part);
+    input.found = news;
+    input.read = news.read;
+    if (news.isLast) settle(news);
+    else showAll();
+    if (isFirst && input.places.length) list.show(true);
+    else list.show(isFirst && news.isLast);
+    if ((isFirst && input.places.length && input.wantedAt === null) || (news.isLast && !input.hasChosen)) choose(input.wantedAt ?? firstOffset(), { isNew: false });
+    else if (news.isLast) choose(input.at, { isNew: false });
+    if (news.isLast) document.documentElement.dataset.state = "shown";
 }
 
-function readOtherwise() {
-    view.isByByte = $("by-byte").checked;
-    showRead();
-    keepInLink();
-    view.draw();
-    view.tell(view.at);
+// Once all is read: the guess, and what it makes of the bytes.
+async function settle(news) {
+    const { codec, source, form } = input;
+    input.guess = news.guess ?? guessAt(codec, source.atHand(0, Math.min(source.size, SAMPLED)) ?? (await source.read(0, SAMPLED)), source.size);
+    const first = firstOffset();
+    const sample = source.atHand(Math.max(first - SAMPLE / 4, 0), Math.min(first + SAMPLE, source.size));
+    if (sample) Object.assign(input, likeliest(sample));
+    input.how = input.wantedHow || (form === UTF8 ? bestHow() : FORMS[form]);
+    showAll();
 }
 
-// Where the chosen byte lies. What this is written on stays in view.
-function showHere() {
-    const size = total();
-    const line = large || !codec.len ? "" : lineAt(view.at);
-    const where = codec.len ? `offset ${offsetText(view.at)} of ${offsets.isHex ? `0x${size.toString(16)}` : size}${line}` : NO_BYTES;
-    const bar = element("span", "file", {}, name);
-    $("here").replaceChildren(...(name ? [bar, " "] : []), where[0].toUpperCase() + where.slice(1));
+// The finding, the guesses and the strip.
+function showAll() {
+    input.isExample = input.isExample && field.isExample;
+    showFinding(input);
+    put("meta", ...metaOf(input));
+    showGuesses(input, use);
+    strip.show(grid.perRow);
+    showReading();
+    showCopying();
+    explore.show();
 }
 
-function lineAt(place) {
-    const survey = new Survey(codec, codec.form);
-    survey.walk(0, cut.at(place).place);
-    return `, line ${survey.line}, column ${survey.column}`;
+function showReading() {
+    const { found, size } = input;
+    const isReading = size > 0 && !found?.isLast && (input.source.isFile || size > AT_ONCE);
+    $("reading").hidden = !isReading;
+    if (isReading) $("bar").value = (found?.read ?? 0) / size;
+    if (input.source?.isFile || field.isFile) $("file-note").textContent = `${sizeText(size)}${found?.isLast ? ", read to the end" : isReading ? `, ${Math.floor((100 * (found?.read ?? 0)) / size)} % read` : ""}`;
 }
 
-// A text in which each name of an error tells its sentence on hover and, where it can have the focus, on focus.
-function withNames(text, canFocus) {
-    return text.split(ERROR_NAMES).filter((it) => it).map((part) => {
-        if (!ERROR_NAMES.test(part)) return document.createTextNode(part);
-        return element("abbr", "name", { title: why(codec, part), ...(canFocus ? { tabindex: "0", "aria-label": `${part}: ${why(codec, part)}`, role: "note" } : {}) }, part);
-    });
+function showCopying() {
+    const { found, source, size } = input;
+    const isRead = Boolean(found?.isLast && size);
+    const isLinked = !source?.isFile && size <= IN_LINK;
+    const isShort = size <= COPIED;
+    for (const [id, isOn] of [["copy-text", isRead && isShort], ["copy-bytes", isShort], ["copy-report", isRead], ["copy-link", isLinked], ["save-text", isRead]]) $(id).disabled = !isOn;
+    $("copy-note").textContent = !size || isLinked ? "" : isShort ? "(no link: 48 kB fit)" : "(too large: save it)";
 }
 
-// Boxes.
-
-// The text of a piece, for boxes.
-const textOf = (piece) => (piece.kind === OK ? String.fromCodePoint(piece.scalar) : "\ufffd");
-const isLong = () => codec.len > IN_BOXES || large;
-
-function showText() {
-    $("text").value = isLong() ? "" : cut.between(0, codec.len).map(textOf).join("");
-    $("text").placeholder = isLong() ? "More than this box shows." : "";
+// Chooses the character or place that has an offset, in the grid, the explanation and the list.
+async function choose(offset, { isNew = true, isKept = true } = {}) {
+    const { codec, form, source, size, places } = input;
+    if (!size) return;
+    const mine = turn;
+    const at = Math.max(Math.min(offset, size - 1), 0);
+    const end = Math.min(at + 8, size);
+    const [from, to] = around(at, end, size);
+    let bytes = source.atHand(from, to);
+    try {
+        bytes ??= await source.read(from, to);
+    } catch {
+        return tellUnread();
+    }
+    if (mine !== turn) return;
+    const groups = groupsOf(codec, form, bytes, from, at, at + 1, places);
+    const group = groups.find((it) => it.offset <= at && at < it.offset + it.length);
+    if (!group) return;
+    Object.assign(input, { at: group.offset, hasChosen: true });
+    grid.choose(group, isNew);
+    const [first, last] = around(group.offset, Math.min(group.offset + group.length, group.offset + 16), size);
+    explain(input, group, source.atHand(first, last) ?? bytes, source.atHand(first, last) ? first : from, step);
+    list.point(group.isFault ? group : null);
+    strip.point();
+    explore.point();
+    showSum(group);
+    if (document.activeElement !== $("offset")) $("offset").value = offsets.isHex ? `0x${group.offset.toString(16).toUpperCase()}` : number(group.offset);
+    if (isKept && input.found?.isLast) keepPlace();
 }
 
-function showHex() {
-    $("hex").value = isLong() ? "" : hexOf(codec.bytes);
-    $("hex").placeholder = isLong() ? "More than this box shows." : "";
-    $("reader").value = "";
+function showSum(group) {
+    const total = input.found?.places ?? 0;
+    const said = group.isFault ? $("why").querySelector("#why-title") : null;
+    const row = group.isFault && group.number >= 0 ? list.frame.querySelector(`[data-number="${group.number}"]`)?.children[1]?.textContent : "";
+    put("sum-text", element("b", "", {}, total ? `${group.isFault && group.number >= 0 ? number(group.number + 1) : "–"} of ${number(total)}` : "No invalid byte"), ` · offset ${said ? said.textContent.replace("Offset ", "") : number(group.offset)}`, element("br"), row || (group.isFault ? "invalid" : "valid"));
+    for (const id of ["sum-before", "sum-next"]) $(id).disabled = !total;
 }
 
-function showTook(took) {
-    $("took").textContent = took && `Taken for ${took}.`;
-    $("took-row").hidden = !took;
+// To the next place, or the one before; at an end it begins again.
+function step(by) {
+    const { places, at } = input;
+    const last = places.length - 1;
+    if (last < 0) return void ($("went").textContent = input.found?.isLast ? "There is no invalid byte." : "");
+    const here = places.before(at);
+    const isOn = here >= 0 && at < places.offsets[here] + places.lengths[here];
+    let to = by > 0 ? here + 1 : isOn ? here - 1 : here;
+    const isOver = to > last || to < 0;
+    if (isOver) to = by > 0 ? 0 : last;
+    $("went").textContent = isOver ? (last === 0 ? "There is no other place." : by > 0 ? "The first one again." : "The last one.") : "";
+    choose(places.offsets[to]);
 }
 
-function typeHex() {
-    const { bytes, told, note, took } = bytesOf($("hex").value, $("reader").value);
-    $("hex").setAttribute("aria-invalid", String(!bytes));
-    if (bytes) return take(bytes, { from: "hex", note, took });
-    $("hex-trouble").textContent = told;
-    $("took").textContent = "";
-    // (what cannot be read may be read otherwise)
-    $("took-row").hidden = false;
+// Reads the input by a guess; another encoding of the bytes fills the grid again.
+function use(how) {
+    const form = formOf(how);
+    const { source, isExample } = input;
+    if (form !== input.form) return take(source, { ...fieldState(), form, how: form === UTF8 ? how : "", isExample });
+    input.how = how;
+    keepState("push", fieldState());
+    showGuesses(input, use);
+    $("guess").querySelector("[aria-pressed=true]")?.focus();
 }
 
-// Of more bytes than fit their first ones, up to the end of a character; and what to say of it.
-function fitted(bytes, form) {
-    if (bytes.length <= MOST) return { bytes, note: "" };
-    codec.fill(bytes.subarray(0, MOST + SEEN), form);
-    const end = codec.boundary(MOST);
-    return { bytes: bytes.slice(0, end), note: `The text is longer than 10 MB: its first ${counted(end, "byte")} are shown.` };
+const fieldState = () => ({ text: field.isFile ? null : field.raw, way: $("as").value, took: $("took").textContent, isExample: field.isExample });
+
+// The history.
+
+function keepState(keeps, { text, way, took, isExample }) {
+    if (keeps === "none") return;
+    if (keeps === "push") count = Math.max(count, history.state?.number ?? 0) + 1;
+    const { source, form, how } = input;
+    states.set(count, { source, form, how, text, way, took, isExample, at: null });
+    const address = link() || location.pathname + location.search;
+    history[keeps === "push" ? "pushState" : "replaceState"]({ number: count }, "", address);
 }
 
-// The bytes of text: its units, least byte first, recoded by the module. UTF-8 has no bytes for a lone surrogate; UTF-16 keeps it.
-function encoded(text, form) {
-    const units = new Uint16Array(Math.min(text.length, MOST + SEEN));
-    for (let i = 0; i < units.length; i++) units[i] = text.charCodeAt(i);
-    const bytes = new Uint8Array(units.buffer);
-    if (form === UTF16LE) return { bytes, lost: 0 };
-    if (form === UTF16BE) return { bytes: bytes.map((_, i) => bytes[i ^ 1]), lost: 0 };
-    const [chunks, state] = [[], codec.newRecoder(UTF16LE, UTF8)];
-    if (codec.feed(state, bytes, chunks, { most: MOST + SEEN }).at === bytes.length) codec.finish(state, chunks);
-    return { bytes: joined(chunks), lost: codec.replacedBy(state) };
+function keepPlace() {
+    const kept = states.get(history.state?.number);
+    if (kept) Object.assign(kept, { at: input.at, how: input.how });
+    const address = link();
+    if (address && address !== location.hash) history.replaceState(history.state, "", address);
 }
 
-// Takes text as it was typed, pasted or dropped, also what the box shows otherwise: a CR, and a lone surrogate.
-async function takeText(text, { from = "text", form = codec.form } = {}) {
-    // (what was typed over a byte goes with the bytes; what text replaced stays)
-    const undo = cut.faults && codec.len <= IN_BOXES ? [...undoable, codec.bytes.slice()] : undoable.filter((it) => it instanceof Uint8Array);
-    const made = encoded(text, form);
-    const { bytes, note } = fitted(made.bytes, form);
-    // (browsers lay out a long text for seconds: the box then shows none)
-    const isHuge = text.length > IN_TEXT;
-    if (isHuge) $("text").value = "";
-    await take(bytes, { from: isHuge ? "" : from, form, note, undo });
+function goBack(event) {
+    const kept = states.get(event.state?.number);
+    count = event.state?.number ?? count;
+    if (kept) take(kept.source, { ...kept, keeps: "none" });
+    else follow();
+}
+
+// Shows what the address says, or the first example.
+async function follow() {
+    const said = linked(location.hash);
+    const keeps = "replace";
+    if (said?.bytes) return take(new Source(said.bytes), { form: said.form, at: said.at, how: said.how, text: hexText(said.bytes), way: "hexadecimal", took: "hexadecimal", keeps });
+    await showExample(EXAMPLES[0], keeps);
+    if (said?.told) showNote(`The link has no good bytes: an example is shown. ${said.told.split(".")[0]}.`);
+}
+
+const hexText = (bytes) => (bytes.length * 3 > IN_FIELD ? null : hexOf(bytes).toLowerCase());
+
+// The field.
+
+function showField({ text, way, took, isDoubtful, note }) {
+    field.isFile = text === null;
+    $("field-part").hidden = field.isFile;
+    $("file-line").hidden = !field.isFile;
+    $("file-name").textContent = shown(input.source.name || (field.isFile ? "Pasted bytes" : ""));
+    if (!field.isFile && $("box").value !== text.replace(/\r\n?/g, "\n")) $("box").value = text;
+    $("box").removeAttribute("aria-invalid");
+    $("as").value = way in WAYS ? way : "";
+    $("took").textContent = took;
+    $("as").options[0].textContent = took && took !== "text" && !(way in WAYS) ? took : way in WAYS ? "automatic" : "what it looks like";
+    $("doubt").hidden = !isDoubtful;
+    put("note", ...note);
+}
+
+function showNote(told) {
+    put("note", told);
+}
+
+// Reads the text of the field, and shows what it is; what cannot be read says so, and nothing old is shown.
+function readField(text, { way = "", keeps = "push", isExample = false, at = null } = {}) {
+    field.isExample = isExample;
+    const made = reading(input.codec, text, way);
+    if (!made.bytes) return refuse(text, made, keeps);
+    const isChosen = way !== "";
+    const notes = [(made.note ?? "").replace("Offsets and the text column are left out.", "").trim(), ...lossOf(text, made)].filter((it) => it);
+    const isHuge = text.length > IN_FIELD;
+    return take(new Source(made.bytes), { text: isHuge ? null : text, way: isChosen || made.way in WAYS ? made.way : "", took: made.took, isDoubtful: made.isDoubtful, isExample, keeps, at, note: notes });
+}
+
+// What a text has that its bytes, or the field, do not show.
+function lossOf(text, { way, lost }) {
+    if (way !== "text") return [];
     const returns = (text.match(/\r/g) ?? []).length;
-    const lost = made.lost && `${counted(made.lost, "lone surrogate")}, which UTF-8 cannot have, became U+FFFD. `;
-    const kept = returns && `${counted(returns, "carriage return")} (CR) of the text ${returns === 1 ? "is" : "are"} kept; the box does not show ${returns === 1 ? "it" : "them"}.`;
-    $("text-note").replaceChildren(lost || "", ...(lost ? [asUtf16(text)] : []), kept || "");
-    $("text-offer").hidden = text.length > IN_BOXES || !looksLikeBytes(text);
+    const kept = returns ? `${counted(returns, "carriage return")} (CR) of the text ${returns === 1 ? "is" : "are"} kept. ` : "";
+    const asUtf16 = () => take(new Source(encoded(input.codec, text, UTF16LE).bytes), { form: UTF16LE, text, way: "text", took: "text" });
+    const gone = lost ? [`${counted(lost, "lone surrogate")}, which UTF-8 cannot have, became U+FFFD. `, button("Take it as UTF-16", asUtf16, {}, "t")] : [];
+    return [kept, ...gone, ...(text.includes("\ufffd") ? [`The text has U+FFFD in it: its bytes were lost before it was copied. Open the file itself, or paste its bytes.`] : [])];
 }
 
-function asUtf16(text) {
-    const button = element("button", "", { type: "button" }, "Take it as UTF-16");
-    button.addEventListener("click", () => takeText(text, { from: "", form: UTF16LE }));
-    return button;
+function refuse(text, { told, way }, keeps) {
+    turn++;
+    helper.stop("survey");
+    Object.assign(input, { source: new Source(new Uint8Array(0)), size: 0, places: new Places(), found: null, guess: null, isExample: false });
+    list.show(true);
+    field.raw = text;
+    showField({ text, way, took: "", isDoubtful: false, note: [] });
+    $("box").setAttribute("aria-invalid", "true");
+    showParts();
+    showTrouble(`${told}.`);
+    put("meta", "Choose another reading beside “Taken as”, or mend the text.");
+    keepState(keeps, { text, way, took: "", isExample: false });
+    document.documentElement.dataset.state = "refused";
 }
 
-const typeText = () => takeText($("text").value);
+const showExample = (example, keeps = "push") => {
+    field.isExample = true;
+    if (!example.bytes) return readField(boxOf(example), { isExample: true, keeps });
+    return take(new Source(Uint8Array.from(example.bytes()), example.file), { isExample: true, keeps });
+};
 
-// What pasted text is, before the box makes an LF of each CR, and U+FFFD of each lone surrogate.
-function pasteText(event) {
-    const pasted = event.clipboardData?.getData("text/plain") ?? "";
-    const box = $("text");
-    if (!/\r|[\ud800-\udfff]/.test(pasted) || (isGuarded() && !mayEdit)) return;
-    event.preventDefault();
-    takeText(box.value.slice(0, box.selectionStart) + pasted + box.value.slice(box.selectionEnd), { from: "" });
+function clear() {
+    files.clear();
+    field.isExample = false;
+    const made = take(new Source(new Uint8Array(0)), { text: "", keeps: "push" });
+    $("box").focus();
+    return made;
 }
 
-// Whether the box shows something else than the bytes, and not all of it is replaced.
-function isGuarded() {
-    const box = $("text");
-    const isWhole = box.value && box.selectionStart === 0 && box.selectionEnd === box.value.length;
-    return !isWhole && (cut.faults > 0 || isLong() || codec.bytes.includes(0x0d));
-}
+// Files, and what is pasted or dropped.
 
-// Before text is typed where the box shows something else than the bytes, a person is asked.
-function guardText(event) {
-    if (!isGuarded() || mayEdit) return;
-    event.preventDefault();
-    const one = cut.faults === 1;
-    $("text-warned").textContent = isLong() ? "Typing here replaces the bytes that are shown below."
-        : cut.faults ? `The box shows ${counted(cut.faults, "invalid byte")} as U+FFFD. Editing the text replaces ${one ? "it" : "them"} by U+FFFD itself, ef bf bd. Undo brings the bytes back.`
-        : "The text has carriage returns (CR), which the box does not show. Editing the text takes them out.";
-    $("text-warning").hidden = false;
-}
-
-// Files.
-
-// Reads a Blob, and tells how far it is; null where something else was asked for meanwhile.
-async function read(blob) {
-    const mine = ++turn;
-    const bytes = new Uint8Array(blob.size);
-    $("reading").hidden = false;
-    for (let at = 0; at < bytes.length; at += 1 << 20) {
-        bytes.set(new Uint8Array(await blob.slice(at, at + (1 << 20)).arrayBuffer()), at);
-        $("bar").value = at / bytes.length;
-        if (mine !== turn) return null;
-    }
-    return bytes;
-}
-
-async function open(file) {
-    if (!file) return;
-    if (file.size > MOST) return showPart(file, 0, false);
-    try {
-        const bytes = await read(file);
-        if (bytes) await take(bytes, { from: "file", called: file.name, note: `${file.name}.` });
-    } catch {
-        tellUnread(file);
-    }
-}
-
-// Where a part of a large file ends that should end about there: after a character, where one is near, so that all invalid bytes of the
-// part have the reason that they have in the file.
-async function edgeOf(file, at, form) {
-    if (at <= 0 || at >= file.size) return Math.max(Math.min(at, file.size), 0);
-    const from = at - EDGE;
-    const bytes = new Uint8Array(await file.slice(from, at + SEEN).arrayBuffer());
-    return from + aside(bytes, form, edge);
-}
-
-// What a call tells of other bytes than those that are shown, which stand in the module again after it: they are drawn meanwhile.
-function aside(bytes, form, call) {
-    const [shown, its] = [codec.bytes.slice(), codec.form];
-    codec.fill(bytes, form);
-    const told = call();
-    codec.fill(shown, its);
-    return told;
-}
-
-// The end of the last character up to EDGE, or a boundary.
-function edge() {
-    const near = codec.pieces(codec.boundary(SEEN), EDGE).filter((it) => it.kind === OK && it.place + it.len <= EDGE);
-    const last = near[near.length - 1];
-    return last ? last.place + last.len : codec.boundary(EDGE);
-}
-
-// Shows the part of a large file that has an offset.
-async function showPart(file, place, keepList = true, form = codec.form) {
-    const mine = ++turn;
-    try {
-        let number = Math.floor(place / PART);
-        let [start, end] = [await edgeOf(file, number * PART, form), await edgeOf(file, (number + 1) * PART, form)];
-        // (the offset may lie between the end of a part and where it should be)
-        if (end <= place) [number, start, end] = [number + 1, end, await edgeOf(file, (number + 2) * PART, form)];
-        const bytes = mine === turn && (await read(file.slice(start, end)));
-        if (!bytes) return;
-        const note = `${file.name}: part ${(number + 1).toLocaleString("en")} of ${Math.ceil(file.size / PART).toLocaleString("en")} is shown, offsets ${start} to ${end - 1}. The list below is of the whole file.`;
-        await take(bytes, { from: "file", form, called: file.name, file, base: start, note, at: place - start, keepList });
-        [$("earlier").disabled, $("later").disabled] = [start === 0, end >= file.size];
-    } catch {
-        tellUnread(file);
-    }
-}
-
-// Shows one of some files that came together, with a button for each of the others.
-function openOne(files, which) {
-    open(files[which]);
-    $("together").hidden = files.length < 2;
-    if (files.length < 2) return;
-    const offered = files.slice(0, MOST_FILES).map((file, i) => {
-        const button = element("button", "file", { type: "button", "aria-pressed": String(i === which) }, file.name);
-        button.addEventListener("click", () => openOne(files, i));
-        return button;
-    });
-    const more = files.length - offered.length;
-    const told = element("span", "note", {}, `${counted(files.length, "file")} were dropped, and one at a time is shown:`);
-    const all = [told, ...offered, ...(more ? [element("span", "note", {}, `and ${more} more, which you can drop by themselves`)] : [])];
-    $("together").replaceChildren(...all.flatMap((it) => [it, " "]));
-}
-
-function tellUnread(file) {
+// Ends the walk; what was found so far stays.
+function stop() {
+    helper.stop("survey");
     $("reading").hidden = true;
-    $("file-note").textContent = `${file.name} could not be read.`;
+    $("file-note").textContent = `${sizeText(input.size)}, stopped after ${sizeText(input.found?.read ?? 0)}`;
+    document.documentElement.dataset.state = "shown";
 }
 
-// A file is opened wherever it is dropped. Text that is dropped into a box is the box's; elsewhere it is taken as typed.
-function dropped(event) {
-    document.body.classList.remove("dropping");
-    const given = event.dataTransfer;
-    if (given.files.length) {
-        event.preventDefault();
-        openOne([...given.files], 0);
-    } else if (!event.target.closest?.("textarea, input")) {
-        event.preventDefault();
-        const text = given.getData("text/plain");
-        if (text) takeText(text, { from: "" });
-    }
-}
-
-// The list of all invalid bytes. Short input is gone over at once, long input by the worker.
-async function surveyAll() {
-    const [mine, form] = [turn, codec.form];
-    surveyed = null;
-    if (!large && codec.len <= AT_ONCE) {
-        const survey = new Survey(codec, form);
-        survey.take(codec.bytes, true);
-        helper.stop("survey");
-        return showSurvey(survey.result);
-    }
-    list.clear();
-    $("surveying").hidden = false;
-    $("surveyed").value = 0;
-    $("faults-note").textContent = "";
+// Small files are in memory, so that a link can hold them.
+async function open(file) {
+    field.isExample = false;
+    const mine = ++turn;
     try {
-        const source = large ?? new Blob([codec.bytes]);
-        const found = await helper.ask("survey", { form, source }, (part) => ($("surveyed").value = part));
-        if (found && (mine === turn || source === large)) showSurvey(found);
-    } catch (error) {
-        $("surveying").hidden = true;
-        $("faults-note").textContent = `The bytes could not be gone over: ${error.message}.`;
+        const given = file.size <= AT_ONCE ? new Uint8Array(await file.arrayBuffer()) : file;
+        if (mine === turn) return await take(new Source(given, file.name));
+    } catch {
+        input.source = new Source(new Blob(), file.name);
+        tellUnread();
     }
 }
 
-function showSurvey(found) {
-    surveyed = found;
-    $("surveying").hidden = true;
-    list.show(found, name);
-    showTotals();
-    showOthers();
+function openAll(given) {
+    const all = [...given];
+    if (!all.length) return;
+    if (all.length > 1) files.show(all);
+    else files.clear();
+    return open(all[0]);
 }
 
-// Links.
+function tellUnread() {
+    turn++;
+    $("trouble-part").hidden = false;
+    $("trouble-text").textContent = `${shown(input.source?.name || "The input")} cannot be read: it was changed or removed.`;
+    $("reading").hidden = true;
+}
 
-function keepInLink() {
-    if (followed && followed === location.hash) return;
-    const kept = large ? "" : linkOf({ bytes: codec.bytes, form: codec.form, word: taken, isByByte: view.isByByte });
-    history.replaceState(null, "", kept || location.pathname + location.search);
+// Takes what the clipboard or a drop has. A picture alone gets a sentence.
+function takeData(data) {
+    const text = data.getData("text/plain");
+    const given = [...data.files];
+    if (text) return readField(text);
+    const isPicture = given.length && given.every((it) => it.type.startsWith("image/")) && given.every((it) => /^image\.\w+$/.test(it.name));
+    if (isPicture) return refusePicture();
+    if (given.length) return openAll(given);
+    if (data.getData("text/html") || [...data.types].length) showNote("The clipboard has no text and no file.");
+}
+
+function refusePicture() {
+    showNote("A picture was pasted, and this page reads no text in pictures. Copy the text or the dump itself, or open the picture’s file to see its bytes.");
+    $("said").textContent = $("note").textContent;
+}
+
+const isField = (target) => Boolean(target?.closest?.("input, textarea, select, [contenteditable]"));
+
+function paste(event) {
+    if (isField(event.target) && event.target !== $("box")) return;
+    const box = $("box");
+    const isWhole = box.selectionStart === 0 && box.selectionEnd === box.value.length;
+    if (event.target === box && !field.isExample && box.value && !isWhole) return;
+    event.preventDefault();
+    takeData(event.clipboardData);
+}
+
+function drop(event) {
+    document.body.classList.remove("dropping");
+    if (!event.dataTransfer.files.length && isField(event.target)) return;
+    event.preventDefault();
+    if (event.dataTransfer.files.length) openAll(event.dataTransfer.files);
+    else takeData(event.dataTransfer);
+}
+
+// Copies and saves.
+
+async function told(isDone, text) {
+    $("copied").textContent = isDone ? text : "The browser did not allow it.";
+}
+
+async function repairedText() {
+    const parts = [];
+    for await (const it of repairedOf(input.codec, input.form, input.source.blob, input.how)) parts.push(it);
+    return parts.join("");
+}
+
+async function copyText() {
+    const text = await repairedText();
+    await told(await copy(text), `Copied, ${counted(Array.from(text).length, "character")}`);
+}
+
+async function copyBytes() {
+    const bytes = await input.source.read(0, input.size);
+    await told(await copy(hexOf(bytes).toLowerCase()), `Copied, ${counted(input.size, "byte")} in hexadecimal`);
+}
+
+async function copyReport() {
+    const address = link() && `${location.origin === "null" ? "" : location.origin}${location.pathname}${link()}`;
+    await told(await copy(await reportOf(input, address)), "Copied, as Markdown");
 }
 
 async function copyLink() {
-    if (large || codec.len > IN_LINK) return ($("copied").textContent = "A link keeps no more than 48 kB of input.");
-    let isCopied = true;
-    try {
-        await navigator.clipboard.writeText(location.href);
-    } catch {
-        const box = element("textarea", "out-of-sight", {}, location.href);
-        document.body.append(box);
-        box.select();
-        isCopied = document.execCommand("copy");
-        box.remove();
-        $("copy").focus();
+    const address = location.href.replace(/#.*$/, "") + linkOf({ bytes: input.source.bytes, form: input.form, at: input.at, how: input.how === bestHow() ? "" : input.how });
+    await told(await copy(address), "Copied, with the chosen place");
+}
+
+const stem = () => (input.source.name || "input").replace(/(\.[^.]*)?$/, "");
+async function saveText() {
+    const name = `${stem()}.repaired${input.source.name.match(/\.[^.]*$/)?.[0] ?? ".txt"}`;
+    if (!input.source.isFile) return saveAs(name, [await repairedText()], "text/plain");
+    const made = await helper.ask("repair", { form: input.form, how: input.how, source: input.source.blob }, ({ part }) => ($("copied").textContent = `Repaired, ${Math.floor(part * 100)} %`));
+    if (made) saveAs(name, [made], "text/plain");
+    $("copied").textContent = made ? "Saved" : "";
+}
+
+// Keys.
+
+function closeExplore() {
+    $("explore").open = false;
+    $("explore").querySelector("summary").focus();
+}
+
+function press(event) {
+    const { key, target } = event;
+    if (event.ctrlKey || event.metaKey || event.altKey) return;
+    if (key === "Escape") {
+        if (target.closest?.("#explore") && $("explore").open) closeExplore();
+        else if (isField(target)) target.blur();
+        document.body.classList.remove("dropping");
+        return;
     }
-    $("copied").textContent = isCopied ? "The link is copied." : "The browser did not allow it; copy the address instead.";
-}
-
-// Shows what the address says, or an example.
-async function followLink() {
-    const hash = location.hash;
-    const said = linked(hash);
-    const { bytes, told, word, isByByte, form } = said ?? {};
-    await (bytes ? take(bytes, { form, word, isByByte }) : take(Uint8Array.from(EXAMPLES[0][1]), { form: UTF8, example: true }));
-    if (told) $("hex-trouble").textContent = `The link has no good bytes: an example is shown. ${told.split(".")[0]}.`;
-    // (an address that keeps more than the page puts into one stays, as long as its bytes do)
-    if (bytes && codec.len > IN_LINK && !location.hash) {
-        followed = hash;
-        history.replaceState(null, "", hash);
-    }
-}
-
-// Places.
-
-const range = () => (total() ? `Offsets go from ${offsets.isHex ? "0x0" : 0} to ${offsets.isHex ? `0x${(total() - 1).toString(16)}` : total() - 1}.` : NO_BYTES);
-
-// Shows an offset of the whole input.
-async function show(offset) {
-    const place = offset - offsets.base;
-    if (place >= 0 && place < codec.len) view.choose(place);
-    else if (large) await showPart(large, offset);
-}
-
-async function goTo(event) {
-    event.preventDefault();
-    const offset = offsetOf($("offset").value);
-    const isThere = offset < total();
-    if (isThere) await show(offset);
-    $("went").textContent = isThere ? "" : range();
-    if (isThere) $("pieces").focus({ preventScroll: true });
-}
-
-// From the chosen place on, and after the end from the front again.
-async function nextFault() {
-    const here = offsets.base + view.at;
-    const inPart = cut.nextFault(view.at);
-    let found = inPart === null ? null : offsets.base + inPart;
-    if (found === null && large && !surveyed) return ($("went").textContent = "The file is still gone over; there is none after it in this part.");
-    if (found === null) found = large ? list.after(here) ?? list.after(-1) : codec.len && codec.validUpTo() < codec.len ? codec.validUpTo() : null;
-    const told = found === null ? "There is no invalid byte." : found === here ? "There is no other invalid byte." : found < here ? "The first one again: there is none after it." : "";
-    const shown = found === null ? null : show(found);
-    $("went").textContent = told;
-    await shown;
-    $("went").textContent = told;
-}
-
-// Damage.
-
-function setUndo(undo, redo = []) {
-    [undoable, redoable] = [undo, redo];
-    $("undo").disabled = !undo.length;
-    $("redo").disabled = !redo.length;
-}
-
-function setEditing(isOn) {
-    isEditing = isOn;
-    $("edit").setAttribute("aria-pressed", String(isOn));
-    $("edit").disabled = Boolean(large);
-    $("scroll").classList.toggle("editing", isOn);
-    dropDigit();
-}
-
-function change(place, byte, told = "") {
-    if (!$("reading").hidden || large) return;
-    const changed = cut.change(place, byte);
-    const near = cut.between(Math.max(place - 3, 0), place + 4).filter((it) => place - 3 <= it.place).length;
-    view.changed = new Set(changed.map((it) => it.place));
-    begin();
-    [isExample, mayEdit, followed] = [false, false, ""];
-    if (codec.len <= IN_BOXES) {
-        showText();
-        showHex();
-        showTook("");
-    }
-    view.choose(place);
-    const count = changed.length === 1 ? "1 block is new" : `${changed.length} blocks are new`;
-    $("damaged").textContent = `${told}${count}. There are never more than the ${near} that begin within three bytes before and after.`;
-    surveyAll();
-    afterChange();
-}
-
-// A change by a person: Undo takes it back, and what was undone before cannot be done again.
-function changeAnew(place, byte) {
-    if (large || !$("reading").hidden) return;
-    setUndo([...undoable, { place, byte: codec.bytes[place] }]);
-    change(place, byte);
-}
-
-// Does what stands last in one of both lists, and puts what takes it back into the other.
-function stepBack(isUndo) {
-    const [from, to] = isUndo ? [undoable, redoable] : [redoable, undoable];
-    const last = from[from.length - 1];
-    if (!last || !$("reading").hidden) return;
-    const isBytes = last instanceof Uint8Array;
-    const lists = [from.slice(0, -1), [...to, isBytes ? codec.bytes.slice() : { place: last.place, byte: codec.bytes[last.place] }]];
-    const [undo, redo] = isUndo ? lists : lists.reverse();
-    if (isBytes) return take(last, { undo, redo });
-    setUndo(undo, redo);
-    change(last.place, last.byte, `${isUndo ? "Undone" : "Done again"}: offset ${offsetText(last.place)} is ${hexByte(last.byte)}${isUndo ? " again" : ""}. `);
-}
-
-function clear() {
-    const bytes = codec.bytes.slice();
-    const undo = !large && bytes.length && bytes.length <= IN_BOXES ? [...undoable, bytes] : [];
-    take(new Uint8Array(0), { undo });
-    $("together").hidden = true;
-    $("text").focus();
-}
-
-function changeByForm(event) {
-    event.preventDefault();
-    const place = offsetOf($("place").value);
-    const { bytes } = bytesOf($("byte").value, "hexadecimal");
-    if (large) return;
-    if (!(place < codec.len)) $("damaged").textContent = range();
-    else if (bytes?.length !== 1) $("damaged").textContent = "A byte has two hexadecimal digits.";
-    else changeAnew(place, bytes[0]);
-}
-
-// The first of two digits goes with the byte that it was typed over.
-function dropDigit() {
-    if (typed) $("damaged").textContent = TO_CHANGE;
-    typed = "";
-}
-
-function typeDigit(key) {
-    if (!isEditing) return ($("damaged").textContent = "Nothing was changed: turn “Edit bytes” on to type over bytes.");
-    const digits = typed + key;
-    if (digits.length === 2) {
-        typed = "";
-        changeAnew(view.at, parseInt(digits, 16));
-    } else {
-        typed = digits;
-        $("damaged").textContent = `The first digit is ${typed}; type the second.`;
-    }
-}
-
-function typeOver(event) {
-    const key = event.key;
-    if (event.ctrlKey || event.metaKey) {
-        if (event.altKey || !/^[zy]$/i.test(key)) return;
-        stepBack(/^z$/i.test(key) && !event.shiftKey);
-    } else if (event.altKey) return;
-    else if (/^(Arrow\w+|Page\w+|Home|End)$/.test(key)) view.move(key);
-    else if (/^n$/i.test(key)) nextFault();
-    else if (/^[0-9a-f]$/i.test(key) && codec.len) typeDigit(key);
-    else if (key === "Escape") dropDigit();
+    if (isField(target) || !$("keys").checked) return;
+    if (key === "n" || key === "N") step(key === "N" ? -1 : 1);
+    else if (key === "g" || key === "G") $("offset").select();
     else return;
     event.preventDefault();
 }
 
-// Both ends.
-
-function begin() {
-    view.left = null;
-    [taken, $("word").value] = ["", ""];
-    $("answers").replaceChildren();
-    $("answered").textContent = TO_TAKE;
-    showLeft();
-}
-
-function showLeft() {
-    const { front, back } = view.left ?? { front: 0, back: codec.len };
-    const told = back - front === 1 ? `offset ${offsetText(front)}` : `offsets ${offsetText(front)}–${offsetText(back - 1)}`;
-    $("left").textContent = front < back ? `Remaining: ${counted(back - front, "byte")} (${told}).` : "Remaining: no byte.";
-}
-
-function step(letter) {
-    view.left ??= { front: 0, back: codec.len };
-    const piece = codec.step(letter, view.left);
-    const end = letter === "F" ? "Front" : "Back";
-    let told = `${end}: nothing is left.`;
-    if (piece.kind !== NONE) {
-        told = `${end}: ${sentence(piece, codec)}`;
-        const whole = cut.at(piece.place);
-        if (whole.kind !== piece.kind) told += ` Of all bytes, from the front, it is ${codec.names[whole.kind]}.`;
-        taken += letter;
+// Arrows and the like in the grid.
+function move(event) {
+    const { at, size } = input;
+    const row = grid.perRow;
+    const view = Math.max(Math.floor(grid.frame.clientHeight / 61) - 1, 1) * row;
+    if (event.key === "Enter") $("why").focus();
+    else if (event.altKey || event.metaKey || !size) return;
+    else {
+        const isFar = event.ctrlKey;
+        const end = grid.rows.count ? Number(grid.frame.querySelector(`[data-offset="${at}"]`)?.style.getPropertyValue("--k") || 1) : 1;
+        const to = { ArrowRight: at + end, ArrowLeft: at - 1, ArrowDown: at + row, ArrowUp: at - row, PageDown: at + view, PageUp: at - view,
+            Home: isFar ? 0 : at - (at % row), End: isFar ? size - 1 : at - (at % row) + row - 1 }[event.key];
+        if (to === undefined || (isFar && !/^(?:Home|End)$/.test(event.key))) return;
+        if (to >= 0 || at > 0) choose(Math.max(Math.min(to, size - 1), 0));
     }
-    $("answered").replaceChildren(...withNames(told, true));
-    const answers = $("answers");
-    if (answers.children.length < ANSWERS) {
-        answers.append(element("li"));
-        answers.lastChild.append(...withNames(told, false));
-    }
-    return piece;
+    event.preventDefault();
 }
 
-function stepOnce(letter) {
-    const piece = step(letter);
-    showLeft();
-    $("word").value = taken;
-    keepInLink();
-    if (piece.kind === NONE) view.draw();
-    else view.choose(piece.place);
-    $("answers").scrollTop = $("answers").scrollHeight;
-}
-
-function walk() {
-    const word = $("word").value.toUpperCase();
-    const wrong = word.match(/[^FB]/u);
-    begin();
-    $("word").value = word;
-    if (wrong) $("answered").textContent = `'${wrong[0]}' is neither F nor B.`;
-    else for (const letter of word) step(letter);
-    keepInLink();
-    showLeft();
-    view.draw();
-}
-
-// What others show, near the chosen byte, and recoding.
-
-let othersLater = null;
-
-function showOthers() {
-    if (othersLater !== null) cancelAnimationFrame(othersLater);
-    othersLater = requestAnimationFrame(drawOthers);
-}
-
-// What decoders call themselves, by form, for each invalid byte and for each maximal subpart.
-const DECODERS = {
-    singles: ["Here, and Go (range over a string)", "Here"],
-    subparts: ["Browsers (TextDecoder), Python (errors='replace'), Rust (from_utf8_lossy)", "Browsers (TextDecoder), Python (errors='replace'), Rust (String::from_utf16_lossy)"],
-};
-
-// A text in one line, with its emoji in colour: a control character is an arrow or a dot.
-function inLine(text) {
-    const plain = text.replace(/\n/g, "↵").replace(/[\0-\x1f]/g, "·");
-    return plain.split(/(\p{Emoji_Presentation}+)/u).map((it, i) => (i % 2 ? element("span", "emoji-text", {}, it) : it));
-}
-
-function drawOthers() {
-    othersLater = null;
-    const near = othersNear(codec, cut, view.at);
-    const counts = { singles: large ? surveyed?.faults : cut.faults, subparts: surveyed?.subparts };
-    const row = (who, texts, count) => {
-        // (on a small screen its rows are no boxes of a table: so they have their roles by name)
-        const made = element("tr", "", { role: "row" });
-        const shown = element("td", "text", { role: "cell" });
-        const [before, chosen, after] = texts.map(inLine);
-        const mark = element("mark");
-        mark.append(...chosen);
-        shown.append(near.isCut[0] ? "…" : "", ...before, mark, ...after, near.isCut[1] ? "…" : "");
-        made.append(element("th", "", { scope: "row", role: "rowheader" }, who), shown, element("td", "", { role: "cell" }, count === undefined ? "…" : count.toLocaleString("en")));
-        return made;
-    };
-    const isSame = counts.singles === counts.subparts && near.singles.join() === near.subparts.join();
-    const form = Math.min(codec.form, 1);
-    $("others-rows").replaceChildren(...(isSame ? [row("All of them", near.singles, counts.singles)] : ["singles", "subparts"].map((it) => row(DECODERS[it][form], near[it], counts[it]))));
-    const differ = counts.singles === counts.subparts ? "Both put in one U+FFFD for each invalid byte."
-        : "The characters are the same; one U+FFFD stands for each invalid byte, or for as many as could have begun a character.";
-    $("others-note").textContent = isSame ? "All decoders show the same text." : differ;
-}
-
-function firstShown() {
-    const last = codec.len > SHOWN ? cut.at(SHOWN).place : codec.len;
-    return codec.bytes.slice(0, last);
-}
-
-function recode() {
-    const part = firstShown();
-    FORMS.forEach((_, form) => {
-        const made = joined(codec.recode(codec.form, form, part));
-        $(`hex-${form}`).textContent = made.length ? hexOf(made) : "no bytes";
-        $(`more-${form}`).textContent = part.length < total() ? `The first ${part.length} bytes are shown; all are saved.` : `${counted(made.length, "byte")}.`;
-    });
-}
-
-async function save(form) {
-    const file = name ? `${name.replace(/\.[^.]*$/, "")}.${FORMS[form]}${name.match(/\.[^.]*$/)?.[0] ?? ""}` : `recoded.${FORMS[form]}.txt`;
-    if (!large) return saveAs(file, codec.recode(codec.form, form, codec.bytes), "application/octet-stream");
-    $("saving").hidden = false;
-    try {
-        const made = await helper.ask("recode", { form: codec.form, to: form, source: large }, (part) => ($("saved").value = part));
-        if (made) saveAs(file, [made], "application/octet-stream");
-    } catch (error) {
-        $("file-note").textContent = `It could not be recoded: ${error.message}.`;
-    }
-    $("saving").hidden = true;
+function goTo() {
+    const wanted = offsetOf($("offset").value.replace(/[,_ ]/g, ""));
+    const isThere = wanted < input.size;
+    $("went").textContent = isThere ? "" : `Offsets go from 0 to ${number(Math.max(input.size - 1, 0))}.`;
+    if (!isThere) return;
+    choose(wanted);
+    grid.frame.focus({ preventScroll: true });
 }
 
 // What is made once.
 
-function makeForms() {
-    FORMS.forEach((form, number) => {
-        const column = element("div");
-        const told = form.toUpperCase();
-        const title = element("h3", "", {}, told);
-        const button = element("button", "", { type: "button", "aria-label": `Save as ${told}` }, "Save");
-        button.addEventListener("click", () => save(number));
-        title.append(button);
-        column.append(title, element("pre", "", { id: `hex-${number}`, "aria-label": `${told}, bytes`, role: "group", tabindex: "0" }), element("p", "note", { id: `more-${number}` }));
-        $("recoded").append(column);
-    });
-}
-
 function makeExamples() {
-    for (const [told, bytes, how] of EXAMPLES) {
-        const button = element("button", "chip", { type: "button" }, told);
-        button.addEventListener("click", () => take(Uint8Array.from(bytes), { form: UTF8, ...how, example: true }));
-        $("examples").append(button);
-    }
+    const made = EXAMPLES.map((it, i) => button(it.name, () => showExample(it), i < FIRST ? {} : { hidden: "" }, "t"));
+    const more = button("more", () => {
+        for (const it of made) it.hidden = false;
+        more.hidden = true;
+        made[FIRST].focus();
+    }, { "aria-label": "More examples" }, "t");
+    $("examples").append(...made, more);
 }
 
-function makeLegend() {
-    const say = (mark, letters, ...told) => {
-        const item = element("li");
-        item.append(element("span", `piece ${mark}`, { "aria-hidden": "true" }, letters), ...told);
-        $("legend").append(item);
-    };
-    say("", "A", "A character of one byte.");
-    say("long", "é", "A character of two to four bytes.");
-    say("fault", "✕", "An invalid byte, one at a time. Two letters name its error:");
-    for (const it of codec.names.slice(1, 11)) say("fault", shortKind(it), element("b", "", {}, it), `: ${why(codec, it)}`);
-    say("changed", "A", "Underlined: new since a byte was changed.");
-    say("taken", "A", "Hatched: taken from the front or the back.");
-    const more = element("li");
-    more.append("The exact words: ", element("a", "", { href: "definitions.html" }, "definitions"), " and ", element("a", "", { href: "https://www.rfc-editor.org/rfc/rfc3629" }, "RFC 3629"), ".");
-    $("legend").append(more);
+function makeWays() {
+    for (const [way, name] of Object.entries(WAYS)) $("as").append(element("option", "", { value: way }, name));
+    for (const [form, name] of ENCODINGS.entries()) $("form").append(element("option", "", { value: form }, name));
 }
 
-function makeReaders() {
-    for (const it in READERS) $("reader").append(element("option", "", { value: it }, it === "dump" ? "a dump" : it));
-}
-
-// In an example a first click into the text chooses all of it, so that what is pasted takes its place.
-function chooseExample() {
-    let isNew = false;
-    $("text").addEventListener("pointerdown", () => (isNew = document.activeElement !== $("text")));
-    $("text").addEventListener("click", () => isNew && isExample && $("text").select());
-    $("text").addEventListener("focus", () => isExample && $("text").select());
-}
-
-// Reads the same bytes in another encoding.
-function changeForm() {
-    const form = Number($("form").value);
-    if (large) showPart(large, offsets.base + view.at, false, form);
-    else take(codec.bytes.slice(), { form, called: name, undo: undoable, redo: redoable, at: Math.min(view.at, Math.max(codec.len - 1, 0)) });
-}
-
-function tellInHex() {
-    offsets.isHex = $("in-hex").checked;
-    view.draw();
-    view.tell(view.at);
-    list.draw();
-    showRead();
-    showLeft();
-    showHere();
+function changeHex() {
+    offsets.isHex = !offsets.isHex;
+    $("hex").setAttribute("aria-pressed", String(offsets.isHex));
+    grid.draw();
+    list.show(false);
+    list.rows.draw(true);
+    showAll();
+    choose(input.at, { isNew: false });
 }
 
 function listen() {
     const on = (id, event, call) => $(id).addEventListener(event, call);
-    on("text", "beforeinput", guardText);
-    on("text", "paste", pasteText);
-    on("text", "input", typeText);
-    on("edit-anyway", "click", () => {
-        [mayEdit, $("text-warning").hidden] = [true, true];
-        $("text").focus();
-    });
-    on("as-bytes", "click", () => {
-        [$("hex").value, $("reader").value] = [$("text").value, ""];
-        typeHex();
-        $("hex").focus();
-    });
-    on("hex", "input", typeHex);
-    on("reader", "change", typeHex);
-    on("file", "change", () => {
-        $("together").hidden = true;
-        return open($("file").files[0]).then(() => ($("file").value = ""));
-    });
-    on("clear", "click", clear);
-    on("copy", "click", copyLink);
-    on("form", "change", changeForm);
-    on("in-hex", "change", tellInHex);
-    on("go", "submit", goTo);
-    on("next", "click", nextFault);
-    on("earlier", "click", () => showPart(large, offsets.base - 1));
-    on("later", "click", () => showPart(large, offsets.base + codec.len));
-    on("edit", "click", () => setEditing(!isEditing));
-    on("damage", "submit", changeByForm);
-    on("undo", "click", () => stepBack(true));
-    on("redo", "click", () => stepBack(false));
-    on("pieces", "keydown", typeOver);
-    on("pieces", "blur", dropDigit);
-    on("by-byte", "change", readOtherwise);
-    on("front", "click", () => stepOnce("F"));
-    on("back", "click", () => stepOnce("B"));
-    on("again", "click", () => {
-        begin();
-        keepInLink();
-        view.draw();
-    });
-    on("walk", "submit", (event) => {
+    on("box", "input", () => readField($("box").value, { keeps: field.isTyping ? "replace" : "push" }).then?.(() => (field.isTyping = true)));
+    on("box", "focus", () => field.isExample && $("box").select());
+    on("box", "blur", () => (field.isTyping = false));
+    on("as", "change", () => readField(field.raw || $("box").value, { way: $("as").value, keeps: "replace" }));
+    on("form", "change", () => take(input.source, { ...fieldState(), form: Number($("form").value), isExample: input.isExample }));
+    for (const id of ["file", "file-again"]) {
+        on(id, "change", () => {
+            const given = [...$(id).files];
+            // (so that the same file can be chosen again)
+            $(id).value = "";
+            return openAll(given);
+        });
+    }
+    for (const id of ["clear", "close"]) on(id, "click", clear);
+    on("stop", "click", stop);
+    on("go", "submit", (event) => {
         event.preventDefault();
-        walk();
+        goTo();
     });
-    addEventListener("hashchange", followLink);
+    on("hex", "click", changeHex);
+    on("copy-text", "click", copyText);
+    on("copy-bytes", "click", copyBytes);
+    on("copy-report", "click", copyReport);
+    on("copy-link", "click", copyLink);
+    on("save-text", "click", saveText);
+    on("save-csv", "click", () => saveAs(`${stem()}.invalid.csv`, csvOf(input), "text/csv"));
+    on("save-json", "click", () => saveAs(`${stem()}.invalid.json`, jsonOf(input), "application/json"));
+    on("sum-before", "click", () => step(-1));
+    on("sum-next", "click", () => step(1));
+    on("grid", "keydown", move);
+    addEventListener("keydown", press);
+    addEventListener("paste", paste);
+    addEventListener("popstate", goBack);
+    addEventListener("hashchange", () => !states.has(history.state?.number) && follow());
     addEventListener("dragover", (event) => {
         const isFile = event.dataTransfer.types.includes("Files");
-        if (isFile || !event.target.closest?.("textarea, input")) event.preventDefault();
+        if (isFile || !isField(event.target)) event.preventDefault();
         document.body.classList.toggle("dropping", isFile);
     });
-    addEventListener("dragleave", () => document.body.classList.remove("dropping"));
-    addEventListener("drop", dropped);
-    chooseExample();
-}
-
-function pointAt(place) {
-    dropDigit();
-    $("place").value = place;
-    $("byte").value = codec.len ? hexByte(codec.bytes[place]) : "";
-    showHere();
-    showOthers();
+    addEventListener("dragleave", (event) => !event.relatedTarget && document.body.classList.remove("dropping"));
+    addEventListener("drop", drop);
+    matchMedia("print").addEventListener("change", () => grid.layOut());
 }
 
 // What the page in one file has in it, or null.
-function inside(address) {
-    const part = document.getElementById(address);
+function inside(name) {
+    const part = $(name);
     return part && Uint8Array.from(atob(part.textContent), (it) => it.charCodeAt(0));
-}
-
-async function load(address) {
-    const bytes = inside(address);
-    if (bytes) return WebAssembly.compile(bytes);
-    const answer = await fetch(address);
-    if (!answer.ok) throw new Error(`the server answered ${answer.status}`);
-    return WebAssembly.compile(await answer.arrayBuffer());
 }
 
 function makeWorker() {
@@ -872,30 +573,51 @@ function makeWorker() {
     return new Worker(URL.createObjectURL(new Blob([text], { type: "text/javascript" })));
 }
 
+function changeBytes(bytes, at, changed) {
+    field.isExample = false;
+    const name = input.source.name;
+    const text = hexText(bytes);
+    return take(new Source(bytes, name), { form: input.form, text, way: text === null ? "" : "hexadecimal", took: "hexadecimal", at, changed, keeps: "replace" });
+}
+
+// What was pasted or chosen before the module was there, which the script in the page has kept.
+async function takeEarly() {
+    const early = window.early ?? {};
+    early.stop?.();
+    if (early.files?.length) return openAll(early.files);
+    const text = early.text ?? $("box").value;
+    if (text) return readField(text, { keeps: "replace" });
+    return follow();
+}
+
 async function start() {
     let module;
     try {
-        module = await load(hasVectors() ? "noddychest-simd.wasm" : "noddychest.wasm");
-        codec = new Codec((await WebAssembly.instantiate(module)).exports);
+        const name = hasVectors() ? "noddychest-simd.wasm" : "noddychest.wasm";
+        module = await moduleOf(inside(name) ?? name);
+        input.codec = new Codec((await WebAssembly.instantiate(module)).exports);
     } catch (error) {
-        $("trouble").textContent = `The module did not load (${error.message}). Load the page again, and where that does not help, run page/build and serve page/out.`;
+        $("loading").hidden = true;
+        $("trouble-part").hidden = false;
+        $("trouble-text").textContent = typeof WebAssembly === "object" ? `The decoder did not load (${error.message}). Load the page again.` : "Your browser lacks WebAssembly: any from 2021 on has it. Without a browser, nody check FILE lists the same.";
         return;
     }
-    $("trouble").hidden = true;
-    $("main").hidden = false;
-    cut = new Cut(codec);
-    view = new View(codec, cut, pointAt);
+    $("loading").hidden = true;
     helper = new Helper(module, makeWorker);
-    list = new Faults(codec, (offset) => show(offset).then(() => $("pieces").focus({ preventScroll: true })));
-    makeForms();
+    grid = new Grid($("grid"), input, (offset) => choose(offset));
+    list = new List(input, (place) => choose(place.offset));
+    strip = new Strip(input, (offset) => choose(offset));
+    explore = new Explore(input, changeBytes, (left) => {
+        grid.taken = left;
+        grid.draw();
+    });
+    files = new Files(helper, open);
     makeExamples();
-    // (on a small screen the bytes come first)
-    $("examples-box").open = innerWidth > 640;
-    makeLegend();
-    makeReaders();
+    makeWays();
     listen();
-    await followLink();
-    window.noddychest = { codec, cut, view, helper, list, Survey, bytesOf, others: (bytes, form) => others(codec, bytes, form) };
+    await takeEarly();
+    // (what page/check asks)
+    window.noddychest = { Survey, guessAt, repairedOf, input, codec: input.codec, grid, list, helper, choose, reading: (text, way) => reading(input.codec, text, way), bytesOf, guessesOf: () => guessesOf(input), findingOf: () => findingOf(input), repairedText, report: () => reportOf(input, ""), csv: () => csvOf(input).join(""), json: () => jsonOf(input).join("") };
     document.documentElement.dataset.ready = "yes";
 }
 

@@ -1,29 +1,28 @@
-// What takes long, beside the page: to go over a file, and to recode it.
-import { Codec } from "./codec.js";
-import { recodedOf, surveyOf } from "./survey.js";
+// Does what takes long beside the page.
+import { codecOf } from "./loading.js";
+import { work } from "./work.js";
 
-let codec;
+// A codec for each task, since one waits while another works.
+const codecs = {};
+let module;
 // The last number of each task that was asked for: earlier ones stop.
-const asked = {};
+const last = {};
 
-async function work({ task, number, form, to, source }) {
-    asked[task] = number;
-    const tell = async (part) => {
-        postMessage({ number, part });
-        // (what was asked for meanwhile comes in between)
-        await new Promise((done) => setTimeout(done));
-        return asked[task] === number;
-    };
+async function begin({ task, number, ...asked }) {
     try {
-        const result = task === "survey" ? await surveyOf(codec, form, source, tell) : await recodedOf(codec, form, to, source, tell);
+        codecs[task] ??= await codecOf(module);
+        const result = await work(codecs[task], { task, ...asked }, (news) => postMessage({ number, news }), () => last[task] === number);
         postMessage({ number, result });
     } catch (error) {
         postMessage({ number, error: String(error.message ?? error) });
     }
 }
 
-addEventListener("message", async ({ data }) => {
-    if (data.module) codec = new Codec((await WebAssembly.instantiate(data.module)).exports);
-    if (data.module) postMessage({ isReady: true });
-    else work(data);
+addEventListener("message", ({ data }) => {
+    if (data.module) {
+        module = data.module;
+        return postMessage({ isReady: true });
+    }
+    last[data.task] = data.number;
+    if (!data.isStop) begin(data);
 });

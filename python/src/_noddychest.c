@@ -1,5 +1,5 @@
 /* What of the package has to be fast, over the calls of noddychest.h. The package itself, and what users read, is in
- * src/noddychest. Forms and kinds cross as numbers; pieces are made as the named tuple that the package hands in.
+ * src/noddychest. Encodings and kinds cross as numbers; pieces are made as the named tuple that the package hands in.
  *
  * The interpreter's lock is let go while 64 KiB or more are read, and the buffer is held meanwhile. Nothing is kept but in objects, so
  * each interpreter has its own. */
@@ -11,16 +11,16 @@
 #include <stdlib.h>
 #include <string.h>
 
-#define BLOCK 256         /* pieces that cross at once */
+#define BLOCK 256         /* pieces of one call of the library */
 #define COUNTED (1 << 17) /* the bytes that are validated, and counted then */
-#define FIRST_COUNTED (1 << 12) /* the same at first, where a piece is looked for */
-#define SMALL (64 * 1024) /* an input up to here gets room for the most that it can become */
+#define FIRST_COUNTED (1 << 12) /* the bytes of the first step of a search for a piece */
+#define SMALL (64 * 1024) /* an input up to here gets a buffer for its longest possible output */
 #define LONGEST_MARK 3    /* the bytes of the longest byte order mark */
 
 /* ---- bytes that are made ---- */
 
 /* _PyBytes_Resize() changes the length of bytes in place. It is in every CPython, but not in the stable ABI; so the linker of the system
- * looks for it, and where it finds none, as on Windows, the bytes are copied. */
+ * looks for it, and if it finds none, as on Windows, the bytes are copied. */
 #if defined(_WIN32)
 static int (*const resize)(PyObject **bytes, Py_ssize_t len) = NULL;
 #else
@@ -46,28 +46,28 @@ static PyObject *resized(PyObject *made, Py_ssize_t len) {
 
 /* ---- many pieces ---- */
 
-/* Up to BLOCK pieces from the front of UTF-16; answers how many. */
-static size_t pieces_utf16(nody_form_t form, const uint8_t *bytes, size_t len, nody_piece_t *block) {
+/* Up to BLOCK pieces from the front of UTF-16; returns how many. */
+static size_t pieces_utf16(nody_encoding_t encoding, const uint8_t *bytes, size_t len, nody_piece_t *block) {
     uint16_t units[BLOCK];
     size_t size = len / 2 < BLOCK ? len / 2 : BLOCK, count;
     nody_units_t left = nody_units(units, size);
     for (size_t i = 0; i < size; i++)
-        units[i] = unit_at(form, bytes + 2 * i);
+        units[i] = unit_at(encoding, bytes + 2 * i);
     count = nody_utf16_pieces(&left, block, BLOCK);
     if (count > 1 && block[count - 1].kind == NODY_KIND_INCOMPLETE && size < len / 2)
-        count--; /* (it is judged with what follows) */
+        count--; /* (its kind depends on what follows) */
     for (size_t i = 0; i < count; i++)
         block[i].len *= 2;
     return count;
 }
 
-static size_t first_pieces(nody_form_t form, const uint8_t *bytes, size_t len, nody_piece_t *block) {
+static size_t first_pieces(nody_encoding_t encoding, const uint8_t *bytes, size_t len, nody_piece_t *block) {
     nody_bytes_t left = nody_bytes(bytes, len);
-    if (form == NODY_FORM_UTF8)
+    if (encoding == NODY_UTF8)
         return nody_utf8_pieces(&left, block, BLOCK);
     if (len == 1)
-        block[0] = first_piece(form, bytes, len);
-    return len == 1 ? 1 : pieces_utf16(form, bytes, len, block);
+        block[0] = first_piece(encoding, bytes, len);
+    return len == 1 ? 1 : pieces_utf16(encoding, bytes, len, block);
 }
 
 /* ---- functions ---- */
@@ -85,17 +85,17 @@ static PyObject *kind_sentence(PyObject *module, PyObject *kind) {
     return PyUnicode_FromString(nody_kind_sentence((nody_kind_t)(number < 256 ? number : 255)));
 }
 
-/* fault(form, data): the offset, the length and the kind of the first fault, or None. */
+/* fault(encoding, data): the offset, the length and the kind of the first fault, or None. */
 static PyObject *fault(PyObject *module, PyObject *args) {
     Py_buffer view;
     Window window;
-    nody_form_t form;
+    nody_encoding_t encoding;
     PyObject *answer = NULL;
     (void)module;
-    if (!PyArg_ParseTuple(args, "O&O&:fault", take_form, &form, take_bytes, &view))
+    if (!PyArg_ParseTuple(args, "O&O&:fault", take_encoding, &encoding, take_bytes, &view))
         return NULL;
     if (open_window(&window, &view)) {
-        Fault found = first_fault(&window, WHOLE, form, &view);
+        Fault found = first_fault(&window, WHOLE, encoding, &view);
         answer = found.kind == NODY_KIND_NONE
                      ? Py_NewRef(Py_None)
                      : Py_BuildValue("nnI", (Py_ssize_t)found.at, (Py_ssize_t)found.len, (unsigned)found.kind);
@@ -105,7 +105,7 @@ static PyObject *fault(PyObject *module, PyObject *args) {
     return answer;
 }
 
-/* An offset that a caller gave: one beyond the length counts as the length. Else an error is set, and it is -1. */
+/* An offset that a caller gave: one beyond the length counts as the length. Otherwise an error is set, and it is -1. */
 static Py_ssize_t offset_within(PyObject *number, Py_ssize_t len) {
     Py_ssize_t at = PyNumber_AsSsize_t(number, NULL);
     if (PyErr_Occurred() || !is_place(at < len ? at : len, len))
@@ -113,73 +113,87 @@ static Py_ssize_t offset_within(PyObject *number, Py_ssize_t len) {
     return at < len ? at : len;
 }
 
-/* boundary(form, data, at, after): an offset beyond any length counts as the length. */
+/* boundary(encoding, data, at, after): an offset beyond any length counts as the length. */
 static PyObject *boundary(PyObject *module, PyObject *args) {
     Py_buffer view;
-    nody_form_t form;
+    nody_encoding_t encoding;
     PyObject *number, *answer = NULL;
     Py_ssize_t at;
     int after;
     (void)module;
-    if (!PyArg_ParseTuple(args, "O&O&Op:boundary", take_form, &form, take_bytes, &view, &number, &after))
+    if (!PyArg_ParseTuple(args, "O&O&Op:boundary", take_encoding, &encoding, take_bytes, &view, &number, &after))
         return NULL;
     at = offset_within(number, view.len);
     if (at >= 0)
-        answer = PyLong_FromSize_t(after ? nody_boundary_after(form, view.buf, (size_t)view.len, (size_t)at)
-                                         : nody_boundary_before(form, view.buf, (size_t)view.len, (size_t)at));
+        answer = PyLong_FromSize_t(after ? nody_boundary_after(encoding, view.buf, (size_t)view.len, (size_t)at)
+                                         : nody_boundary_before(encoding, view.buf, (size_t)view.len, (size_t)at));
     PyBuffer_Release(&view);
     return answer;
 }
 
-/* changed_range(form, data, start, end): the part outside of which no piece changes if these bytes are replaced. */
+/* shard_end(encoding, data, at): the last offset up to `at` where a shard may end. */
+static PyObject *shard_end(PyObject *module, PyObject *args) {
+    nody_encoding_t encoding;
+    Py_buffer view;
+    PyObject *number, *answer = NULL;
+    Py_ssize_t at;
+    (void)module;
+    if (!PyArg_ParseTuple(args, "O&O&O:shard_end", take_encoding, &encoding, take_bytes, &view, &number)) return NULL;
+    at = offset_within(number, view.len);
+    if (at >= 0) answer = PyLong_FromSize_t(nody_shard_end(encoding, view.buf, (size_t)view.len, (size_t)at));
+    PyBuffer_Release(&view);
+    return answer;
+}
+
+/* changed_range(encoding, data, start, end): the part outside of which no piece changes if these bytes are replaced. */
 static PyObject *changed_range(PyObject *module, PyObject *args) {
     Py_buffer view;
-    nody_form_t form;
+    nody_encoding_t encoding;
     PyObject *first, *last, *answer = NULL;
     Py_ssize_t start, end;
     (void)module;
-    if (!PyArg_ParseTuple(args, "O&O&OO:changed_range", take_form, &form, take_bytes, &view, &first, &last))
+    if (!PyArg_ParseTuple(args, "O&O&OO:changed_range", take_encoding, &encoding, take_bytes, &view, &first, &last))
         return NULL;
     start = offset_within(first, view.len);
     end = start < 0 ? -1 : offset_within(last, view.len);
     if (end >= 0) {
-        nody_range_t range = nody_changed_range(form, view.buf, (size_t)view.len, (size_t)start, (size_t)end);
+        nody_range_t range = nody_changed_range(encoding, view.buf, (size_t)view.len, (size_t)start, (size_t)end);
         answer = Py_BuildValue("nn", (Py_ssize_t)range.start, (Py_ssize_t)range.end);
     }
     PyBuffer_Release(&view);
     return answer;
 }
 
-/* undecided_len(form, data): how many bytes at the end depend on what follows. */
+/* undecided_len(encoding, data): how many bytes at the end depend on what follows. */
 static PyObject *undecided_len(PyObject *module, PyObject *args) {
     Py_buffer view;
-    nody_form_t form;
+    nody_encoding_t encoding;
     size_t len;
     (void)module;
-    if (!PyArg_ParseTuple(args, "O&O&:undecided_len", take_form, &form, take_bytes, &view))
+    if (!PyArg_ParseTuple(args, "O&O&:undecided_len", take_encoding, &encoding, take_bytes, &view))
         return NULL;
-    len = undecided(form, view.buf, (size_t)view.len);
+    len = undecided(encoding, view.buf, (size_t)view.len);
     PyBuffer_Release(&view);
     return PyLong_FromSize_t(len);
 }
 
-/* form_of_bom(data): the form that a byte order mark tells, and the length of the mark, or None. */
-static PyObject *form_of_bom(PyObject *module, PyObject *data) {
+/* encoding_of_bom(data): the encoding that a byte order mark names, and the length of the mark, or None. */
+static PyObject *encoding_of_bom(PyObject *module, PyObject *data) {
     Py_buffer view;
     uint8_t front[LONGEST_MARK];
     size_t count, len;
-    nody_form_t form = NODY_FORM_UTF8;
+    nody_encoding_t encoding = NODY_UTF8;
     (void)module;
     if (!take_bytes(data, &view))
         return NULL;
     count = view.len < LONGEST_MARK ? (size_t)view.len : LONGEST_MARK;
     memcpy(front, view.buf, count);
     PyBuffer_Release(&view);
-    len = nody_form_of_bom(front, count, &form);
-    return len == 0 ? Py_NewRef(Py_None) : Py_BuildValue("in", (int)form, (Py_ssize_t)len);
+    len = nody_encoding_of_bom(front, count, &encoding);
+    return len == 0 ? Py_NewRef(Py_None) : Py_BuildValue("in", (int)encoding, (Py_ssize_t)len);
 }
 
-/* check(data): refuses what is no bytes-like object. */
+/* check(data): rejects what is no bytes-like object. */
 static PyObject *check(PyObject *module, PyObject *data) {
     Py_buffer view;
     (void)module;
@@ -189,8 +203,8 @@ static PyObject *check(PyObject *module, PyObject *data) {
     return Py_NewRef(Py_None);
 }
 
-/* Counts all pieces of a view, and its line ends where these are asked for. Answers 0 with an error. */
-static int count_all(nody_form_t form, const Py_buffer *view, size_t *pieces, size_t *lines) {
+/* Counts all pieces of a view, and its line ends where these are asked for. Returns 0 with an error. */
+static int count_all(nody_encoding_t encoding, const Py_buffer *view, size_t *pieces, size_t *lines) {
     Window window;
     size_t len = (size_t)view->len;
     PyThreadState *thread;
@@ -199,56 +213,56 @@ static int count_all(nody_form_t form, const Py_buffer *view, size_t *pieces, si
     window.most = COUNTED;
     thread = let_lock_go(len);
     for (size_t at = 0; at < len; at += window.len) {
-        next_window(&window, form, (const uint8_t *)view->buf + at, len - at);
-        *pieces += nody_char_count(form, window.bytes, window.len);
+        next_window(&window, encoding, (const uint8_t *)view->buf + at, len - at);
+        *pieces += nody_char_count(encoding, window.bytes, window.len);
         if (lines != NULL)
-            *lines += line_count(form, window.bytes, window.len);
+            *lines += line_count(encoding, window.bytes, window.len);
     }
     take_lock(thread);
     close_window(&window);
     return 1;
 }
 
-/* char_count(form, data): how many pieces there are. */
+/* char_count(encoding, data): how many pieces there are. */
 static PyObject *char_count(PyObject *module, PyObject *args) {
     Py_buffer view;
-    nody_form_t form;
+    nody_encoding_t encoding;
     size_t pieces = 0;
     PyObject *answer = NULL;
     (void)module;
-    if (!PyArg_ParseTuple(args, "O&O&:char_count", take_form, &form, take_bytes, &view))
+    if (!PyArg_ParseTuple(args, "O&O&:char_count", take_encoding, &encoding, take_bytes, &view))
         return NULL;
-    if (count_all(form, &view, &pieces, NULL))
+    if (count_all(encoding, &view, &pieces, NULL))
         answer = PyLong_FromSize_t(pieces);
     PyBuffer_Release(&view);
     return answer;
 }
 
-/* How many pieces begin before a place, window by window. */
-static size_t count_before(Window *window, nody_form_t form, const Py_buffer *view, size_t place) {
+/* How many pieces begin before an offset, window by window. */
+static size_t count_before(Window *window, nody_encoding_t encoding, const Py_buffer *view, size_t place) {
     size_t count = 0;
     window->most = COUNTED;
     for (size_t at = 0; at < place; at += window->len) {
-        next_window(window, form, (const uint8_t *)view->buf + at, (size_t)view->len - at);
-        count += nody_number_of(form, window->bytes, window->len, place - at);
+        next_window(window, encoding, (const uint8_t *)view->buf + at, (size_t)view->len - at);
+        count += nody_number_of(encoding, window->bytes, window->len, place - at);
     }
     return count;
 }
 
-/* number_of(form, data, offset): how many pieces begin before an offset. */
+/* number_of(encoding, data, offset): how many pieces begin before an offset. */
 static PyObject *number_of(PyObject *module, PyObject *args) {
     Py_buffer view;
     Window window;
-    nody_form_t form;
+    nody_encoding_t encoding;
     PyObject *offset, *answer = NULL;
     Py_ssize_t place;
     (void)module;
-    if (!PyArg_ParseTuple(args, "O&O&O:number_of", take_form, &form, take_bytes, &view, &offset))
+    if (!PyArg_ParseTuple(args, "O&O&O:number_of", take_encoding, &encoding, take_bytes, &view, &offset))
         return NULL;
     place = offset_within(offset, view.len);
     if (place >= 0 && open_window(&window, &view)) {
         PyThreadState *thread = let_lock_go((size_t)place);
-        size_t count = count_before(&window, form, &view, (size_t)place);
+        size_t count = count_before(&window, encoding, &view, (size_t)place);
         take_lock(thread);
         close_window(&window);
         answer = PyLong_FromSize_t(count);
@@ -257,36 +271,36 @@ static PyObject *number_of(PyObject *module, PyObject *args) {
     return answer;
 }
 
-/* Where the piece with a number begins, window by window, of which the first is short; the length if there are no more pieces. */
-static size_t find_number(Window *window, nody_form_t form, const Py_buffer *view, size_t number) {
+/* The offset of the piece with a number, window by window, of which the first is short; the length if there are no more pieces. */
+static size_t find_number(Window *window, nody_encoding_t encoding, const Py_buffer *view, size_t number) {
     size_t len = (size_t)view->len;
     window->most = FIRST_COUNTED;
     for (size_t at = 0; at < len; at += window->len) {
         size_t here;
-        next_window(window, form, (const uint8_t *)view->buf + at, len - at);
-        here = nody_char_count(form, window->bytes, window->len);
+        next_window(window, encoding, (const uint8_t *)view->buf + at, len - at);
+        here = nody_char_count(encoding, window->bytes, window->len);
         if (number < here)
-            return at + nody_offset_of(form, window->bytes, window->len, number);
+            return at + nody_offset_of(encoding, window->bytes, window->len, number);
         number -= here;
         window->most = 2 * window->most < COUNTED ? 2 * window->most : COUNTED;
     }
     return len;
 }
 
-/* offset_of(form, data, number): the offset of the piece with a number, or None if there are no more pieces. */
+/* offset_of(encoding, data, number): the offset of the piece with a number, or None if there are no more pieces. */
 static PyObject *offset_of(PyObject *module, PyObject *args) {
     Py_buffer view;
     Window window;
-    nody_form_t form;
+    nody_encoding_t encoding;
     PyObject *index, *answer = NULL;
     Py_ssize_t number;
     (void)module;
-    if (!PyArg_ParseTuple(args, "O&O&O:offset_of", take_form, &form, take_bytes, &view, &index))
+    if (!PyArg_ParseTuple(args, "O&O&O:offset_of", take_encoding, &encoding, take_bytes, &view, &index))
         return NULL;
     number = offset_within(index, view.len);
     if (number >= 0 && open_window(&window, &view)) {
         PyThreadState *thread = let_lock_go((size_t)view.len);
-        size_t offset = find_number(&window, form, &view, (size_t)number);
+        size_t offset = find_number(&window, encoding, &view, (size_t)number);
         take_lock(thread);
         close_window(&window);
         answer = offset < (size_t)view.len ? PyLong_FromSize_t(offset) : Py_NewRef(Py_None);
@@ -295,16 +309,16 @@ static PyObject *offset_of(PyObject *module, PyObject *args) {
     return answer;
 }
 
-/* counts(form, data): how many pieces there are, and how many line ends. */
+/* counts(encoding, data): how many pieces there are, and how many line ends. */
 static PyObject *counts(PyObject *module, PyObject *args) {
     Py_buffer view;
-    nody_form_t form;
+    nody_encoding_t encoding;
     size_t pieces = 0, lines = 0;
     PyObject *answer = NULL;
     (void)module;
-    if (!PyArg_ParseTuple(args, "O&O&:counts", take_form, &form, take_bytes, &view))
+    if (!PyArg_ParseTuple(args, "O&O&:counts", take_encoding, &encoding, take_bytes, &view))
         return NULL;
-    if (count_all(form, &view, &pieces, &lines))
+    if (count_all(encoding, &view, &pieces, &lines))
         answer = Py_BuildValue("nn", (Py_ssize_t)pieces, (Py_ssize_t)lines);
     PyBuffer_Release(&view);
     return answer;
@@ -312,7 +326,7 @@ static PyObject *counts(PyObject *module, PyObject *args) {
 
 /* Pieces that are counted, and the offset of each that has a multiple of `every` before it. */
 typedef struct {
-    nody_form_t form;
+    nody_encoding_t encoding;
     uint64_t offset;
     size_t count, every, marked, room;
     uint8_t *marks;
@@ -321,7 +335,7 @@ typedef struct {
 static void index_window(Index *index, const Window *window) {
     nody_piece_t block[BLOCK];
     for (size_t at = 0; at < window->len;) {
-        size_t here = first_pieces(index->form, window->bytes + at, window->len - at, block);
+        size_t here = first_pieces(index->encoding, window->bytes + at, window->len - at, block);
         for (size_t i = 0; i < here; i++) {
             if (index->count++ % index->every == 0 && index->marked < index->room)
                 memcpy(index->marks + sizeof index->offset * index->marked++, &index->offset, sizeof index->offset);
@@ -331,28 +345,28 @@ static void index_window(Index *index, const Window *window) {
     }
 }
 
-/* index(form, data, every): how many pieces there are, and those offsets. */
+/* index(encoding, data, every): how many pieces there are, and those offsets. */
 static PyObject *index_pieces(PyObject *module, PyObject *args) {
     Py_buffer view;
-    nody_form_t form;
+    nody_encoding_t encoding;
     Py_ssize_t every;
     Window window;
     PyObject *marks = NULL;
     (void)module;
-    if (!PyArg_ParseTuple(args, "O&O&n:index", take_form, &form, take_bytes, &view, &every))
+    if (!PyArg_ParseTuple(args, "O&O&n:index", take_encoding, &encoding, take_bytes, &view, &every))
         return NULL;
     if (every < 1) {
         PyErr_SetString(PyExc_ValueError, "every has to be at least 1");
     } else if (open_window(&window, &view)) {
         size_t len = (size_t)view.len;
-        Index index = {form, 0, 0, (size_t)every, 0, len / (size_t)every + 1, NULL};
+        Index index = {encoding, 0, 0, (size_t)every, 0, len / (size_t)every + 1, NULL};
         marks = PyBytes_FromStringAndSize(NULL, (Py_ssize_t)(index.room * sizeof index.offset));
         if (marks != NULL) {
             PyThreadState *thread;
             index.marks = (uint8_t *)PyBytes_AsString(marks);
             thread = let_lock_go(len);
             for (size_t at = 0; at < len; at += window.len) {
-                next_window(&window, form, (const uint8_t *)view.buf + at, len - at);
+                next_window(&window, encoding, (const uint8_t *)view.buf + at, len - at);
                 index_window(&index, &window);
             }
             take_lock(thread);
@@ -369,11 +383,11 @@ static PyObject *index_pieces(PyObject *module, PyObject *args) {
 /* recoded_len(from, to, data): how many bytes recode makes. */
 static PyObject *recoded_len(PyObject *module, PyObject *args) {
     Py_buffer view;
-    nody_form_t from, to;
+    nody_encoding_t from, to;
     Window window;
     PyObject *answer = NULL;
     (void)module;
-    if (!PyArg_ParseTuple(args, "O&O&O&:recoded_len", take_form, &from, take_form, &to, take_bytes, &view))
+    if (!PyArg_ParseTuple(args, "O&O&O&:recoded_len", take_encoding, &from, take_encoding, &to, take_bytes, &view))
         return NULL;
     if (open_window(&window, &view)) {
         size_t len = (size_t)view.len, sum = 0;
@@ -390,13 +404,13 @@ static PyObject *recoded_len(PyObject *module, PyObject *args) {
     return answer;
 }
 
-/* ---- recoding ---- */
+/* ---- transcoding ---- */
 
 /* What is done with faults: one U+FFFD for each, a stop at the first, or one U+FFFD for each maximal subpart. The numbers are those of
  * the package. */
-enum Errors { EACH, STRICT, MAXIMAL };
+enum Errors { EACH, STRICT, LOSSY };
 
-/* Bytes that are being recoded: the input, how far it was read, and what was made of it. */
+/* Bytes that are being converted: the input, how far it was read, and what was made of it. */
 typedef struct {
     nody_recoder_t recoder;
     enum Errors errors;
@@ -408,7 +422,7 @@ typedef struct {
     nody_fault_t *fault;
 } Recoding;
 
-/* Makes room for more: never a tenth more than all will have. Answers 0 with an error. */
+/* Grows the buffer: never a tenth more than all will have. Returns 0 with an error. */
 static int make_room(Recoding *it) {
     size_t left = it->len - it->read, room = nody_recoded_len_max(it->recoder.from, it->recoder.to, left);
     if (it->len > SMALL) {
@@ -422,7 +436,7 @@ static int make_room(Recoding *it) {
         PyErr_NoMemory();
         return 0;
     }
-    it->room = it->written + room + 64; /* (what is held, and the end, have room too) */
+    it->room = it->written + room + 64; /* (for the carried-over bytes and the end) */
     it->made = it->made == NULL ? PyBytes_FromStringAndSize(NULL, (Py_ssize_t)it->room) : resized(it->made, (Py_ssize_t)it->room);
     return it->made != NULL;
 }
@@ -434,7 +448,7 @@ static nody_status_t feed_part(Recoding *it, const uint8_t *in, size_t len, uint
     out += it->written;
     if (it->errors == STRICT)
         status = nody_recoder_feed_strict(&it->recoder, in, len, out, room, &read, &written, it->fault);
-    else if (it->errors == MAXIMAL)
+    else if (it->errors == LOSSY)
         status = nody_recoder_feed_lossy(&it->recoder, in, len, out, room, &read, &written);
     else
         status = nody_recoder_feed(&it->recoder, in, len, out, room, &read, &written);
@@ -442,7 +456,7 @@ static nody_status_t feed_part(Recoding *it, const uint8_t *in, size_t len, uint
     return status;
 }
 
-/* Feeds all that is left, as far as there is room. */
+/* Feeds all that is left, as far as the buffer goes. */
 static nody_status_t feed(Recoding *it) {
     uint8_t *out = (uint8_t *)PyBytes_AsString(it->made);
     PyThreadState *thread = let_lock_go(it->len - it->read);
@@ -461,7 +475,7 @@ static nody_status_t finish(Recoding *it) {
     nody_status_t status;
     if (it->errors == STRICT)
         status = nody_recoder_finish_strict(&it->recoder, out, room, &written, it->fault);
-    else if (it->errors == MAXIMAL)
+    else if (it->errors == LOSSY)
         status = nody_recoder_finish_lossy(&it->recoder, out, room, &written);
     else
         status = nody_recoder_finish(&it->recoder, out, room, &written);
@@ -469,7 +483,7 @@ static nody_status_t finish(Recoding *it) {
     return status;
 }
 
-/* Goes a step on, as often as there has to be more room. */
+/* Goes a step on, growing the buffer as needed. */
 static int goes(Recoding *it, nody_status_t (*step)(Recoding *)) {
     nody_status_t status;
     do {
@@ -485,7 +499,7 @@ static int take_errors(PyObject *number, void *into) {
     long errors = PyLong_AsLong(number);
     if (errors == -1 && PyErr_Occurred())
         return 0;
-    if (errors < EACH || errors > MAXIMAL) {
+    if (errors < EACH || errors > LOSSY) {
         PyErr_SetString(PyExc_ValueError, "no way with errors has this number");
         return 0;
     }
@@ -493,8 +507,8 @@ static int take_errors(PyObject *number, void *into) {
     return 1;
 }
 
-/* Feeds all of a view to a recoder, and finishes where that is asked for; answers the bytes that come of it. Where faults are refused
- * it goes up to the first one, and `read` says how many bytes were read then. */
+/* Feeds a whole view to a recoder, and finishes if that is asked for; returns the output as bytes. In strict mode it stops at the first
+ * fault, and `read` is then how many bytes were read. */
 static PyObject *fed(nody_recoder_t *recoder, enum Errors errors, const Py_buffer *view, int is_last, size_t *read, nody_fault_t *fault) {
     Recoding it = {*recoder, errors, {NULL, NULL, 0, 0, 0}, view->buf, (size_t)view->len, 0, NULL, 0, 0, fault};
     PyObject *made = NULL;
@@ -514,14 +528,14 @@ static PyObject *fed(nody_recoder_t *recoder, enum Errors errors, const Py_buffe
  * `bytes`. */
 static PyObject *recode(PyObject *module, PyObject *args) {
     Py_buffer view;
-    nody_form_t from, to;
+    nody_encoding_t from, to;
     nody_recoder_t recoder;
     nody_fault_t fault;
     enum Errors errors;
     size_t read;
     PyObject *data, *made;
     (void)module;
-    if (!PyArg_ParseTuple(args, "O&O&OO&:recode", take_form, &from, take_form, &to, &data, take_errors, &errors) ||
+    if (!PyArg_ParseTuple(args, "O&O&OO&:recode", take_encoding, &from, take_encoding, &to, &data, take_errors, &errors) ||
         !take_bytes(data, &view))
         return NULL;
     recoder = nody_recoder(from, to);
@@ -545,11 +559,11 @@ typedef struct {
 } Recoder;
 
 static PyObject *recoder_new(PyTypeObject *type, PyObject *args, PyObject *names) {
-    nody_form_t from, to;
+    nody_encoding_t from, to;
     enum Errors errors;
     Recoder *self;
     (void)names;
-    if (!PyArg_ParseTuple(args, "O&O&O&:Recoder", take_form, &from, take_form, &to, take_errors, &errors))
+    if (!PyArg_ParseTuple(args, "O&O&O&:Recoder", take_encoding, &from, take_encoding, &to, take_errors, &errors))
         return NULL;
     self = (Recoder *)PyType_GenericAlloc(type, 0);
     if (self != NULL) {
@@ -559,7 +573,7 @@ static PyObject *recoder_new(PyTypeObject *type, PyObject *args, PyObject *names
     return (PyObject *)self;
 }
 
-/* The bytes that come of a step. The recoder changes only if they are made, and no fault is refused. */
+/* The output of a step. The recoder changes only if that is made, and if strict mode meets no fault. */
 static PyObject *stepped(Recoder *self, const Py_buffer *view, int is_last) {
     nody_recoder_t before = self->recoder, after = self->recoder;
     nody_fault_t fault;
@@ -583,8 +597,8 @@ static PyObject *stepped(Recoder *self, const Py_buffer *view, int is_last) {
                          (Py_ssize_t)place);
 }
 
-/* step(data, finish): the bytes that come of it; where faults are refused and there is one, its offset, length and kind, what
- * was held before together with the data, and its place in there; nothing changes then. One call goes at a time: making a view of the
+/* step(data, finish): the output of a step; in strict mode, if there is a fault, its offset, length and kind, the bytes that were carried
+ * over together with the data, and its offset in there; nothing changes then. One call goes at a time: making a view of the
  * data may run code that feeds this recoder, and that has ended before. */
 static PyObject *recoder_step(PyObject *object, PyObject *args) {
     Recoder *self = (Recoder *)object;
@@ -611,7 +625,7 @@ static PyObject *recoder_state(PyObject *object, PyObject *nothing) {
                          (unsigned long long)self->recoder.replaced, self->fed);
 }
 
-/* set_state(held, replaced, fed), of a recoder that is new. What is held is fed: so a state that none can have is refused. */
+/* set_state(held, replaced, fed), of a recoder that is new. What is held is fed: so a state that none can have is rejected. */
 static PyObject *recoder_set_state(PyObject *object, PyObject *args) {
     Recoder *self = (Recoder *)object;
     nody_recoder_t recoder = nody_recoder(self->recoder.from, self->recoder.to);
@@ -646,27 +660,27 @@ static PyObject *recoder_replaced(PyObject *self, void *closure) {
 
 /* ---- pieces ---- */
 
-/* The pieces of some bytes, in order. They cross in blocks; those from the back one by one, each with the error that the forward
+/* The pieces of some bytes, in order. They cross in blocks; those from the end one by one, each with the error that the forward
  * cut names. */
 typedef struct {
     READER_HEAD
-    nody_form_t form;
-    size_t offset; /* of the next piece; from the back, its end */
+    nody_encoding_t encoding;
+    size_t offset; /* of the next piece; from the end, its end */
     size_t read;   /* where the next block begins */
     int back;
     size_t at, count;
     nody_piece_t block[BLOCK];
 } Run;
 
-/* Run(form, data, type, errors, at, back): from the offset on, or all from the back. */
+/* Run(encoding, data, type, errors, at, back): from the offset on, or all from the end. */
 static PyObject *run_new(PyTypeObject *type, PyObject *args, PyObject *names) {
     PyObject *data, *pieces, *errors;
-    nody_form_t form;
+    nody_encoding_t encoding;
     Py_ssize_t at;
     int back;
     Run *self;
     (void)names;
-    if (!PyArg_ParseTuple(args, "O&OOOnp:Run", take_form, &form, &data, &pieces, &errors, &at, &back))
+    if (!PyArg_ParseTuple(args, "O&OOOnp:Run", take_encoding, &encoding, &data, &pieces, &errors, &at, &back))
         return NULL;
     self = (Run *)PyType_GenericAlloc(type, 0);
     if (self == NULL)
@@ -675,33 +689,33 @@ static PyObject *run_new(PyTypeObject *type, PyObject *args, PyObject *names) {
         Py_DECREF(self);
         return NULL;
     }
-    self->form = form;
+    self->encoding = encoding;
     self->back = back;
     self->offset = back ? (size_t)self->view.len : (size_t)at;
     self->read = self->offset;
     return (PyObject *)self;
 }
 
-/* The piece that ends at a place of some bytes, with the error that the forward cut names. What is near is copied: so it is the same bytes
- * that are asked twice. (Where others changed them, a character may lie over the place) */
-static nody_piece_t piece_before(nody_form_t form, const uint8_t *bytes, size_t len, size_t end) {
+/* The piece that ends at an offset of some bytes, with the error that the forward cut names. The bytes around it are copied, so that both
+ * calls see the same ones. (If other threads changed them, the offset may be inside a character) */
+static nody_piece_t piece_before(nody_encoding_t encoding, const uint8_t *bytes, size_t len, size_t end) {
     uint8_t near[2 * LONGEST];
-    size_t most = form == NODY_FORM_UTF8 ? LONGEST : LONGEST - end % 2, front = end < most ? end : most;
+    size_t most = encoding == NODY_UTF8 ? LONGEST : LONGEST - end % 2, front = end < most ? end : most;
     size_t back = len - end < LONGEST ? len - end : LONGEST;
     nody_piece_t piece = {0, 0, NODY_KIND_NONE}, named;
     if (front == 0)
         return piece;
     memcpy(near, bytes + end - front, front + back);
-    piece = last_piece(form, near, front);
+    piece = last_piece(encoding, near, front);
     if (piece.kind == NODY_KIND_OK)
         return piece;
-    named = first_piece(form, near + front - piece.len, piece.len + back);
+    named = first_piece(encoding, near + front - piece.len, piece.len + back);
     return named.kind == NODY_KIND_OK ? piece : named;
 }
 
 static PyObject *run_back(Run *self) {
     size_t end = self->offset;
-    nody_piece_t piece = piece_before(self->form, self->view.buf, (size_t)self->view.len, end);
+    nody_piece_t piece = piece_before(self->encoding, self->view.buf, (size_t)self->view.len, end);
     PyObject *made;
     if (piece.kind == NODY_KIND_NONE)
         return NULL;
@@ -712,14 +726,14 @@ static PyObject *run_back(Run *self) {
     return made;
 }
 
-/* Fills the block from a copy: the bytes may be changed by others. (It has all that so many pieces have, and what decides the last one) */
+/* Fills the block from a copy: the bytes may be changed by others. (It has the bytes of a full block, and those that decide its last piece) */
 static void next_block(Run *self) {
     uint8_t copy[LONGEST * (BLOCK + 1)];
     size_t left = (size_t)self->view.len - self->read, len = left < sizeof copy ? left : sizeof copy;
     if (len > 0)
         memcpy(copy, (const uint8_t *)self->view.buf + self->read, len);
     self->at = 0;
-    self->count = first_pieces(self->form, copy, len, self->block);
+    self->count = first_pieces(self->encoding, copy, len, self->block);
     for (size_t i = 0; i < self->count; i++)
         self->read += self->block[i].len;
 }
@@ -744,19 +758,19 @@ static PyObject *run_next(PyObject *object) {
     return made;
 }
 
-/* Pieces from both ends, each judged by the bytes that are left. */
+/* Pieces from both ends; the kind of each depends on the bytes that are left. */
 typedef struct {
     READER_HEAD
-    nody_form_t form;
+    nody_encoding_t encoding;
     size_t start, end; /* where what is left lies */
 } Ends;
 
 static PyObject *ends_new(PyTypeObject *type, PyObject *args, PyObject *names) {
     PyObject *data, *pieces, *errors;
-    nody_form_t form;
+    nody_encoding_t encoding;
     Ends *self;
     (void)names;
-    if (!PyArg_ParseTuple(args, "O&OOO:Ends", take_form, &form, &data, &pieces, &errors))
+    if (!PyArg_ParseTuple(args, "O&OOO:Ends", take_encoding, &encoding, &data, &pieces, &errors))
         return NULL;
     self = (Ends *)PyType_GenericAlloc(type, 0);
     if (self == NULL)
@@ -765,7 +779,7 @@ static PyObject *ends_new(PyTypeObject *type, PyObject *args, PyObject *names) {
         Py_DECREF(self);
         return NULL;
     }
-    self->form = form;
+    self->encoding = encoding;
     self->end = (size_t)self->view.len;
     return (PyObject *)self;
 }
@@ -773,7 +787,7 @@ static PyObject *ends_new(PyTypeObject *type, PyObject *args, PyObject *names) {
 static PyObject *ends_next(PyObject *object) {
     Ends *self = (Ends *)object;
     size_t offset = self->start;
-    nody_piece_t piece = first_piece(self->form, (const uint8_t *)self->view.buf + offset, self->end - offset);
+    nody_piece_t piece = first_piece(self->encoding, (const uint8_t *)self->view.buf + offset, self->end - offset);
     PyObject *made;
     if (piece.kind == NODY_KIND_NONE)
         return NULL;
@@ -787,7 +801,7 @@ static PyObject *ends_next(PyObject *object) {
 static PyObject *ends_next_back(PyObject *object, PyObject *nothing) {
     Ends *self = (Ends *)object;
     size_t end = self->end;
-    nody_piece_t piece = last_piece(self->form, (const uint8_t *)self->view.buf + self->start, end - self->start);
+    nody_piece_t piece = last_piece(self->encoding, (const uint8_t *)self->view.buf + self->start, end - self->start);
     PyObject *made;
     (void)nothing;
     if (piece.kind == NODY_KIND_NONE)
@@ -809,9 +823,9 @@ static PyObject *ends_end(PyObject *self, void *closure) {
     return PyLong_FromSize_t(((Ends *)self)->end);
 }
 
-/* ---- faults alone ---- */
+/* ---- only faults ---- */
 
-/* The faults of some bytes. Text between them is skipped as validation goes over it, window by window. */
+/* The faults of some bytes. Text between them is skipped by validation, window by window. */
 typedef struct {
     READER_HEAD
     Search search;
@@ -823,18 +837,18 @@ static void faults_dealloc(PyObject *object) {
     reader_dealloc(object);
 }
 
-/* Faults(form, data, type, errors) */
+/* Faults(encoding, data, type, errors) */
 static PyObject *faults_new(PyTypeObject *type, PyObject *args, PyObject *names) {
     PyObject *data, *pieces, *errors;
-    nody_form_t form;
+    nody_encoding_t encoding;
     Faults *self;
     (void)names;
-    if (!PyArg_ParseTuple(args, "O&OOO:Faults", take_form, &form, &data, &pieces, &errors))
+    if (!PyArg_ParseTuple(args, "O&OOO:Faults", take_encoding, &encoding, &data, &pieces, &errors))
         return NULL;
     self = (Faults *)PyType_GenericAlloc(type, 0);
     if (self == NULL)
         return NULL;
-    if (!take_bytes(data, &self->view) || !open_search(&self->search, WHOLE, form, &self->view) ||
+    if (!take_bytes(data, &self->view) || !open_search(&self->search, WHOLE, encoding, &self->view) ||
         !maker_begin(&self->maker, pieces, errors)) {
         Py_DECREF(self);
         return NULL;
@@ -859,7 +873,7 @@ static PyObject *faults_next(PyObject *object) {
     return made;
 }
 
-/* Faults as arrays: offsets of 64 bits, lengths and kinds of 8. Their room comes from malloc, which needs no lock. */
+/* Faults as arrays: offsets of 64 bits, lengths and kinds of 8. Their memory comes from malloc, which needs no lock. */
 typedef struct {
     uint64_t *offsets;
     uint8_t *lens, *kinds;
@@ -883,7 +897,7 @@ static int grow_arrays(Arrays *arrays) {
     return 1;
 }
 
-/* Puts the faults that begin before `end`, at their offsets and `base` more. Answers 0 without memory. */
+/* Puts the faults that begin before `end`, at their offsets and `base` more. Returns 0 without memory. */
 static int put_faults(Arrays *arrays, Search *search, size_t end, uint64_t base) {
     size_t offset;
     for (;;) {
@@ -898,19 +912,19 @@ static int put_faults(Arrays *arrays, Search *search, size_t end, uint64_t base)
     }
 }
 
-/* fault_arrays(form, data, end, base): the faults of data[:end], told apart by all of the data, as three `bytes`. */
+/* fault_arrays(encoding, data, end, base): the faults of data[:end], as three `bytes`; their kinds depend on all of the data. */
 static PyObject *fault_arrays(PyObject *module, PyObject *args) {
     Py_buffer view;
-    nody_form_t form;
+    nody_encoding_t encoding;
     Search search;
     Arrays arrays = {NULL, NULL, NULL, 0, 0};
     Py_ssize_t end;
     unsigned long long base;
     PyObject *made = NULL;
     (void)module;
-    if (!PyArg_ParseTuple(args, "O&O&nK:fault_arrays", take_form, &form, take_bytes, &view, &end, &base))
+    if (!PyArg_ParseTuple(args, "O&O&nK:fault_arrays", take_encoding, &encoding, take_bytes, &view, &end, &base))
         return NULL;
-    if (is_place(end, view.len) && open_search(&search, WHOLE, form, &view)) {
+    if (is_place(end, view.len) && open_search(&search, WHOLE, encoding, &view)) {
         PyThreadState *thread = let_lock_go((size_t)end);
         int is_made = put_faults(&arrays, &search, (size_t)end, base);
         Py_ssize_t count = (Py_ssize_t)arrays.count;
@@ -927,18 +941,18 @@ static PyObject *fault_arrays(PyObject *module, PyObject *args) {
     return made;
 }
 
-/* kind_counts(form, data, end): how many faults of each kind data[:end] has, told apart by all of the data. */
+/* kind_counts(encoding, data, end): how many faults of each kind data[:end] has; their kinds depend on all of the data. */
 static PyObject *kind_counts(PyObject *module, PyObject *args) {
     Py_buffer view;
-    nody_form_t form;
+    nody_encoding_t encoding;
     Search search;
     Py_ssize_t end;
     size_t found[NODY_KIND_NONE + 1] = {0}, offset;
     PyObject *made = NULL;
     (void)module;
-    if (!PyArg_ParseTuple(args, "O&O&n:kind_counts", take_form, &form, take_bytes, &view, &end))
+    if (!PyArg_ParseTuple(args, "O&O&n:kind_counts", take_encoding, &encoding, take_bytes, &view, &end))
         return NULL;
-    if (is_place(end, view.len) && open_search(&search, WHOLE, form, &view)) {
+    if (is_place(end, view.len) && open_search(&search, WHOLE, encoding, &view)) {
         PyThreadState *thread = let_lock_go((size_t)end);
         nody_piece_t piece;
         while ((piece = next_found(&search, &offset)).kind != NODY_KIND_NONE && offset < (size_t)end)
@@ -1001,8 +1015,9 @@ static PyMethodDef functions[] = {{"supported", supported, METH_NOARGS, NULL},
                                   {"kind_sentence", kind_sentence, METH_O, NULL},
                                   {"fault", fault, METH_VARARGS, NULL},
                                   {"boundary", boundary, METH_VARARGS, NULL},
+                                  {"shard_end", shard_end, METH_VARARGS, NULL},
                                   {"undecided_len", undecided_len, METH_VARARGS, NULL},
-                                  {"form_of_bom", form_of_bom, METH_O, NULL},
+                                  {"encoding_of_bom", encoding_of_bom, METH_O, NULL},
                                   {"check", check, METH_O, NULL},
                                   {"char_count", char_count, METH_VARARGS, NULL},
                                   {"number_of", number_of, METH_VARARGS, NULL},
@@ -1032,7 +1047,7 @@ static int begin_module(PyObject *module) {
     return 0;
 }
 
-/* From 3.12 on a module says that each interpreter may load it, also one with a lock of its own. Older ones refuse the slot, which
+/* From 3.12 on a module says that each interpreter may load it, also one with a lock of its own. Older ones reject the slot, which
  * they do not know, so there are two definitions; one wheel serves both. (The numbers are those of the stable ABI, whose headers of
  * 3.11 lack them.) */
 #ifndef Py_mod_multiple_interpreters

@@ -1,4 +1,4 @@
-/* Decoding for the codecs: text without faults, and faults put through a handler of errors, or through what the interpreter's own
+/* Decoding for the codecs: text without faults, and faults put through an error handler, or through what the interpreter's own
  * handlers do, without asking them one by one. */
 #include "views.h"
 
@@ -9,12 +9,12 @@
 
 #define ROOM 4096 /* characters that wait to become a string */
 #define SHORT 64  /* strings up to this length wait one by one */
-#define CLOSE 4   /* after so many faults with fewer bytes between them a chunk is recoded at once */
+#define CLOSE 4   /* after this many faults with fewer bytes between them a chunk is converted as a whole */
 #define CHUNK 512 /* about how many bytes this has */
-#define WIDEST 16 /* the most bytes that stand for a fault: \xd8\x00 in UTF-16 */
+#define WIDEST 16 /* the longest replacement of a fault: \xd8\x00 in UTF-16 */
 
 #if !defined(_WIN32)
-/* wchar_t has to have room for any character, and then a string may have lone surrogates too. */
+/* wchar_t has to hold any character, and then a string may have lone surrogates too. */
 typedef char wide_enough[sizeof(wchar_t) == 4 ? 1 : -1];
 #endif
 
@@ -27,7 +27,7 @@ typedef struct {
     Py_UCS4 room[ROOM];
 } Text;
 
-/* These characters as a string, lone surrogates too. (On Windows a wchar_t has too little room for some of them) */
+/* These characters as a string, lone surrogates too. (On Windows a wchar_t is too small for some of them) */
 static PyObject *string_of(const Py_UCS4 *characters, size_t count) {
 #if defined(_WIN32)
     int order = -1;
@@ -88,9 +88,9 @@ static PyObject *end_text(Text *text, int is_made) {
 }
 
 /* The text of bytes without faults. */
-static PyObject *text_of(nody_form_t form, const uint8_t *bytes, size_t len) {
-    int order = form == NODY_FORM_UTF16LE ? -1 : 1;
-    return form == NODY_FORM_UTF8 ? PyUnicode_DecodeUTF8((const char *)bytes, (Py_ssize_t)len, "strict")
+static PyObject *text_of(nody_encoding_t encoding, const uint8_t *bytes, size_t len) {
+    int order = encoding == NODY_UTF16LE ? -1 : 1;
+    return encoding == NODY_UTF8 ? PyUnicode_DecodeUTF8((const char *)bytes, (Py_ssize_t)len, "strict")
                                   : PyUnicode_DecodeUTF16((const char *)bytes, (Py_ssize_t)len, "strict", &order);
 }
 
@@ -117,27 +117,27 @@ static size_t held_utf8(const uint8_t *bytes, size_t len) {
     return 0;
 }
 
-static size_t held(nody_form_t form, const uint8_t *bytes, size_t len) {
-    return form == NODY_FORM_UTF8 ? held_utf8(bytes, len) : undecided(form, bytes, len);
+static size_t held(nody_encoding_t encoding, const uint8_t *bytes, size_t len) {
+    return encoding == NODY_UTF8 ? held_utf8(bytes, len) : undecided(encoding, bytes, len);
 }
 
-/* decode(form, data, final): the text, and how many bytes were read: what may yet become a character is left, unless no more
- * follows. Where there is a fault in these: its place, length and kind, all bytes, and how many are read. */
+/* decode(encoding, data, final): the text, and the bytes that are held: what may yet become a character, unless no more follows. If there
+ * is a fault before these: its offset, length and kind, all bytes, and where those that are held begin. */
 PyObject *decode(PyObject *module, PyObject *args) {
-    PyObject *form_number, *data, *text, *source, *made = NULL;
+    PyObject *encoding_number, *data, *text, *source, *made = NULL;
     Py_buffer view;
     Window window;
-    nody_form_t form;
+    nody_encoding_t encoding;
     int final;
     (void)module;
-    if (!PyArg_ParseTuple(args, "OOp:decode", &form_number, &data, &final) || !take_form(form_number, &form) || !take_bytes(data, &view))
+    if (!PyArg_ParseTuple(args, "OOp:decode", &encoding_number, &data, &final) || !take_encoding(encoding_number, &encoding) || !take_bytes(data, &view))
         return NULL;
     if (open_window(&window, &view)) {
-        size_t end = (size_t)view.len - (final ? 0 : held(form, view.buf, (size_t)view.len));
-        Fault fault = first_fault(&window, STREAMED, form, &view);
+        size_t end = (size_t)view.len - (final ? 0 : held(encoding, view.buf, (size_t)view.len));
+        Fault fault = first_fault(&window, STREAMED, encoding, &view);
         size_t stop = fault.at < end ? fault.at : end;
-        if (stop == end && (text = text_of(form, view.buf, end)) != NULL)
-            made = Py_BuildValue("Nn", text, (Py_ssize_t)end);
+        if (stop == end && (text = text_of(encoding, view.buf, end)) != NULL)
+            made = Py_BuildValue("Ny#", text, (const char *)view.buf + end, view.len - (Py_ssize_t)end);
         else if (stop < end && (source = bytes_of(data, &view)) != NULL)
             made = Py_BuildValue("nnINn", (Py_ssize_t)stop, (Py_ssize_t)fault.len, (unsigned)fault.kind, source, (Py_ssize_t)end);
         close_window(&window);
@@ -152,7 +152,7 @@ PyObject *decode(PyObject *module, PyObject *args) {
  * the interpreter's codec is asked: it puts these for all bytes that are in no character, however it divides them into faults. */
 enum Way { IGNORE, REPLACE, BACKSLASH, ESCAPE };
 
-/* Bytes that grow. Their room comes from malloc, which needs no lock. */
+/* Bytes that grow. Their memory comes from malloc, which needs no lock. */
 typedef struct {
     uint8_t *bytes;
     size_t len, room;
@@ -176,7 +176,7 @@ static void put_bytes(Made *made, const void *bytes, size_t len) {
 
 /* Bytes with faults, and the valid bytes that are made of them. */
 typedef struct {
-    nody_form_t form;
+    nody_encoding_t encoding;
     enum Way way;
     const uint8_t *bytes;
     size_t len;
@@ -193,15 +193,15 @@ static int put_valid(Mending *it, const uint8_t *bytes, size_t len) {
 /* Puts a character of 7 bits. */
 static void put_ascii(Mending *it, char character) {
     uint8_t unit[2] = {0, 0};
-    unit[it->form == NODY_FORM_UTF16BE] = (uint8_t)character;
-    put_bytes(&it->made, unit, it->form == NODY_FORM_UTF8 ? 1 : 2);
+    unit[it->encoding == NODY_UTF16BE] = (uint8_t)character;
+    put_bytes(&it->made, unit, it->encoding == NODY_UTF8 ? 1 : 2);
 }
 
-/* Puts what stands for a fault: put_valid kept room for it. */
+/* Puts the replacement of a fault: put_valid reserved its memory. */
 static void put_fault(Mending *it, const uint8_t *fault, size_t len) {
     static const char *const fffd[] = {"\xEF\xBF\xBD", "\xFD\xFF", "\xFF\xFD"};
     if (it->way == REPLACE)
-        put_bytes(&it->made, fffd[it->form], it->form == NODY_FORM_UTF8 ? 3 : 2);
+        put_bytes(&it->made, fffd[it->encoding], it->encoding == NODY_UTF8 ? 3 : 2);
     for (size_t i = 0; i < len && it->way == BACKSLASH; i++) {
         put_ascii(it, '\\');
         put_ascii(it, 'x');
@@ -210,7 +210,7 @@ static void put_fault(Mending *it, const uint8_t *fault, size_t len) {
     }
 }
 
-/* Whether U+FFFD stands at the front of UTF-8. */
+/* Whether UTF-8 begins with U+FFFD. */
 static int is_fffd(const uint8_t *bytes, size_t len) {
     return len > 2 && memcmp(bytes, "\xEF\xBF\xBD", 3) == 0;
 }
@@ -228,12 +228,12 @@ static size_t same_bytes(const uint8_t *bytes, size_t len, const uint8_t *text, 
     return size;
 }
 
-/* Puts a chunk of UTF-8; `end` gets where it ends. */
+/* Puts a chunk of UTF-8; `end` gets its end. */
 static int put_chunk(Mending *it, size_t begin, size_t *end) {
     const uint8_t *bytes = it->bytes + begin;
     uint8_t text[3 * CHUNK];
-    size_t len = nody_boundary_before(it->form, bytes, it->len - begin, CHUNK), size, at = 0;
-    nody_recode(it->form, it->form, bytes, len, text, sizeof text, &size);
+    size_t len = nody_boundary_before(it->encoding, bytes, it->len - begin, CHUNK), size, at = 0;
+    nody_recode(it->encoding, it->encoding, bytes, len, text, sizeof text, &size);
     *end = begin + len;
     if (it->way == REPLACE)
         return put_valid(it, text, size);
@@ -248,20 +248,20 @@ static int put_chunk(Mending *it, size_t begin, size_t *end) {
     return 1;
 }
 
-/* Puts all bytes, of which the first are known to be valid. Answers 0 without memory. */
+/* Puts all bytes, of which the first are known to be valid. Returns 0 without memory. */
 static int mend(Mending *it, size_t valid) {
     size_t at = 0, close = 0, fault;
     while (put_valid(it, it->bytes + at, valid)) {
         at += valid;
         if (at == it->len)
             return 1;
-        fault = fault_len(it->form, it->len - at);
+        fault = fault_len(it->encoding, it->len - at);
         put_fault(it, it->bytes + at, fault);
         at += fault;
         close = valid < CLOSE ? close + 1 : 0;
-        if (close >= CLOSE && it->form == NODY_FORM_UTF8 && !put_chunk(it, at, &at))
+        if (close >= CLOSE && it->encoding == NODY_UTF8 && !put_chunk(it, at, &at))
             return 0;
-        valid = valid_up_to(it->form, it->bytes + at, it->len - at);
+        valid = valid_up_to(it->encoding, it->bytes + at, it->len - at);
     }
     return 0;
 }
@@ -271,12 +271,12 @@ static PyObject *mended(Mending *it, size_t valid) {
     int is_made = has_room(&it->made, it->len + it->len / 16 + WIDEST) && mend(it, valid);
     PyObject *text;
     take_lock(thread);
-    text = is_made ? text_of(it->form, it->made.bytes, it->made.len) : PyErr_NoMemory();
+    text = is_made ? text_of(it->encoding, it->made.bytes, it->made.len) : PyErr_NoMemory();
     free(it->made.bytes);
     return text;
 }
 
-/* replaced(form, source, valid, end, way): the text of source[:end] with each fault put in a way; its first bytes are known to be valid. */
+/* replaced(encoding, source, valid, end, way): the text of source[:end] with each fault put in a way; its first bytes are known to be valid. */
 PyObject *replaced(PyObject *module, PyObject *args) {
     PyObject *source;
     Mending it;
@@ -284,7 +284,7 @@ PyObject *replaced(PyObject *module, PyObject *args) {
     int way;
     (void)module;
     memset(&it, 0, sizeof it);
-    if (!PyArg_ParseTuple(args, "O&Snni:replaced", take_form, &it.form, &source, &valid, &end, &way))
+    if (!PyArg_ParseTuple(args, "O&Snni:replaced", take_encoding, &it.encoding, &source, &valid, &end, &way))
         return NULL;
     if (!is_place(end, PyBytes_Size(source)) || !is_place(valid, end))
         return NULL;
@@ -295,25 +295,41 @@ PyObject *replaced(PyObject *module, PyObject *args) {
 
 /* ---- handlers that are asked ---- */
 
-/* What the loop over faults has. `source` and `end` change when a handler puts other bytes into the error. */
+/* What the loop over faults has. `source` changes when a handler puts other bytes into the error. */
 typedef struct {
-    nody_form_t form;
+    nody_encoding_t encoding;
+    int final; /* whether no more follows */
     PyObject *source, *error, *handler, *kinds, *reasons;
-    Py_ssize_t at, end, before;
+    Py_ssize_t at, before;
     PyObject *names[3]; /* of the attributes: offset, error, reason */
 } Asking;
 
-/* Puts the text up to the next fault, and says which that is. */
-static int put_text(Text *text, Asking *asking, Fault *fault) {
-    const uint8_t *bytes = (const uint8_t *)PyBytes_AsString(asking->source) + asking->at;
-    Py_buffer view = {.buf = (void *)bytes, .len = PyBytes_Size(asking->source) - asking->at};
+/* The bytes that are left. */
+static const uint8_t *left_bytes(const Asking *asking) {
+    return (const uint8_t *)PyBytes_AsString(asking->source) + asking->at;
+}
+
+static size_t left_len(const Asking *asking) {
+    return (size_t)(PyBytes_Size(asking->source) - asking->at);
+}
+
+/* How many of the bytes that are left can be decoded now. Units are counted from where decoding went on: a handler may have gone on
+ * inside of one. */
+static size_t decided(const Asking *asking) {
+    size_t len = left_len(asking);
+    return asking->final ? len : len - held(asking->encoding, left_bytes(asking), len);
+}
+
+/* Puts the text up to the next fault, if that is within `left` bytes, and returns that fault. */
+static int put_text(Text *text, Asking *asking, size_t left, Fault *fault) {
+    const uint8_t *bytes = left_bytes(asking);
+    Py_buffer view = {.buf = (void *)bytes, .len = (Py_ssize_t)left_len(asking)};
     Window all = {NULL, NULL, 0, 0, 0};
-    Py_ssize_t left = asking->end - asking->at;
-    *fault = find_fault(&all, STREAMED, asking->form, &view, 0);
-    if (fault->at >= (size_t)left)
-        *fault = (Fault){(size_t)left, 0, NODY_KIND_NONE};
+    *fault = find_fault(&all, STREAMED, asking->encoding, &view, 0);
+    if (fault->at >= left)
+        *fault = (Fault){left, 0, NODY_KIND_NONE};
     asking->at += (Py_ssize_t)fault->at;
-    return fault->at == 0 || put(text, text_of(asking->form, bytes, fault->at));
+    return fault->at == 0 || put(text, text_of(asking->encoding, bytes, fault->at));
 }
 
 static int set_error(const Asking *asking, Fault fault) {
@@ -327,7 +343,7 @@ static int set_error(const Asking *asking, Fault fault) {
     return !failed;
 }
 
-/* Where to go on, by the number in a handler's answer. */
+/* Sets where decoding continues, by the position that an error handler returned. */
 static int go_on(Asking *asking, PyObject *number) {
     Py_ssize_t len = PyBytes_Size(asking->source), at = PyLong_AsSsize_t(number);
     if (at == -1 && PyErr_Occurred()) {
@@ -350,8 +366,6 @@ static int take_source(Asking *asking) {
     PyObject *source = PyUnicodeDecodeError_GetObject(asking->error), *old = asking->source;
     if (source == NULL)
         return 0;
-    if (source != old)
-        asking->end = PyBytes_Size(source);
     asking->source = source;
     Py_DECREF(old);
     return 1;
@@ -375,8 +389,9 @@ static int put_answer(Text *text, Asking *asking) {
 
 static int put_handled(Text *text, Asking *asking) {
     Fault fault;
-    while (asking->at < asking->end) {
-        if (!put_text(text, asking, &fault))
+    size_t left;
+    while ((left = decided(asking)) > 0) {
+        if (!put_text(text, asking, left, &fault))
             return 0;
         if (fault.kind != NODY_KIND_NONE && !(set_error(asking, fault) && put_answer(text, asking)))
             return 0;
@@ -384,9 +399,9 @@ static int put_handled(Text *text, Asking *asking) {
     return 1;
 }
 
-/* handled(form, source, valid, end, before, error, handler, kinds, reasons): the text of source[:end] with each fault put through a
- * handler, and where the handler let it end; its first bytes are known to be valid. The error gets the place and the kind of each
- * fault; its offset counts `before` too. */
+/* handled(encoding, source, valid, final, before, error, handler, kinds, reasons): the text of the source with each fault put through a
+ * handler, and the bytes that are held, as decode() has it; the first bytes are known to be valid. The error gets the place and the kind
+ * of each fault; its offset counts `before` too. */
 PyObject *handled(PyObject *module, PyObject *args) {
     static const char *const names[3] = {"offset", "error", "reason"};
     PyObject *made = NULL;
@@ -395,20 +410,22 @@ PyObject *handled(PyObject *module, PyObject *args) {
     int is_made = 1;
     (void)module;
     memset(&asking, 0, sizeof asking);
-    if (!PyArg_ParseTuple(args, "O&SnnnO!OO!O!:handled", take_form, &asking.form, &asking.source, &asking.at, &asking.end, &asking.before,
+    if (!PyArg_ParseTuple(args, "O&SnpnO!OO!O!:handled", take_encoding, &asking.encoding, &asking.source, &asking.at, &asking.final, &asking.before,
                           (PyTypeObject *)PyExc_UnicodeDecodeError, &asking.error, &asking.handler, &PyTuple_Type, &asking.kinds,
                           &PyTuple_Type, &asking.reasons))
         return NULL;
-    if (!is_place(asking.end, PyBytes_Size(asking.source)) || !is_place(asking.at, asking.end) || !begin_text(&text))
+    if (!is_place(asking.at, PyBytes_Size(asking.source)) || !begin_text(&text))
         return NULL;
     Py_INCREF(asking.source);
     for (int i = 0; i < 3; i++)
         is_made = (asking.names[i] = PyUnicode_InternFromString(names[i])) != NULL && is_made;
-    is_made = is_made && put(&text, text_of(asking.form, (const uint8_t *)PyBytes_AsString(asking.source), (size_t)asking.at)) &&
+    is_made = is_made && put(&text, text_of(asking.encoding, (const uint8_t *)PyBytes_AsString(asking.source), (size_t)asking.at)) &&
               put_handled(&text, &asking);
     made = end_text(&text, is_made);
+    if (made != NULL)
+        made = Py_BuildValue("Ny#", made, (const char *)left_bytes(&asking), (Py_ssize_t)left_len(&asking));
     for (int i = 0; i < 3; i++)
         Py_XDECREF(asking.names[i]);
     Py_DECREF(asking.source);
-    return made == NULL ? NULL : Py_BuildValue("Nn", made, asking.at);
+    return made;
 }

@@ -1,4 +1,4 @@
-/* See lengths.h. Blocks have narrow sums, so that compilers count many bytes at once. */
+/* See lengths.h. Blocks have narrow sums, so that compilers vectorise the counts. */
 #include "lengths.h"
 
 #include <string.h>
@@ -9,7 +9,7 @@
 
 enum { COUNTED = 128 }; /* bytes or units of a block */
 
-/* Counts in blocks, and the rest by itself. */
+/* Counts in blocks, and the rest separately. */
 #define COUNT(in, len, size, Sum, of)                       \
     size_t count = 0, at = 0;                               \
     for (; at + (size) * COUNTED <= (len); at += (size) * COUNTED) { \
@@ -68,18 +68,18 @@ COUNTS(_wide, WITH_AVX2)
 #define COUNTED_BY(name, in, len) name(in, len)
 #endif
 
-size_t line_count(nody_form_t form, const uint8_t *bytes, size_t len) {
-    if (form == NODY_FORM_UTF8)
+size_t line_count(nody_encoding_t encoding, const uint8_t *bytes, size_t len) {
+    if (encoding == NODY_UTF8)
         return COUNTED_BY(line_ends, bytes, len);
-    return form == NODY_FORM_UTF16_NATIVE ? COUNTED_BY(same_line_ends, bytes, len) : COUNTED_BY(swapped_line_ends, bytes, len);
+    return encoding == NODY_UTF16_NATIVE ? COUNTED_BY(same_line_ends, bytes, len) : COUNTED_BY(swapped_line_ends, bytes, len);
 }
 
-size_t least_recoded(nody_form_t from, nody_form_t to, const uint8_t *in, size_t len) {
+size_t least_recoded(nody_encoding_t from, nody_encoding_t to, const uint8_t *in, size_t len) {
     size_t count;
-    if ((from == NODY_FORM_UTF8) == (to == NODY_FORM_UTF8))
+    if ((from == NODY_UTF8) == (to == NODY_UTF8))
         return len;
-    if (from != NODY_FORM_UTF8)
-        return from == NODY_FORM_UTF16_NATIVE ? COUNTED_BY(same_lens, in, len) : COUNTED_BY(swapped_lens, in, len);
+    if (from != NODY_UTF8)
+        return from == NODY_UTF16_NATIVE ? COUNTED_BY(same_lens, in, len) : COUNTED_BY(swapped_lens, in, len);
     count = COUNTED_BY(fronts, in, len);
     return 2 * (count < len / 3 ? len / 3 : count); /* (three bytes become one unit, or more) */
 }

@@ -23,11 +23,11 @@ typedef struct {
     Character *chars; /* those that were made, each at its last eight bits; NULL before the first */
 } Maker;
 
-/* Takes the type of pieces, and the tuple of errors by their numbers. Answers 0 with an error; maker_end is due then too. */
+/* Takes the type of pieces, and the tuple of errors by their numbers. Returns 0 with an error; maker_end is due then too. */
 int maker_begin(Maker *maker, PyObject *type, PyObject *errors);
 void maker_end(Maker *maker);
 
-/* Where it answers NULL no other code has run: the caller puts the piece back, and nothing is lost. */
+/* Returns NULL if it fails, before any other code has run: the caller puts the piece back, and nothing is lost. */
 PyObject *make_piece(Maker *maker, size_t offset, nody_piece_t piece);
 
 /* ---- iterators over pieces ---- */

@@ -1,17 +1,19 @@
 /* The pieces of a part of input, over the library's decoder.
  *
- * What a decoder has between parts is kept by the package: an offset, and the bytes that are held. What it has after a part is told by
- * the last bytes of that alone. So a part is read when its pieces are asked for, and the next one may be fed before. */
+  * The package keeps the state of a decoder between parts: an offset, and the bytes that are carried over. Its state after a part depends
+  * only on the last bytes of that part. So a part is read when its pieces are asked for, and the next one may be fed before. */
 #include "maker.h"
 #include "views.h"
 
+#include <errno.h>
 #include <string.h>
 
-#define BLOCK 256 /* pieces that cross at once, at most */
-#define FEW 32    /* the same of faults */
+#define BLOCK 256 /* the most pieces of one call of the library */
+#define FEW 32    /* the most faults of one call */
 #define HELD 3    /* the bytes that are held, at most */
+#define READ_AT_ONCE (1 << 16) /* the bytes that a file is asked for */
 
-/* What a part is asked for: its pieces, its faults alone, or what ends the input; before it is, nothing. The numbers are those of the
+/* What a part is asked for: its pieces, only its faults, or what ends the input; before it is, nothing. The numbers are those of the
  * package. */
 enum Asked { NOTHING, PIECES, FAULTS, LAST };
 
@@ -35,13 +37,13 @@ static void part_dealloc(PyObject *object) {
     reader_dealloc(object);
 }
 
-/* Part(form, data, type, errors): it gives nothing before begin. */
+/* Part(encoding, data, type, errors): it gives nothing before begin. */
 static PyObject *part_new(PyTypeObject *type, PyObject *args, PyObject *names) {
     PyObject *data, *pieces, *errors;
-    nody_form_t form;
+    nody_encoding_t encoding;
     Part *self;
     (void)names;
-    if (!PyArg_ParseTuple(args, "O&OOO:Part", take_form, &form, &data, &pieces, &errors))
+    if (!PyArg_ParseTuple(args, "O&OOO:Part", take_encoding, &encoding, &data, &pieces, &errors))
         return NULL;
     self = (Part *)PyType_GenericAlloc(type, 0);
     if (self == NULL)
@@ -50,11 +52,11 @@ static PyObject *part_new(PyTypeObject *type, PyObject *args, PyObject *names) {
         Py_DECREF(self);
         return NULL;
     }
-    self->decoder = nody_decoder(form);
+    self->decoder = nody_decoder(encoding);
     return (PyObject *)self;
 }
 
-/* Feeds bytes to a decoder; what comes of them, at most so many pieces, goes to `out`. Answers how many. */
+/* Feeds bytes to a decoder, which writes at most `room` pieces to `out`. Returns how many. */
 static size_t fed(nody_decoder_t *decoder, const void *bytes, size_t len, nody_located_t *out, size_t room, size_t *read) {
     size_t count;
     nody_decoder_feed(decoder, bytes, len, out, room, read, &count);
@@ -63,7 +65,7 @@ static size_t fed(nody_decoder_t *decoder, const void *bytes, size_t len, nody_l
 
 /* Gives a decoder an offset and the bytes that are held, as parts before left them; they are fed, so none that cannot be is taken. */
 static int take_state(nody_decoder_t *decoder, PyObject *offset, const char *held, Py_ssize_t len) {
-    nody_decoder_t made = nody_decoder(decoder->form);
+    nody_decoder_t made = nody_decoder(decoder->encoding);
     nody_located_t piece;
     size_t read;
     made.offset = PyLong_AsUnsignedLongLong(offset);
@@ -85,7 +87,7 @@ static nody_decoder_t after(nody_decoder_t decoder, const Py_buffer *view) {
     if (len > TAIL) {
         uint64_t offset = decoder.offset;
         count = TAIL - all % 2;
-        decoder = nody_decoder(decoder.form);
+        decoder = nody_decoder(decoder.encoding);
         decoder.offset = offset + all - count;
     }
     memcpy(tail, (const uint8_t *)view->buf + len - count, count);
@@ -93,7 +95,7 @@ static nody_decoder_t after(nody_decoder_t decoder, const Py_buffer *view) {
     return decoder;
 }
 
-/* Makes the block: room for all pieces of so many bytes, if these are few, and for some faults. */
+/* Allocates the block: memory for all pieces of `len` bytes, if these are few, and for some faults. */
 static int make_block(Part *self, enum Asked asked, size_t len) {
     size_t all = HELD + len;
     self->room = asked == FAULTS ? FEW : all < BLOCK ? all : BLOCK;
@@ -103,7 +105,7 @@ static int make_block(Part *self, enum Asked asked, size_t len) {
     return self->block != NULL;
 }
 
-/* begin(asked, offset, held): what comes of the part, if those are left of the parts before. Answers what is left of it: the same two. */
+/* begin(asked, offset, held): begins the part with the state after the parts before. Returns the state after this one: an offset and bytes. */
 static PyObject *part_begin(PyObject *object, PyObject *args) {
     Part *self = (Part *)object;
     int asked;
@@ -142,13 +144,13 @@ static size_t next_pieces(Part *self) {
     return count;
 }
 
-/* What the part ends with and later ones decide stays with the decoder, and is not told. */
+/* The undecided bytes at the end of the part stay with the decoder, and are not reported. */
 static size_t next_faults(Part *self) {
     size_t len = (size_t)self->view.len, read, count = 0;
     PyThreadState *thread = let_lock_go(len - self->read);
     while (count == 0 && self->read < len) {
         if (self->seen == self->window.len) {
-            next_window(&self->window, self->decoder.form, (const uint8_t *)self->view.buf + self->read, len - self->read);
+            next_window(&self->window, self->decoder.encoding, (const uint8_t *)self->view.buf + self->read, len - self->read);
             self->seen = 0;
         }
         nody_decoder_feed_faults(&self->decoder, self->window.bytes + self->seen, self->window.len - self->seen, self->block, self->room, &read, &count);
@@ -158,7 +160,7 @@ static size_t next_faults(Part *self) {
     return count;
 }
 
-/* The next piece, or NULL. It is taken once it is made: so it is not lost where there was no memory. */
+/* The next piece, or NULL. It is taken once it is made: so it is not lost if there was no memory. */
 static PyObject *next_made(Part *self) {
     const nody_located_t *it = self->block + self->at;
     PyObject *made;
@@ -199,79 +201,168 @@ static PyType_Slot part_slots[] = {{Py_tp_new, part_new},         {Py_tp_dealloc
 PyType_Spec part_spec = {"noddychest._noddychest.Part", sizeof(Part), 0, Py_TPFLAGS_DEFAULT | Py_TPFLAGS_HAVE_GC, part_slots};
 
 /* The pieces of all parts, one after another. It asks for the next part when those of the one before are given, and that may run any code:
- * one call goes at a time. */
+ * one call goes at a time. A part that was given is kept until it can be taken. So after an error the next call goes on, and no byte is
+ * lost. */
 typedef struct {
     Part part; /* the one at hand: its decoder goes on from part to part */
     enum Asked each; /* what each part is asked for */
-    PyObject *parts; /* an iterator over bytes-like objects; NULL at the end, and after an error */
+    PyObject *parts; /* an iterator over bytes-like objects; otherwise those of a file; NULL at the end */
+    PyObject *read, *waits, *again;
+    PyObject *given; /* the next part, if it is there */
 } Stream;
 
 static void stream_dealloc(PyObject *object) {
+    Stream *self = (Stream *)object;
     PyObject_GC_UnTrack(object);
-    Py_XDECREF(((Stream *)object)->parts);
+    Py_XDECREF(self->parts);
+    Py_XDECREF(self->read);
+    Py_XDECREF(self->waits);
+    Py_XDECREF(self->again);
+    Py_XDECREF(self->given);
     part_dealloc(object);
 }
 
 static int stream_traverse(PyObject *object, visitproc visit, void *arg) {
-    Py_VISIT(((Stream *)object)->parts);
+    Stream *self = (Stream *)object;
+    Py_VISIT(self->parts);
+    Py_VISIT(self->read);
+    Py_VISIT(self->waits);
+    Py_VISIT(self->again);
+    Py_VISIT(self->given);
     return reader_traverse(object, visit, arg);
 }
 
-/* Stream(form, parts, asked, type, errors) */
+/* Takes what gives the parts: an iterable, or of a file a tuple of three. `read(size)` gives a block. `waits()` says whether an empty
+ * block is the end; if it is not, `again(size)` is asked. */
+static int take_parts(Stream *self, PyObject *parts) {
+    if (!PyTuple_CheckExact(parts) || PyTuple_Size(parts) != 3) {
+        self->parts = PyObject_GetIter(parts);
+        return self->parts != NULL;
+    }
+    self->read = Py_NewRef(PyTuple_GetItem(parts, 0));
+    self->waits = Py_NewRef(PyTuple_GetItem(parts, 1));
+    self->again = Py_NewRef(PyTuple_GetItem(parts, 2));
+    return 1;
+}
+
+/* Stream(encoding, parts, asked, type, errors) */
 static PyObject *stream_new(PyTypeObject *type, PyObject *args, PyObject *names) {
     PyObject *parts, *pieces, *errors;
-    nody_form_t form;
+    nody_encoding_t encoding;
     int asked;
     Stream *self;
     (void)names;
-    if (!PyArg_ParseTuple(args, "O&OiOO:Stream", take_form, &form, &parts, &asked, &pieces, &errors))
+    if (!PyArg_ParseTuple(args, "O&OiOO:Stream", take_encoding, &encoding, &parts, &asked, &pieces, &errors))
         return NULL;
     self = (Stream *)PyType_GenericAlloc(type, 0);
     if (self == NULL)
         return NULL;
-    self->part.decoder = nody_decoder(form);
+    self->part.decoder = nody_decoder(encoding);
     self->each = asked == FAULTS ? FAULTS : PIECES;
-    self->parts = PyObject_GetIter(parts);
-    if (self->parts == NULL || !maker_begin(&self->part.maker, pieces, errors) || !make_block(&self->part, self->each, BLOCK)) {
+    if (!take_parts(self, parts) || !maker_begin(&self->part.maker, pieces, errors) || !make_block(&self->part, self->each, BLOCK)) {
         Py_DECREF(self);
         return NULL;
     }
     return (PyObject *)self;
 }
 
-/* Takes a part, of which nothing is read yet. Answers 0 with an error. */
+/* Takes a part, of which nothing is read yet. Returns 0 with an error. */
 static int take_part(Stream *self, PyObject *data) {
     Part *part = &self->part;
     if (!take_bytes(data, &part->view))
         return 0;
     part->read = part->seen = 0;
+    if (self->each == FAULTS) {
+        close_window(&part->window);
+        memset(&part->window, 0, sizeof part->window);
+        if (!open_window(&part->window, &part->view))
+            return 0;
+        part->window.most = SKIPPED;
+    }
     part->asked = self->each;
-    if (self->each != FAULTS)
-        return 1;
-    close_window(&part->window);
-    memset(&part->window, 0, sizeof part->window);
-    if (!open_window(&part->window, &part->view))
-        return 0;
-    part->window.most = SKIPPED;
     return 1;
 }
 
-/* Goes to the next part, or after the last one to what is held then. Answers 0 where nothing is left, or with an error. */
+/* Whether a block of a file has no bytes. (What is no bytes-like object is rejected later) */
+static int is_empty(PyObject *block) {
+    Py_buffer view;
+    int empty;
+    if (PyBytes_CheckExact(block))
+        return PyBytes_Size(block) == 0;
+    if (!PyObject_CheckBuffer(block) || PyObject_GetBuffer(block, &view, PyBUF_SIMPLE) < 0) {
+        PyErr_Clear();
+        return 0;
+    }
+    empty = view.len == 0;
+    PyBuffer_Release(&view);
+    return empty;
+}
+
+/* Calls a function with a size, and returns what it returns. */
+static PyObject *call_sized(PyObject *function, Py_ssize_t size) {
+    PyObject *number = PyLong_FromSsize_t(size), *made;
+    if (number == NULL)
+        return NULL;
+    made = PyObject_CallFunctionObjArgs(function, number, NULL);
+    Py_DECREF(number);
+    return made;
+}
+
+/* Whether an empty block is the end of the file; -1 with an error. */
+static int is_end(Stream *self) {
+    PyObject *waits = PyObject_CallFunctionObjArgs(self->waits, NULL);
+    int end = waits == NULL ? -1 : PyObject_IsTrue(waits);
+    Py_XDECREF(waits);
+    return end;
+}
+
+/* The next block of a file; NULL at its end, or with an error. None is what a file gives that does not wait, and has no data now. `read1` of
+ * a buffered one gives an empty block then, and its `read` gives None. It is C that keeps the block: no signal handler runs in here. */
+static PyObject *next_block(Stream *self) {
+    PyObject *block = call_sized(self->read, READ_AT_ONCE);
+    if (block != NULL && self->again != Py_None && is_empty(block)) {
+        int end = is_end(self);
+        if (end == 0) {
+            Py_DECREF(block);
+            block = call_sized(self->again, 1);
+        } else if (end < 0) {
+            Py_CLEAR(block);
+        }
+    }
+    if (block == Py_None) {
+        PyObject *why = Py_BuildValue("is", EAGAIN, "the file has no data now");
+        if (why != NULL)
+            PyErr_SetObject(PyExc_BlockingIOError, why);
+        Py_XDECREF(why);
+        Py_CLEAR(block);
+    } else if (block != NULL && is_empty(block)) {
+        Py_CLEAR(block);
+    }
+    return block;
+}
+
+/* Goes to the next part, or after the last one to what is held then. Returns 0 if nothing is left, or with an error. */
 static int next_part(Stream *self) {
     Part *part = &self->part;
-    PyObject *data;
     part->asked = NOTHING;
     PyBuffer_Release(&part->view); /* (so that a buffer may be filled anew) */
     part->view.len = 0, part->read = 0;
-    data = self->parts == NULL ? NULL : PyIter_Next(self->parts);
-    if (data != NULL && take_part(self, data)) {
-        Py_DECREF(data);
+    if (self->parts == NULL && self->read == NULL)
+        return 0;
+    if (self->given == NULL)
+        self->given = self->read != NULL ? next_block(self) : PyIter_Next(self->parts);
+    if (self->given != NULL) {
+        if (!take_part(self, self->given))
+            return 0;
+        Py_CLEAR(self->given);
         return 1;
     }
-    Py_XDECREF(data);
-    part->asked = self->parts != NULL && !PyErr_Occurred() ? LAST : NOTHING;
+    if (PyErr_Occurred())
+        return 0;
     Py_CLEAR(self->parts);
-    return part->asked == LAST;
+    Py_CLEAR(self->read);
+    part->asked = LAST;
+    return 1;
 }
 
 static PyObject *next_of_all(Stream *self) {

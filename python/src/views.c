@@ -5,7 +5,7 @@
 #include <string.h>
 
 #define LARGE (64 * 1024)  /* from here on other threads run */
-#define WINDOW (32 * 1024) /* the bytes that are copied at once */
+#define WINDOW (32 * 1024) /* the bytes of one copy */
 #define AHEAD 4            /* more bytes that are copied, to see what a fault at the end of a window is */
 
 int take_bytes(PyObject *data, void *into) {
@@ -22,15 +22,15 @@ int take_bytes(PyObject *data, void *into) {
     return PyObject_GetBuffer(data, view, PyBUF_SIMPLE) ? 0 : Py_CLEANUP_SUPPORTED;
 }
 
-int take_form(PyObject *number, void *into) {
-    long form = PyLong_AsLong(number);
-    if (form == -1 && PyErr_Occurred())
+int take_encoding(PyObject *number, void *into) {
+    long encoding = PyLong_AsLong(number);
+    if (encoding == -1 && PyErr_Occurred())
         return 0;
-    if (form < NODY_FORM_UTF8 || form > NODY_FORM_UTF16BE) {
+    if (encoding < NODY_UTF8 || encoding > NODY_UTF16BE) {
         PyErr_SetString(PyExc_ValueError, "no encoding has this number");
         return 0;
     }
-    *(nody_form_t *)into = (nody_form_t)form;
+    *(nody_encoding_t *)into = (nody_encoding_t)encoding;
     return 1;
 }
 
@@ -61,7 +61,7 @@ void take_lock(PyThreadState *thread) {
         PyEval_RestoreThread(thread);
 }
 
-/* Whether nobody can change the bytes of a view: they are those of a `bytes`, or of a memoryview of one. Answers -1 if an error is
+/* Whether nobody can change the bytes of a view: they are those of a `bytes`, or of a memoryview of one. Returns -1 if an error is
  * set. */
 static int is_steady(const Py_buffer *view) {
     PyObject *owner;
@@ -91,16 +91,16 @@ void close_window(Window *window) {
     free(window->copy);
 }
 
-void next_window(Window *window, nody_form_t form, const uint8_t *left, size_t len) {
+void next_window(Window *window, nody_encoding_t encoding, const uint8_t *left, size_t len) {
     window->bytes = left, window->len = window->seen = len;
     if (window->copy == NULL && window->most > 0)
-        window->len = nody_boundary_before(form, left, len, window->most);
+        window->len = nody_boundary_before(encoding, left, len, window->most);
     if (window->copy == NULL)
         return;
     window->seen = len < WINDOW + AHEAD ? len : WINDOW + AHEAD;
     memcpy(window->copy, left, window->seen);
     window->bytes = window->copy;
-    window->len = window->seen == len ? len : nody_boundary_before(form, window->copy, window->seen, WINDOW);
+    window->len = window->seen == len ? len : nody_boundary_before(encoding, window->copy, window->seen, WINDOW);
 }
 
 static nody_piece_t in_bytes(nody_piece_t piece) {
@@ -108,11 +108,11 @@ static nody_piece_t in_bytes(nody_piece_t piece) {
     return piece;
 }
 
-/* Up to two units, from the front of some bytes; answers how many. */
-static size_t two_units(nody_form_t form, const uint8_t *bytes, size_t len, uint16_t *units) {
+/* Up to two units, from the front of some bytes; returns how many. */
+static size_t two_units(nody_encoding_t encoding, const uint8_t *bytes, size_t len, uint16_t *units) {
     size_t count = len / 2 < 2 ? len / 2 : 2;
     for (size_t i = 0; i < count; i++)
-        units[i] = unit_at(form, bytes + 2 * i);
+        units[i] = unit_at(encoding, bytes + 2 * i);
     return count;
 }
 
@@ -126,50 +126,50 @@ static void copy_some(uint8_t *copy, const uint8_t *bytes, size_t count) {
         memcpy(copy, bytes, count);
 }
 
-nody_piece_t first_piece(nody_form_t form, const uint8_t *bytes, size_t len) {
+nody_piece_t first_piece(nody_encoding_t encoding, const uint8_t *bytes, size_t len) {
     uint16_t units[2] = {0, 0};
     uint8_t front[LONGEST];
     size_t count = len < LONGEST ? len : LONGEST;
-    if (form != NODY_FORM_UTF8)
-        return len == 1 ? half : in_bytes(nody_utf16_first(units, two_units(form, bytes, len, units)));
+    if (encoding != NODY_UTF8)
+        return len == 1 ? half : in_bytes(nody_utf16_first(units, two_units(encoding, bytes, len, units)));
     copy_some(front, bytes, count);
     return nody_utf8_first(front, count);
 }
 
-nody_piece_t last_piece(nody_form_t form, const uint8_t *bytes, size_t len) {
+nody_piece_t last_piece(nody_encoding_t encoding, const uint8_t *bytes, size_t len) {
     uint16_t units[2] = {0, 0};
     uint8_t tail[LONGEST];
     size_t count = len < LONGEST ? len : LONGEST;
-    if (form != NODY_FORM_UTF8)
-        return len % 2 == 1 ? half : in_bytes(nody_utf16_last(units, two_units(form, bytes + len - count, count, units)));
+    if (encoding != NODY_UTF8)
+        return len % 2 == 1 ? half : in_bytes(nody_utf16_last(units, two_units(encoding, bytes + len - count, count, units)));
     copy_some(tail, bytes + len - count, count);
     return nody_utf8_last(tail, count);
 }
 
-size_t valid_up_to(nody_form_t form, const uint8_t *bytes, size_t len) {
-    return nody_utf16_bytes_valid_up_to(form, bytes, len); /* (of UTF-8 too) */
+size_t valid_up_to(nody_encoding_t encoding, const uint8_t *bytes, size_t len) {
+    return nody_utf16_bytes_valid_up_to(encoding, bytes, len); /* (of UTF-8 too) */
 }
 
-size_t undecided(nody_form_t form, const uint8_t *bytes, size_t len) {
+size_t undecided(nody_encoding_t encoding, const uint8_t *bytes, size_t len) {
     uint8_t tail[TAIL];
     size_t count = len < TAIL ? len : TAIL - len % 2;
     memcpy(tail, bytes + len - count, count);
-    return nody_undecided_len(form, tail, count);
+    return nody_undecided_len(encoding, tail, count);
 }
 
 /* The fault at the front of some bytes, as a reader names it. */
-static nody_piece_t named(enum Reader reader, nody_form_t form, const uint8_t *bytes, size_t len) {
-    return reader == STREAMED && form == NODY_FORM_UTF8 ? nody_utf8_streamed_at(bytes, len, 0) : first_piece(form, bytes, len);
+static nody_piece_t named(enum Reader reader, nody_encoding_t encoding, const uint8_t *bytes, size_t len) {
+    return reader == STREAMED && encoding == NODY_UTF8 ? nody_utf8_streamed_at(bytes, len, 0) : first_piece(encoding, bytes, len);
 }
 
-Fault find_fault(Window *window, enum Reader reader, nody_form_t form, const Py_buffer *view, size_t at) {
+Fault find_fault(Window *window, enum Reader reader, nody_encoding_t encoding, const Py_buffer *view, size_t at) {
     size_t len = (size_t)view->len;
     while (at < len) {
         size_t valid;
-        next_window(window, form, (const uint8_t *)view->buf + at, len - at);
-        valid = valid_up_to(form, window->bytes, window->len);
+        next_window(window, encoding, (const uint8_t *)view->buf + at, len - at);
+        valid = valid_up_to(encoding, window->bytes, window->len);
         if (valid < window->len) {
-            nody_piece_t piece = named(reader, form, window->bytes + valid, window->seen - valid);
+            nody_piece_t piece = named(reader, encoding, window->bytes + valid, window->seen - valid);
             return (Fault){at + valid, piece.len, piece.kind};
         }
         at += window->len;
@@ -177,16 +177,16 @@ Fault find_fault(Window *window, enum Reader reader, nody_form_t form, const Py_
     return (Fault){len, 0, NODY_KIND_NONE};
 }
 
-Fault first_fault(Window *window, enum Reader reader, nody_form_t form, const Py_buffer *view) {
+Fault first_fault(Window *window, enum Reader reader, nody_encoding_t encoding, const Py_buffer *view) {
     PyThreadState *thread = let_lock_go((size_t)view->len);
-    Fault fault = find_fault(window, reader, form, view, 0);
+    Fault fault = find_fault(window, reader, encoding, view, 0);
     take_lock(thread);
     return fault;
 }
 
-int open_search(Search *search, enum Reader reader, nody_form_t form, const Py_buffer *view) {
+int open_search(Search *search, enum Reader reader, nody_encoding_t encoding, const Py_buffer *view) {
     memset(search, 0, sizeof *search);
-    search->form = form, search->reader = reader;
+    search->encoding = encoding, search->reader = reader;
     search->bytes = view->buf, search->len = (size_t)view->len;
     if (!open_window(&search->window, view))
         return 0;
@@ -198,10 +198,10 @@ nody_piece_t next_in_window(Search *search, size_t *offset) {
     nody_piece_t piece = {0, 0, NODY_KIND_NONE};
     const Window *window = &search->window;
     if (search->at < window->len)
-        search->at += valid_up_to(search->form, window->bytes + search->at, window->len - search->at);
+        search->at += valid_up_to(search->encoding, window->bytes + search->at, window->len - search->at);
     if (search->at == window->len)
         return piece;
-    piece = named(search->reader, search->form, window->bytes + search->at, window->seen - search->at);
+    piece = named(search->reader, search->encoding, window->bytes + search->at, window->seen - search->at);
     *offset = search->begin + search->at;
     search->at += piece.len;
     return piece;
@@ -211,7 +211,7 @@ nody_piece_t next_found(Search *search, size_t *offset) {
     nody_piece_t piece = next_in_window(search, offset);
     while (piece.kind == NODY_KIND_NONE && search->begin + search->window.len < search->len) {
         search->begin += search->window.len, search->at = 0;
-        next_window(&search->window, search->form, search->bytes + search->begin, search->len - search->begin);
+        next_window(&search->window, search->encoding, search->bytes + search->begin, search->len - search->begin);
         piece = next_in_window(search, offset);
     }
     return piece;

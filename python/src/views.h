@@ -17,11 +17,11 @@ static inline PyObject *Py_NewRef(PyObject *object) {
 /* ---- arguments ---- */
 
 /* For "O&". take_bytes takes any bytes-like object, at its size in bytes, without copying. One whose bytes do not lie one after
- * another is refused by itself. */
+ * another is rejected anyway. */
 int take_bytes(PyObject *data, void *view);
-int take_form(PyObject *number, void *form);
+int take_encoding(PyObject *number, void *encoding);
 
-/* Whether a place is from 0 up to `len`; else an IndexError is set. Places are given by the package, or by handlers of errors, and
+/* Whether a place is from 0 up to `len`; otherwise an IndexError is set. Places are given by the package, or by error handlers, and
  * are never trusted. */
 int is_place(Py_ssize_t place, Py_ssize_t len);
 
@@ -33,7 +33,7 @@ void plain_dealloc(PyObject *self);
 
 /* ---- the interpreter's lock ---- */
 
-/* Lets other threads run, if so many bytes take long enough. Pass the result to take_lock. */
+/* Lets other threads run, if a call over `len` bytes takes long enough. Pass the result to take_lock. */
 PyThreadState *let_lock_go(size_t len);
 void take_lock(PyThreadState *thread);
 
@@ -42,60 +42,60 @@ void take_lock(PyThreadState *thread);
 /* Bytes are read in windows. Those of a `bytes` object cannot change, so one window has them all. All others may be changed by
  * another thread or process at any time, and the library counts on bytes that stay as they are: their windows are copies. */
 typedef struct {
-    uint8_t *copy;        /* room for a copy; NULL if none is needed */
+    uint8_t *copy;        /* memory for a copy; NULL if none is needed */
     const uint8_t *bytes; /* the window */
     size_t len;
     size_t seen; /* its length together with the bytes after it that are there too: 4 or more, or all that are left */
     size_t most; /* how long the next one may be; 0 for any length */
 } Window;
 
-/* Answers 0 with a MemoryError if there is no room for the copies. */
+/* Returns 0 with a MemoryError if there is no memory for the copies. */
 int open_window(Window *window, const Py_buffer *view);
 void close_window(Window *window);
 
 /* The next window of the bytes that are left. It ends at a boundary, so the pieces of all windows are those of the whole. */
-void next_window(Window *window, nody_form_t form, const uint8_t *left, size_t len);
+void next_window(Window *window, nody_encoding_t encoding, const uint8_t *left, size_t len);
 
 /* ---- pieces and faults ---- */
 
 #define LONGEST 4 /* the bytes of the longest piece; what a piece is depends on no more, from its first on or up to its last */
 
 /* The first and the last piece of some bytes, with its length in bytes; NODY_KIND_NONE if there are none. */
-nody_piece_t first_piece(nody_form_t form, const uint8_t *bytes, size_t len);
-nody_piece_t last_piece(nody_form_t form, const uint8_t *bytes, size_t len);
+nody_piece_t first_piece(nody_encoding_t encoding, const uint8_t *bytes, size_t len);
+nody_piece_t last_piece(nody_encoding_t encoding, const uint8_t *bytes, size_t len);
 
 /* How far some bytes are valid. */
-size_t valid_up_to(nody_form_t form, const uint8_t *bytes, size_t len);
+size_t valid_up_to(nody_encoding_t encoding, const uint8_t *bytes, size_t len);
 
 /* How many bytes at the end depend on what follows. They are read from a copy of the last TAIL, or one less: three are enough, and in
  * UTF-16 whole units. */
 #define TAIL 4
-size_t undecided(nody_form_t form, const uint8_t *bytes, size_t len);
+size_t undecided(nody_encoding_t encoding, const uint8_t *bytes, size_t len);
 
-/* How many bytes a fault has that stands at the front of so many. */
-static inline size_t fault_len(nody_form_t form, size_t len) {
-    return form == NODY_FORM_UTF8 || len < 2 ? 1 : 2;
+/* The length of a fault at the front of `len` bytes. */
+static inline size_t fault_len(nody_encoding_t encoding, size_t len) {
+    return encoding == NODY_UTF8 || len < 2 ? 1 : 2;
 }
 
-/* A fault: its place, its length, and its kind; NODY_KIND_NONE where there is none. */
+/* A fault: its offset, its length, and its kind; NODY_KIND_NONE if there is none. */
 typedef struct {
     size_t at, len;
     nody_kind_t kind;
 } Fault;
 
-/* What is wrong where a fault stands: as a reader that has all bytes names it, or one that gets them one at a time. */
+/* How faults are named: as by a reader that has all bytes, or one that gets them one at a time. */
 enum Reader { WHOLE, STREAMED };
 
-/* The first fault from a place on, or none at the end. first_fault lets the lock go; find_fault needs none. */
-Fault first_fault(Window *window, enum Reader reader, nody_form_t form, const Py_buffer *view);
-Fault find_fault(Window *window, enum Reader reader, nody_form_t form, const Py_buffer *view, size_t at);
+/* The first fault from an offset on, or none at the end. first_fault lets the lock go; find_fault needs none. */
+Fault first_fault(Window *window, enum Reader reader, nody_encoding_t encoding, const Py_buffer *view);
+Fault find_fault(Window *window, enum Reader reader, nody_encoding_t encoding, const Py_buffer *view, size_t at);
 
-/* The bytes over which faults are looked for at once. */
+/* How many bytes one search for faults scans. */
 #define SKIPPED (1 << 20)
 
 /* A search for faults, one after another, window by window. */
 typedef struct {
-    nody_form_t form;
+    nody_encoding_t encoding;
     enum Reader reader;
     const uint8_t *bytes;
     size_t len;
@@ -104,8 +104,8 @@ typedef struct {
     size_t at;    /* how far it was read */
 } Search;
 
-/* Answers 0 with a MemoryError if there is no room for the copies. The window is closed by the caller. */
-int open_search(Search *search, enum Reader reader, nody_form_t form, const Py_buffer *view);
+/* Returns 0 with a MemoryError if there is no memory for the copies. The window is closed by the caller. */
+int open_search(Search *search, enum Reader reader, nody_encoding_t encoding, const Py_buffer *view);
 
 /* The next fault and its offset, or NODY_KIND_NONE: in this window, or in all bytes. No lock is let go. */
 nody_piece_t next_in_window(Search *search, size_t *offset);
@@ -115,8 +115,8 @@ nody_piece_t next_found(Search *search, size_t *offset);
 nody_piece_t next_fault(Search *search, size_t *offset);
 
 /* The unit at the first two of some bytes. */
-static inline uint16_t unit_at(nody_form_t form, const uint8_t *bytes) {
-    int low = form == NODY_FORM_UTF16LE ? 0 : 1;
+static inline uint16_t unit_at(nody_encoding_t encoding, const uint8_t *bytes) {
+    int low = encoding == NODY_UTF16LE ? 0 : 1;
     return (uint16_t)(bytes[low] | bytes[!low] << 8);
 }
 

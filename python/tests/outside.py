@@ -1,6 +1,7 @@
 """What the tests expect, from outside of the package: the interpreter's own strict decoders, one character at a time."""
 import os
 import random
+import site
 
 TOP = os.path.dirname(os.path.dirname(os.path.dirname(os.path.abspath(__file__))))
 CODECS = {"noddychest-utf8": "utf-8", "noddychest-utf16le": "utf-16-le", "noddychest-utf16be": "utf-16-be"}
@@ -9,7 +10,7 @@ EDGES = bytes.fromhex("00417f80818f909fa0bfc0c1c2dfe0e1ecedeeeff0f1f3f4f5ff")
 
 
 def cut(data, encoding="utf-8"):
-    """Pieces by the definition: a character stands where the bytes are its code, and else there is a fault of one byte or unit."""
+    """Pieces by the definition: a character if the bytes are its encoding, and otherwise a fault of one byte or unit."""
     unit = 1 if encoding == "utf-8" else 2
     found, at = [], 0
     while at < len(data):
@@ -48,15 +49,24 @@ def inputs(count, longest, seed=1):
 
 
 def damaged(line, every, size):
-    """Text of about so many bytes, in which each so many of them have one that is invalid."""
+    """Text of about `size` bytes, of which every `every`th is invalid."""
     text = line * (size // len(line) + 1)
     return b"".join(text[at:at + every - 1] + b"\xff" for at in range(0, size, every))
 
 
 def rows(name):
-    """The lines of one of the repository's lists of vectors, or None where only the package is there."""
+    """The lines of one of the repository's lists of vectors, or None if only the package is there."""
     path = os.path.join(TOP, "crates", "conformance", "data", name)
     if not os.path.exists(path):
         return None
     with open(path, encoding="ascii") as file:
         return [line.rstrip("\n").split("|") for line in file if not line.startswith("#")]
+
+
+def skip_unless_installed(test):
+    """Where the package is not among those of the interpreter, as where PYTHONPATH names it, no line of it runs at the start."""
+    import noddychest
+
+    folder = os.path.dirname(os.path.dirname(os.path.abspath(noddychest.__file__)))
+    if folder not in map(os.path.abspath, [*site.getsitepackages(), site.getusersitepackages()]):
+        test.skipTest("the package is not installed")

@@ -27,7 +27,7 @@ CALLS = [
     lambda data: pieces(data, "utf16be"),
     lambda data: Ends(data, "utf16be"),
     lambda data: recoded_len(data, "utf8", "utf16be"),
-    lambda data: recode(data, "utf8", "utf8", "maximal"),
+    lambda data: recode(data, "utf8", "utf8", "lossy"),
     lambda data: recode(data, "utf8", "utf16le"),
     lambda data: recode(data, "utf16le", "utf8", "strict"),
     Recoder("utf8", "utf8").feed,
@@ -138,7 +138,7 @@ class Lifetime(unittest.TestCase):
         self.assertLess(len(list(run)), 1000)
 
     def test_changed_bytes_are_in_one_piece(self):
-        """Also where a character comes to lie over the place up to which a reader from the back came."""
+        """Also if the offset that a backward reader has reached comes to be inside a character."""
         for char in "\U0010ffff€é":
             data, code = bytearray(b"a" * len(char.encode())), char.encode()
             for taken in range(1, len(code)):

@@ -1,4 +1,4 @@
-"""The codecs: decoding with each handler of errors, encoding, in parts, as streams, and every split."""
+"""The codecs: decoding with each error handler, encoding, in parts, as streams, and every split."""
 import codecs
 import copy
 import io
@@ -6,12 +6,14 @@ import itertools
 import os
 import pickle
 import random
+import subprocess
+import sys
 import tempfile
 import time
 import unittest
 
 import noddychest
-from noddychest import ErrorKind, FaultError
+from noddychest import FaultKind, FaultError
 
 import outside
 
@@ -61,7 +63,7 @@ class Decoding(unittest.TestCase):
         fault = raised.exception
         self.assertIsInstance(fault, FaultError)
         self.assertEqual((fault.encoding, fault.object, fault.start, fault.end), ("noddychest-utf8", b"ab\xe2\x82A", 2, 3))
-        self.assertEqual((fault.reason, fault.error, fault.offset), (fault.error.reason, ErrorKind.INTERRUPTED_SEQUENCE, 2))
+        self.assertEqual((fault.reason, fault.error, fault.offset), (fault.error.reason, FaultKind.INTERRUPTED_SEQUENCE, 2))
         self.assertIn("'noddychest-utf8' codec can't decode byte 0xe2 in position 2: ", str(fault))
 
     def test_unknown_handler(self):
@@ -196,6 +198,34 @@ class Streams(unittest.TestCase):
             decoder.setstate(state)
             decoder.reset()
             self.assertEqual(decoder.decode("b".encode(encoding), True), "b")
+
+    def test_a_state_that_is_none_changes_nothing(self):
+        for name in outside.CODECS:
+            decoder = codecs.getincrementaldecoder(name)()
+            decoder.decode("a".encode(outside.CODECS[name])[:1] if name != "noddychest-utf8" else b"\xe2")
+            state = decoder.getstate()
+            for wrong in (("text", 0), (5, 0), (None, 0), (bytearray(b"a"), 0), (), 5):
+                with self.assertRaises((TypeError, IndexError)):
+                    decoder.setstate(wrong)
+                self.assertEqual((decoder.getstate(), decoder.getstate()[0].before), (state, state[0].before))
+
+    def test_a_handler_that_resets(self):
+        """What it asks for would be undone when the call ends; so it is rejected."""
+        refused = []
+
+        def handler(error):
+            for call in (decoder.reset, lambda: decoder.setstate((b"", 0))):
+                try:
+                    call()
+                except RuntimeError as why:
+                    refused.append(why)
+            return "?", error.end
+
+        codecs.register_error("noddychest.resets", handler)
+        decoder = codecs.getincrementaldecoder("noddychest-utf8")("noddychest.resets")
+        self.assertEqual((decoder.decode(b"a\xff\xe2"), len(refused), decoder.getstate()), ("a?", 2, (b"\xe2", 0)))
+        decoder.reset()
+        self.assertEqual(decoder.decode(b"b", True), "b")
 
     def test_iterdecode(self):
         parts = [bytes([it]) for it in "né€😀".encode()]
@@ -360,7 +390,7 @@ class OwnHandlers(unittest.TestCase):
 
 
 def taken(data, encoding, errors):
-    """The fewest seconds of processor time, of three runs, or of one that is long."""
+    """The fewest seconds of CPU time, of three runs, or of one that is long."""
     times = []
     while len(times) < 3 and sum(times) < 0.1:
         begun = time.process_time()
@@ -469,7 +499,7 @@ def fed(decoder, parts):
 
 
 def splits(data):
-    """All ways to cut short bytes into parts; of longer ones each way into two, and each byte by itself."""
+    """All ways to cut short bytes into parts; of longer ones each way into two, and each byte separately."""
     places = range(1, len(data))
     chosen = itertools.chain.from_iterable(itertools.combinations(places, count) for count in range(len(data) if len(data) < 5 else 2))
     for cuts in [*chosen, tuple(places)]:
@@ -477,7 +507,7 @@ def splits(data):
 
 
 class EverySplit(unittest.TestCase):
-    """Beside the interpreter's strict decoder: each part gives the same text, and the same part raises at the same offset."""
+    """compared with the interpreter's strict decoder: each part gives the same text, and the same part raises at the same offset."""
 
     def test_strict(self):
         for name, encoding in outside.CODECS.items():
@@ -503,6 +533,148 @@ class EverySplit(unittest.TestCase):
                     decoder.reset()
                     text = "".join(decoder.decode(part) for part in parts) + decoder.decode(b"", True)
                     self.assertEqual(text, whole, (parts, name, errors))
+
+
+def all_splits(data):
+    for count in range(1 << max(len(data) - 1, 0)):
+        cuts = [at for at in range(1, len(data)) if count >> (at - 1) & 1]
+        yield [data[a:b] for a, b in zip((0, *cuts), (*cuts, len(data)))]
+
+
+def told_in_parts(parts, name, errors):
+    """The text, or the offset of the fault at which a handler raised."""
+    decoder = codecs.getincrementaldecoder(name)(errors)
+    try:
+        return "".join(map(decoder.decode, parts)) + decoder.decode(b"", True)
+    except FaultError as error:
+        return error.offset
+
+
+class WhereHandlersGoOn(unittest.TestCase):
+    """A handler may go on inside of a unit, or of a character. From there on text is decoded as if it began there, however it comes in
+    parts."""
+
+    BYTES = bytes.fromhex("0041d8dbdcdfe282ffed")
+
+    def handlers(self):
+        """What each puts in place of a fault, and where it goes on; None if it raises."""
+        def after_one(fault):
+            return f"<{fault[0]:x}>", 1
+
+        def now_and_then(fault):
+            return "?", 1 if fault[-1] % 3 else len(fault)
+
+        def or_raises(fault):
+            return ("!", 1) if fault[0] != 0x41 else None
+
+        def escaped(fault):
+            bad = fault[:next((at for at, it in enumerate(fault) if it < 128), len(fault))]
+            return ("".join(chr(0xDC00 + it) for it in bad), len(bad)) if bad else None
+
+        for function in (after_one, now_and_then, or_raises):
+            def handler(error, function=function):
+                made = function(error.object[error.start:error.end])
+                if made is None:
+                    raise error
+                return made[0], error.start + made[1]
+
+            codecs.register_error(f"noddychest.{function.__name__}", handler)
+            yield f"noddychest.{function.__name__}", function
+        yield "surrogateescape", escaped
+
+    def expected(self, data, encoding, function):
+        at, text = 0, ""
+        while at < len(data):
+            _, char, size = outside.cut(data[at:at + 4], encoding)[0]
+            made = (char, size) if char is not None else function(data[at:at + size])
+            if made is None:
+                return at
+            text, at = text + made[0], at + made[1]
+        return text
+
+    def test_every_division(self):
+        source, handlers = random.Random(71), [*self.handlers()]
+        for _ in range(4000):
+            data = bytes(source.choice(self.BYTES) for _ in range(source.randint(1, 7)))
+            for name, encoding in outside.CODECS.items():
+                errors, function = source.choice(handlers)
+                whole = self.expected(data, encoding, function)
+                try:
+                    self.assertEqual(data.decode(name, errors), whole, (data, name, errors))
+                except FaultError as error:
+                    self.assertEqual(error.offset, whole, (data, name, errors))
+                for parts in all_splits(data):
+                    self.assertEqual(told_in_parts(parts, name, errors), whole, (parts, name, errors))
+
+    def test_long_texts(self):
+        source, handlers = random.Random(72), [*self.handlers()][:2]
+        for _ in range(60):
+            data = b"".join(source.choice([b"a\0", b"\0a", b"\0\xdc", b"\xdc\0", b"\xd8\0\xdc\0", b"\xe2\x82"]) * source.choice([1, 2, 300])
+                            for _ in range(source.randint(1, 20)))
+            for name, encoding in outside.CODECS.items():
+                errors, function = source.choice(handlers)
+                whole = self.expected(data, encoding, function)
+                self.assertEqual(data.decode(name, errors), whole)
+                for _ in range(3):
+                    cuts = sorted(source.randrange(len(data) + 1) for _ in range(source.randint(0, 9)))
+                    self.assertEqual(told_in_parts([data[a:b] for a, b in zip((0, *cuts), (*cuts, len(data)))], name, errors), whole)
+
+    def test_readers(self):
+        """A file that is read in small blocks."""
+        [*self.handlers()]
+        data = (b"\xdc\0A" + "né".encode("utf-16-be")) * 100
+        for errors in ("noddychest.after_one", "surrogateescape"):
+            whole = data.decode("noddychest-utf16be", errors)
+            for size in (1, 2, 3, 7):
+                reader = codecs.getreader("noddychest-utf16be")(io.BytesIO(data), errors)
+                self.assertEqual("".join(iter(lambda: reader.read(size), "")), whole)
+            file = io.TextIOWrapper(io.BytesIO(data), "noddychest-utf16be", errors, newline="")
+            file._CHUNK_SIZE = 3
+            self.assertEqual(file.read(), whole)
+
+    def test_other_bytes_in_parts(self):
+        """What a handler puts in place of the bytes of a part is decoded to its end; what of that is held is not lost, and not read twice."""
+        def without(error):
+            error.object = error.object[:error.start] + error.object[error.end:]
+            return "", error.start
+
+        codecs.register_error("noddychest.without", without)
+        data = b"a\xff\xe2\x82\xacb\xff\xff\xc3\xa9\xff"
+        for parts in all_splits(data):
+            self.assertEqual(told_in_parts(parts, "noddychest-utf8", "noddychest.without"), "a€bé", parts)
+
+
+class InOtherProcesses(unittest.TestCase):
+    """The codecs are found where nothing has imported the package."""
+
+    def run_python(self, program):
+        outside.skip_unless_installed(self)
+        ran = subprocess.run([sys.executable, "-c", program], stdout=subprocess.PIPE, text=True, check=True)
+        return ran.stdout.strip()
+
+    def test_at_the_start(self):
+        for name in ("noddychest-utf8", "Noddychest_UTF_8"):
+            self.assertEqual(self.run_python(f"import sys\nbefore = 'noddychest' in sys.modules\n"
+                                             f"print(before, b'a\\xff'.decode({name!r}, 'backslashreplace'))"), "False a\\xff")
+        self.assertEqual(self.run_python("import codecs\ntry: codecs.lookup('noddychest-utf7')\nexcept LookupError: print('unknown')"), "unknown")
+
+    def test_multiprocessing(self):
+        for method in ("spawn", "forkserver"):
+            program = ("import codecs, multiprocessing\nwith multiprocessing.get_context({!r}).Pool(1) as pool:\n"
+                       "    print(pool.apply(codecs.decode, (b'a\\xff', 'noddychest-utf8', 'backslashreplace')))")
+            self.assertEqual(self.run_python(program.format(method)), "a\\xff")
+
+    def test_decoders_are_sent(self):
+        for name, encoding in outside.CODECS.items():
+            decoder = codecs.getincrementaldecoder(name)("replace")
+            data = "a😀".encode(encoding)
+            decoder.decode(data[:-1])
+            for again in (pickle.loads(pickle.dumps(decoder)), copy.copy(decoder), copy.deepcopy(decoder)):
+                self.assertEqual((again.decode(data[-1:]), type(again)), ("😀", type(decoder)))
+            encoder = codecs.getincrementalencoder(name)("replace")
+            self.assertEqual(pickle.loads(pickle.dumps(encoder)).encode("é"), "é".encode(encoding))
+            for function in (codecs.getencoder(name), codecs.getdecoder(name)):
+                self.assertIs(pickle.loads(pickle.dumps(function)), function)
 
 
 if __name__ == "__main__":

@@ -1,16 +1,24 @@
 """noddychest.dask, on workers of this machine: the same as from one process, also where workers are killed."""
+import codecs
+import copy
 import errno
 import hashlib
 import os
+import pathlib
+import pickle
+import shutil
 import signal
+import socket
 import subprocess
 import tempfile
 import time
 import unittest
+from unittest import mock
 
-from noddychest import ChangedError, FaultError, faults_array, parallel, pieces, recode
+from noddychest import ChangedError, FaultError, Recoded, faults_array, parallel, pieces, recode
 from noddychest import dask as nody_dask
 
+import outside
 from test_parallel import InFolder, mixed
 from test_shards import FORMS, facts, texts
 
@@ -34,6 +42,13 @@ class OnWorkers(InFolder):
         cls.client.close()
         cls.cluster.close()
 
+    def parts(self, folder):
+        """The parts of a folder, in order."""
+        return sorted(os.path.join(folder, it) for it in os.listdir(folder) if it != nody_dask.MANIFEST)
+
+    def recode(self, *given, **named):
+        return nody_dask.recode(self.client, *given, **named)
+
     def digest(self, *paths):
         return hashlib.sha256(b"".join(map(self.read, paths))).hexdigest()
 
@@ -56,7 +71,7 @@ class SameAsOne(OnWorkers):
                 found = nody_dask.check(self.client, self.path, form, size=size)
                 self.assertEqual({name: list(it.pieces()) for name, it in found.items()}, {self.path: wrong})
                 self.assertEqual(nody_dask.count(self.client, self.path, form, size=size), {self.path: counts})
-                for to, errors in zip(FORMS, ("replace", "maximal", "replace")):
+                for to, errors in zip(FORMS, ("replace", "lossy", "replace")):
                     made = nody_dask.recode(self.client, self.path, self.out, form, to, errors=errors, size=size)
                     self.assertEqual((self.read(), made.written), (recode(data, form, to, errors), os.path.getsize(self.out)))
 
@@ -69,9 +84,9 @@ class SameAsOne(OnWorkers):
         self.assertEqual((found, made.replaced), (faults_array(data), len(found.offsets)))
         self.assertEqual(nody_dask.count(self.client, self.path)[self.path], parallel.count(self.path))
         nody_dask.recode(self.client, self.path, self.out + ".d", "utf8", "utf16le", parts=True, size=2_000_000)
-        names = sorted(os.listdir(self.out + ".d"))
-        self.assertEqual((names[0], len(names)), ("part-00000", 15))
-        self.assertEqual(self.digest(*(os.path.join(self.out + ".d", it) for it in names)), self.digest(self.out))
+        names = self.parts(self.out + ".d")
+        self.assertEqual((os.path.basename(names[0]), len(names)), ("part-00000", 15))
+        self.assertEqual(self.digest(*names), self.digest(self.out))
 
     def test_many_files(self):
         folder, them = self.files()
@@ -95,7 +110,7 @@ class SameAsOne(OnWorkers):
         self.write(data)
         out = self.out + ".d"
         nody_dask.recode(self.client, self.path, out, "utf8", "utf16le", parts=True, size=500_000)
-        names = [os.path.join(out, it) for it in sorted(os.listdir(out))]
+        names = self.parts(out)
         digest = self.digest(*names)
         for it in names:
             os.utime(it, (1, 1))
@@ -116,6 +131,296 @@ class SameAsOne(OnWorkers):
         self.assertEqual(made.written, sum(map(os.path.getsize, names)))
 
 
+class Manifests(OnWorkers):
+    """A file is kept if it is of this run: the source as it is, the arguments, the version of the package. All else is made anew."""
+
+    DATA = "Größe, 漢字 and 😀\n".encode() * 3000
+
+    def runs(self):
+        """Runs of which no two make the same, though all outputs have one length: of one file, of a folder, of a list, as parts."""
+        folder = os.path.join(self.folder, "many")
+        os.mkdir(folder)
+        self.paths = [self.path, os.path.join(folder, "one"), os.path.join(folder, "two")]
+        for it in self.paths:
+            self.write(self.DATA, it)
+        for name, source, options in (("file", self.path, {}), ("folder", folder, {}), ("list", self.paths[1:], {}), ("parts", self.path, {"parts": True})):
+            yield os.path.join(self.folder, f"out-{name}"), source, {"resume": True, "size": 20_000, **options}
+
+    def outputs(self, out):
+        return self.parts(out) if os.path.isdir(out) else [out]
+
+    def is_kept(self, out, source, *words, **options):
+        """Whether all outputs are kept from before; also then the bytes have to be those of the run."""
+        before = self.outputs(out)
+        for it in before:
+            os.utime(it, (1, 1))
+        self.recode(source, out, *words, **options)
+        them = self.outputs(out)
+        whole = [b"".join(map(self.read, them))] if options.get("parts") else map(self.read, them)
+        expected = recode(self.read(self.paths[-1]), *words, options.get("errors", "replace"))
+        self.assertEqual([*whole], [expected] * (1 if options.get("parts") else len(them)))
+        kept = {os.path.getmtime(it) == 1 for it in them}
+        self.assertEqual(len(kept), 1)
+        return kept.pop() and before == them
+
+    def test_other_arguments(self):
+        for out, source, options in self.runs():
+            self.recode(source, out, "utf8", "utf16le", **options)
+            self.assertTrue(self.is_kept(out, source, "utf8", "utf16le", **options), out)
+            self.assertFalse(self.is_kept(out, source, "utf8", "utf16be", **options), out)
+            self.assertTrue(self.is_kept(out, source, "utf8", "utf16be", **options), out)
+            self.assertFalse(self.is_kept(out, source, "utf8", "utf16be", **{**options, "errors": "lossy"}), out)
+            self.assertFalse(self.is_kept(out, source, "utf8", "utf16be", **options), out)
+            self.assertFalse(self.is_kept(out, source, "utf16le", "utf16be", **options), out)
+            self.assertFalse(self.is_kept(out, source, "utf16be", "utf16le", **options), out)
+            self.assertTrue(self.is_kept(out, source, "UTF-16BE", "UTF_16_LE", **options), out)
+            with mock.patch.object(nody_dask, "__version__", "0.9"):
+                self.assertFalse(self.is_kept(out, source, "utf16be", "utf16le", **options), out)
+            self.assertFalse(self.is_kept(out, source, "utf16be", "utf16le", **{**options, "resume": False}), out)
+            shutil.rmtree(os.path.join(self.folder, "many"), ignore_errors=True) if out.endswith("parts") else None
+
+    def test_another_source(self):
+        for out, source, options in self.runs():
+            self.recode(source, out, "utf8", "utf16le", **options)
+            for it in self.paths:  # rewritten, with the same length
+                self.write(self.DATA.replace(b"a", b"b"), it)
+            self.assertFalse(self.is_kept(out, source, "utf8", "utf16le", **options), out)
+            self.assertTrue(self.is_kept(out, source, "utf8", "utf16le", **options), out)
+            if out.endswith(("file", "parts")):  # of the same length and time
+                other = self.path + "-other"
+                shutil.copy2(self.path, other)
+                self.assertFalse(self.is_kept(out, other, "utf8", "utf16le", **options), out)
+
+    def test_a_run_without_resume_in_between(self):
+        for out, source, options in self.runs():
+            self.recode(source, out, "utf8", "utf16le", **options)
+            self.recode(source, out, "utf8", "utf16be", **{**options, "resume": False})
+            self.assertFalse(self.is_kept(out, source, "utf8", "utf16le", **options), out)
+
+    def test_no_manifest_or_a_damaged_one(self):
+        for out, source, options in self.runs():
+            self.recode(source, out, "utf8", "utf16le", **options)
+            manifest = os.path.join(out if os.path.isdir(out) else self.folder, nody_dask.MANIFEST)
+            for damage in (os.remove, lambda it: self.write(b"", it), lambda it: self.write(b"\xff{", it), lambda it: self.write(b"[" * 100_000, it),
+                           lambda it: self.write(b'{"parts": 5, "files": [1]}', it), lambda it: self.write(b'{"parts": [], "files": {"one": 1, "two": [2, 3]}}', it)):
+                self.assertTrue(self.is_kept(out, source, "utf8", "utf16le", **options), out)
+                damage(manifest)
+                self.assertFalse(self.is_kept(out, source, "utf8", "utf16le", **options), out)
+
+    def test_parts_of_a_longer_run(self):
+        """Those go away; what has another name, or is a folder, stays."""
+        out, others = self.out + ".d", ["notes", "part-1", "part-00000.txt", "xpart-00000", "part-0000x", "part-00099"]
+        for resume in (False, True):
+            self.write(self.DATA * 3)
+            self.recode(self.path, out, "utf8", "utf16le", parts=True, size=5_000, resume=resume)
+            longer = self.parts(out)
+            for it in others[:-1]:
+                self.write(b"mine", os.path.join(out, it))
+            os.makedirs(os.path.join(out, others[-1]), exist_ok=True)
+            self.write(b"old", os.path.join(out, "part-123456"))
+            self.write(self.DATA)
+            self.recode(self.path, out, "utf8", "utf16le", parts=True, size=5_000, resume=resume)
+            shorter = [it for it in self.parts(out) if os.path.basename(it) not in others]
+            self.assertLess(len(shorter), len(longer))
+            self.assertEqual(b"".join(map(self.read, shorter)), recode(self.DATA, "utf8", "utf16le"))
+            self.assertEqual([os.path.exists(os.path.join(out, it)) for it in others], [True] * len(others))
+            self.recode(self.path, out, "utf8", "utf16le", parts=True, size=10_000, resume=True)
+            shorter = [it for it in self.parts(out) if os.path.basename(it) not in others]
+            self.assertEqual(b"".join(map(self.read, shorter)), recode(self.DATA, "utf8", "utf16le"))
+            for it in os.scandir(out):
+                if not it.is_dir():
+                    os.remove(it.path)
+
+    def test_names_in_a_manifest_lead_nowhere(self):
+        """Whatever names are in it, no file of others is removed."""
+        victim = os.path.join(self.folder, "victim")
+        self.write(b"mine", victim)
+        out = self.out + ".d"
+        os.mkdir(out)
+        self.write(b'{"parts": ["../victim", "part-00000"], "files": {"../victim": [["x"], 4]}}', os.path.join(out, nody_dask.MANIFEST))
+        self.write(self.DATA)
+        self.recode(self.path, out, "utf8", "utf8", parts=True, resume=True)
+        self.assertEqual((self.read(victim), [self.read(it) for it in self.parts(out)]), (b"mine", [self.DATA]))
+
+    def test_another_run_at_once(self):
+        """Two runs into one folder: the one that was first says so, and the parts are those of the other."""
+        self.write(self.DATA * 10)
+        out, begun = self.out + ".d", []
+
+        def other(done, total):
+            if not begun:
+                begun.append(True)
+                self.recode(self.path, out, "utf8", "utf16be", parts=True, size=50_000)
+
+        with self.assertRaises(ChangedError):
+            self.recode(self.path, out, "utf8", "utf16le", other, parts=True, size=50_000)
+        self.assertEqual(b"".join(map(self.read, self.parts(out))), recode(self.DATA * 10, "utf8", "utf16be"))
+
+    def test_interrupted(self):
+        """A run that was killed goes on with the parts that exist."""
+        self.write(self.DATA * 10)
+        out = self.out + ".d"
+        with self.assertRaises(ZeroDivisionError):
+            self.recode(self.path, out, "utf8", "utf16le", lambda done, total: 1 / (done < total / 2), parts=True, size=50_000, resume=True)
+        stand = self.parts(out)
+        for it in stand:
+            os.utime(it, (1, 1))
+        self.recode(self.path, out, "utf8", "utf16le", parts=True, size=50_000, resume=True)
+        self.assertGreater(sum(os.path.getmtime(it) == 1 for it in self.parts(out)), 2)
+        self.assertEqual(b"".join(map(self.read, self.parts(out))), recode(self.DATA * 10, "utf8", "utf16le"))
+
+    def test_one_file_has_a_manifest_only_to_resume(self):
+        self.write(self.DATA)
+        self.recode(self.path, self.out, "utf8", "utf16le")
+        self.assertEqual(self.left(), ["out"])
+        self.recode(self.path, self.out, "utf8", "utf16le", resume=True)
+        self.assertEqual(self.left(), [nody_dask.MANIFEST, "out"])
+
+    def test_a_source_that_changes_at_the_end(self):
+        """The source is the output: what others write to it, after it was read, is not lost."""
+        self.write(self.DATA)
+        size = len(self.DATA)
+
+        def at_last(done, total):
+            if done == total:
+                with open(self.path, "ab") as file:
+                    file.write(b"by another")
+
+        with self.assertRaises(ChangedError):
+            self.recode(self.path, self.path, "utf8", "utf16le", at_last)
+        self.assertEqual((self.read(self.path), self.left()), (self.DATA + b"by another", []))
+        self.assertEqual(size, len(self.DATA))
+
+
+class OddFiles(OnWorkers):
+    """Files of a folder that cannot be read are reported, and all others are read."""
+
+    def make(self):
+        folder, them = self.files()
+        os.mkfifo(os.path.join(folder, "pipe"))
+        os.symlink("nowhere", os.path.join(folder, "dangling"))
+        os.symlink("circle", os.path.join(folder, "circle"))
+        os.symlink(self.folder, os.path.join(folder, "in", "linked"))
+        with socket.socket(socket.AF_UNIX) as it:
+            it.bind(os.path.join(folder, "socket"))
+        odd = {"pipe", "dangling", "circle", "in/linked", "socket"}
+        os.symlink("file-0", os.path.join(folder, "link"))
+        them["link"] = them["file-0"]
+        for name in ("unreadable", "in/closed/file"):
+            os.makedirs(os.path.dirname(os.path.join(folder, name)), exist_ok=True)
+            self.write(b"abc", os.path.join(folder, name))
+        if os.geteuid() != 0:  # (root reads all)
+            for name in ("unreadable", "in/closed"):
+                os.chmod(os.path.join(folder, name), 0)
+                self.addCleanup(os.chmod, os.path.join(folder, name), 0o700)
+                odd.add(name)
+        else:
+            them.update({"unreadable": b"abc", "in/closed/file": b"abc"})
+        return folder, them, odd
+
+    def test_they_are_told(self):
+        folder, them, odd = self.make()
+        for prefix in ("", "file://"):
+            names = lambda found: {os.path.relpath(name.replace("file://", ""), folder): it for name, it in found.items()}
+            found = names(nody_dask.check(self.client, prefix + folder, size=100_000, retries=0))
+            self.assertEqual({name for name, it in found.items() if isinstance(it, OSError)}, odd)
+            self.assertEqual({name: it for name, it in found.items() if name not in odd}, {name: faults_array(it) for name, it in them.items()})
+            counts = names(nody_dask.count(self.client, prefix + folder, retries=0))
+            self.assertEqual({name: it.size for name, it in counts.items() if name not in odd}, {name: len(it) for name, it in them.items()})
+            self.assertEqual({name for name, it in counts.items() if isinstance(it, OSError)}, odd)
+            out = os.path.join(self.folder, f"made{len(prefix)}")
+            for resume in (False, True):
+                made = self.recode(prefix + folder, out, "utf8", "utf16le", size=100_000, retries=0, resume=resume)
+                self.assertEqual(names(made.failed).keys(), odd)
+                self.assertTrue(all(isinstance(it, OSError) for it in made.failed.values()))
+                written = {os.path.relpath(os.path.join(place, name), out): self.read(os.path.join(place, name)) for place, _, files in os.walk(out) for name in files}
+                written.pop(nody_dask.MANIFEST)
+                self.assertEqual(written, {name: recode(it, "utf8", "utf16le") for name, it in them.items()})
+                self.assertEqual((made.read, made.written), (sum(map(len, them.values())), sum(map(len, written.values()))))
+
+    def test_changed_meanwhile(self):
+        """A file of a folder that is changed while it is read, at any time, is reported; the others are converted."""
+        for when in range(5):
+            folder, them = self.files()
+            out, done_already = os.path.join(self.folder, f"out{when}"), []
+
+            progress = []
+
+            def change(done, total):
+                progress.append((done, total))
+                if done >= total * when / 4 and not done_already:
+                    done_already.append(True)
+                    with open(os.path.join(folder, "file-0"), "ab") as file:
+                        file.write(b"more")
+
+            made = self.recode(folder, out, "utf8", "utf16be", change, size=100_000)
+            self.assertEqual(progress[-1][0], progress[-1][1]) if when < 2 else None
+            self.assertEqual([os.path.basename(it) for it in made.failed], ["file-0"])
+            self.assertIsInstance([*made.failed.values()][0], ChangedError)
+            self.assertEqual(self.left_in(out), sorted([nody_dask.MANIFEST, *(it for it in them if it != "file-0")]))
+            shutil.rmtree(folder)
+
+    def left_in(self, folder):
+        return sorted(os.path.relpath(os.path.join(place, name), folder) for place, _, names in os.walk(folder) for name in names)
+
+    def test_long_names(self):
+        folder = os.path.join(self.folder, "folder")
+        os.mkdir(folder)
+        name = os.path.join(os.fsencode(folder), b"\xff" * 255)
+        self.write(b"a\xff", name)
+        made = self.recode(folder, self.out, "utf8", "utf16le")
+        self.assertEqual((made, made.failed, self.read(os.path.join(os.fsencode(self.out), b"\xff" * 255))), ((2, 4, 1), {}, b"a\0\xfd\xff"))
+
+    def test_the_result(self):
+        folder, _ = self.files()
+        made = self.recode(folder, self.out, "utf8", "utf16le")
+        self.assertEqual((made.failed, pickle.loads(pickle.dumps(made)).failed, copy.copy(made).failed), ({}, {}, {}))
+        self.assertEqual(made, Recoded(made.read, made.written, made.replaced))
+
+
+class Paths(OnWorkers):
+    def test_as_open_has_them(self):
+        self.write(b"a\xff")
+        for it in (os.fsencode(self.path), pathlib.Path(self.path), [os.fsencode(self.path)], (pathlib.Path(self.path),)):
+            self.assertEqual([*nody_dask.check(self.client, it).values()], [faults_array(b"a\xff")])
+            self.assertEqual([it.size for it in nody_dask.count(self.client, it).values()], [2])
+        for out in (os.fsencode(self.out), pathlib.Path(self.out)):
+            self.assertEqual(self.recode(os.fsencode(self.path), out, "utf8", "utf16le"), (2, 4, 1))
+            os.remove(self.out)
+
+    def test_workers_elsewhere(self):
+        """A relative path is one of the client's folder."""
+        self.write(b"a\xff")
+        self.client.run(os.chdir, "/")
+        before = os.getcwd()
+        os.chdir(self.folder)
+        try:
+            self.assertEqual(nody_dask.check(self.client, "text"), {"text": faults_array(b"a\xff")})
+            self.assertEqual(nody_dask.check(self.client, ["text"]), {"text": faults_array(b"a\xff")})
+            self.assertEqual(nody_dask.check(self.client, "."), {"./text": faults_array(b"a\xff")})
+            self.assertEqual(self.recode("text", "out", "utf8", "utf8").replaced, 1)
+        finally:
+            os.chdir(before)
+        self.assertEqual(self.left(), ["out"])
+
+    def test_links_to_folders(self):
+        """After one `..` leads where the system says, and not where the letters do."""
+        os.makedirs(os.path.join(self.folder, "far", "away"))
+        os.symlink(os.path.join("far", "away"), os.path.join(self.folder, "link"))
+        self.write(b"wrong")
+        self.write(b"a\xff", os.path.join(self.folder, "far", "text"))
+        source, out = os.path.join(self.folder, "link", "..", "text"), os.path.join(self.folder, "link", "..", "out")
+        self.assertEqual(nody_dask.check(self.client, source), {source: faults_array(b"a\xff")})
+        self.recode(source, out, "utf8", "utf16le")
+        self.assertEqual(self.read(os.path.join(self.folder, "far", "out")), b"a\0\xfd\xff")
+
+    def test_codecs_in_new_workers(self):
+        outside.skip_unless_installed(self)
+        with distributed.LocalCluster(n_workers=1, dashboard_address=None, silence_logs=50) as cluster, distributed.Client(cluster) as client:
+            text = client.submit(codecs.decode, b"a\xff", "noddychest-utf8", "backslashreplace").result()
+            self.assertEqual(text, "a\\xff")
+
+
 class WhatFails(OnWorkers):
     def test_killed_workers(self):
         """Ten times a worker is killed in the middle: the bytes are the same, and nothing else is left."""
@@ -131,7 +436,7 @@ class WhatFails(OnWorkers):
 
             out = self.out + ".d" if number % 2 else self.out
             nody_dask.recode(self.client, self.path, out, "utf8", "utf16le", kill, parts=number % 2 == 1, size=700_000)
-            names = [os.path.join(out, it) for it in sorted(os.listdir(out))] if number % 2 else [out]
+            names = self.parts(out) if number % 2 else [out]
             self.assertEqual((self.digest(*names), len(killed)), (expected, 1), number)
             self.assertEqual([it for it in names + self.left() if it.endswith(".partial")], [])
             self.wait_for_workers()

@@ -1,4 +1,4 @@
-"""Pieces of input in parts, beside a merger of the tests' own; and what parts, threads, copies and buffers may do to a Decoder."""
+"""Pieces of input in parts, compared with a merger of the tests' own; and what parts, threads, copies and buffers may do to a Decoder."""
 import array
 import copy
 import ctypes
@@ -17,7 +17,7 @@ import time
 import tracemalloc
 import unittest
 
-from noddychest import Decoder, ErrorKind, faults, pieces, stream_faults, stream_pieces
+from noddychest import Decoder, FaultKind, faults, pieces, stream_faults, stream_pieces
 
 import outside
 from test_threads import run_all
@@ -61,27 +61,27 @@ def first_of_utf8(front, encoding, ended):
     lead = front[0]
     need = 1 if lead < 0x80 else 2 if 0xC2 <= lead <= 0xDF else 3 if 0xE0 <= lead <= 0xEF else 4 if 0xF0 <= lead <= 0xF4 else 0
     if need == 0:
-        return None, 1, ErrorKind.UNEXPECTED_CONTINUATION_BYTE if lead < 0xC0 else ErrorKind.NON_UTF8_BYTE
+        return None, 1, FaultKind.UNEXPECTED_CONTINUATION_BYTE if lead < 0xC0 else FaultKind.NON_UTF8_BYTE
     if any(not 0x80 <= it <= 0xBF for it in front[1:need]):
-        return None, 1, ErrorKind.INTERRUPTED_SEQUENCE
+        return None, 1, FaultKind.INTERRUPTED_SEQUENCE
     if len(front) < need:
-        return (None, 1, ErrorKind.TOO_FEW_BYTES) if ended else None
+        return (None, 1, FaultKind.TOO_FEW_BYTES) if ended else None
     try:
         return front[:need].decode(encoding), need, None
     except UnicodeDecodeError:
-        kinds = {0xED: ErrorKind.UTF16_RESERVED_CODEPOINT, 0xF4: ErrorKind.TOO_HIGH_CODEPOINT}
-        return None, 1, kinds.get(lead, ErrorKind.OVERLONG_ENCODING)
+        kinds = {0xED: FaultKind.UTF16_RESERVED_CODEPOINT, 0xF4: FaultKind.TOO_HIGH_CODEPOINT}
+        return None, 1, kinds.get(lead, FaultKind.OVERLONG_ENCODING)
 
 
 def first_of_units(front, encoding, ended):
     units = [int.from_bytes(front[at:at + 2], "little" if encoding == "utf-16-le" else "big") for at in (0, 2)]
     if len(front) < 2 or 0xD800 <= units[0] < 0xDC00 and len(front) < 4:
-        return (None, min(len(front), 2), ErrorKind.INCOMPLETE) if ended else None
+        return (None, min(len(front), 2), FaultKind.INCOMPLETE) if ended else None
     if 0xDC00 <= units[0] < 0xE000:
-        return None, 2, ErrorKind.UNEXPECTED_TRAILING_SURROGATE
+        return None, 2, FaultKind.UNEXPECTED_TRAILING_SURROGATE
     if 0xD800 <= units[0] < 0xDC00:
         pair = 0xDC00 <= units[1] < 0xE000
-        return (front.decode(encoding), 4, None) if pair else (None, 2, ErrorKind.UNMATCHED_LEADING_SURROGATE)
+        return (front.decode(encoding), 4, None) if pair else (None, 2, FaultKind.UNMATCHED_LEADING_SURROGATE)
     return front[:2].decode(encoding), 2, None
 
 
@@ -159,12 +159,12 @@ class InParts(unittest.TestCase):
                 if mine.error is not whole.error:
                     seen.add((mine.error, whole.error))
                     self.assertGreater(mine.offset + 4, len(data))
-        self.assertEqual(seen, {(ErrorKind.INTERRUPTED_SEQUENCE, ErrorKind.TOO_FEW_BYTES)})
+        self.assertEqual(seen, {(FaultKind.INTERRUPTED_SEQUENCE, FaultKind.TOO_FEW_BYTES)})
 
     def test_goes_on_after_the_end(self):
         decoder = Decoder()
-        self.assertEqual([*decoder.feed(b"\xe2"), *decoder.finish()], [(0, None, 1, ErrorKind.TOO_FEW_BYTES)])
-        self.assertEqual([*decoder.feed(b"\x82")], [(1, None, 1, ErrorKind.UNEXPECTED_CONTINUATION_BYTE)])
+        self.assertEqual([*decoder.feed(b"\xe2"), *decoder.finish()], [(0, None, 1, FaultKind.TOO_FEW_BYTES)])
+        self.assertEqual([*decoder.feed(b"\x82")], [(1, None, 1, FaultKind.UNEXPECTED_CONTINUATION_BYTE)])
         self.assertEqual((decoder.offset, decoder.held), (2, b""))
 
     def test_encodings(self):
@@ -204,9 +204,9 @@ class Offsets(unittest.TestCase):
         self.assertEqual([*decoder.feed_faults(memoryview(zeros)[:-1])], [])
         self.assertEqual(decoder.offset, far - 1)
         found = [*decoder.feed_faults(b"\xe2\x82"), *decoder.feed(b"\xac\xff"), *decoder.feed_faults(b"a\xff\xf0")]
-        wrong = [(far + at, None, 1, ErrorKind.NON_UTF8_BYTE) for at in (2, 4)]
+        wrong = [(far + at, None, 1, FaultKind.NON_UTF8_BYTE) for at in (2, 4)]
         self.assertEqual(found, [(far - 1, "€", 3, None), *wrong])
-        self.assertEqual((decoder.finish(), decoder.offset), ([(far + 5, None, 1, ErrorKind.TOO_FEW_BYTES)], far + 6))
+        self.assertEqual((decoder.finish(), decoder.offset), ([(far + 5, None, 1, FaultKind.TOO_FEW_BYTES)], far + 6))
 
     def test_one_part_of_so_many_bytes(self):
         size = (1 << 32) + 5
@@ -289,7 +289,7 @@ class Threads(unittest.TestCase):
             with self.assertRaisesRegex(RuntimeError, "in use by another call"):
                 call()
         self.assertEqual((decoder.offset, decoder.held), (1, b"\xe2"))
-        self.assertEqual(copy.copy(decoder).finish(), [(1, None, 1, ErrorKind.TOO_FEW_BYTES)])
+        self.assertEqual(copy.copy(decoder).finish(), [(1, None, 1, FaultKind.TOO_FEW_BYTES)])
 
     def test_threads_that_share_a_decoder(self):
         """Each call reads all of its part, at an offset that no other has, or raises RuntimeError and reads nothing."""
@@ -315,7 +315,7 @@ class Threads(unittest.TestCase):
         self.assertGreaterEqual(len(got), 2000)
 
     def test_threads_that_share_an_iterator(self):
-        """No piece is lost, and none comes twice; while one looks for the next fault, others are refused."""
+        """No piece is lost, and none comes twice; while one looks for the next fault, others are rejected."""
         self.share(b"\xff" * 30_000)
         self.assertTrue(any(self.share((b"a" * 1_000_000 + b"\xff") * 30) for _ in range(100)))
 
@@ -403,7 +403,7 @@ class Copies(unittest.TestCase):
             self.assertEqual((other.encoding, other.offset, other.held), ("utf-16-be", 2**40 + 2, b"\xd8\x3d\xde"))
             self.assertEqual([*decoder.feed(b"\0")], [(2**40 + 2, "😀", 4, None)])
             at = 2**40 + 2
-            self.assertEqual(other.finish(), [(at, None, 2, ErrorKind.INCOMPLETE), (at + 2, None, 1, ErrorKind.INCOMPLETE)])
+            self.assertEqual(other.finish(), [(at, None, 2, FaultKind.INCOMPLETE), (at + 2, None, 1, FaultKind.INCOMPLETE)])
 
     def test_of_each_state(self):
         for held in (b"", b"\xc3", b"\xe0\x80", b"\xf4\x90\x80", b"\xf0\x9f\x98", b"\xed\xa0"):
@@ -568,7 +568,7 @@ class Memory(unittest.TestCase):
         return failed + which
 
     def again(self, call, at):
-        """What a call gives, after it failed or at once, and whether it failed."""
+        """What a call returns, and whether its allocation had failed before."""
         for failed in (0, 1):
             try:
                 if not failed:
@@ -608,7 +608,7 @@ class Streams(unittest.TestCase):
         reading, writing = os.pipe()
         with open(reading, "rb") as file, open(writing, "wb", buffering=0) as other:
             found = stream_pieces(file)
-            wrong = (4, None, 1, ErrorKind.INTERRUPTED_SEQUENCE)
+            wrong = (4, None, 1, FaultKind.INTERRUPTED_SEQUENCE)
             for part, want in ((b"a\xe2", (0, "a", 1, None)), (b"\x82\xac\xf0", (1, "€", 3, None)), (b"!", wrong)):
                 other.write(part)
                 self.assertEqual(next(found), want)
@@ -652,8 +652,9 @@ class OneStepAtATime(unittest.TestCase):
                 found = [*itertools.islice(file.pieces, 2)]
                 self.assertEqual(([it.offset for it in found], file.refused), ([0, 1], 1))
                 if last is None:
-                    self.assertRaises(TypeError, next, file.pieces)
-                self.assertEqual(([*file.pieces], file.refused), ([], 2))
+                    self.assertRaises(BlockingIOError, next, file.pieces)
+                    file.left.append(b"")
+                self.assertEqual(([*file.pieces], file.refused), ([], 2 if last is not None else 3))
 
     def test_parts_that_ask_for_pieces(self):
         def parts():
@@ -667,7 +668,7 @@ class OneStepAtATime(unittest.TestCase):
         self.assertEqual("".join(it.char for it in found[0]), "ab")
 
     def test_threads_that_share_one(self):
-        """While one waits for the file, another one is refused; no piece is lost, and none comes twice."""
+        """While one waits for the file, another one is rejected; no piece is lost, and none comes twice."""
         for stream in (stream_pieces, stream_faults):
             file = Waiting([b"\xff" * 5] * 20)
             found, offsets = stream(file), []
@@ -702,7 +703,7 @@ class Asking:
 
 
 class Waiting:
-    """A file that takes its time, and counts how many read it at once."""
+    """A file that takes its time, and counts how many read it concurrently."""
 
     def __init__(self, left):
         self.left, self.at_once, self.most = left, 0, 0

@@ -1,4 +1,4 @@
-"""Pieces, faults and boundaries of UTF-8 and UTF-16, beside the interpreter's decoders; and faults at the speed of validation."""
+"""Pieces, faults and boundaries of UTF-8 and UTF-16, compared with the interpreter's decoders; and faults at the speed of validation."""
 import codecs
 import itertools
 import random
@@ -6,7 +6,7 @@ import time
 import tracemalloc
 import unittest
 
-from noddychest import (Decoder, Ends, ErrorKind, boundary_after, boundary_before, changed_range, char_count, encoding_of_bom, faults,
+from noddychest import (Decoder, Ends, FaultKind, boundary_after, boundary_before, changed_range, char_count, encoding_of_bom, faults,
                         first_fault, is_valid, number_of, offset_of, pieces, recode, recoded_len, undecided_len)
 
 import outside
@@ -18,10 +18,10 @@ def utf16_kind(data, offset, order):
     """Why UTF-16 is invalid there, by the words of the standard."""
     unit = data[offset:offset + 2]
     if len(unit) < 2:
-        return ErrorKind.INCOMPLETE
+        return FaultKind.INCOMPLETE
     if 0xDC00 <= int.from_bytes(unit, order) < 0xE000:
-        return ErrorKind.UNEXPECTED_TRAILING_SURROGATE
-    return ErrorKind.UNMATCHED_LEADING_SURROGATE if offset + 3 < len(data) else ErrorKind.INCOMPLETE
+        return FaultKind.UNEXPECTED_TRAILING_SURROGATE
+    return FaultKind.UNMATCHED_LEADING_SURROGATE if offset + 3 < len(data) else FaultKind.INCOMPLETE
 
 
 def texts():
@@ -376,11 +376,11 @@ class Maximal(unittest.TestCase):
         for data in texts():
             for to, encoding in FORMS.items():
                 expected = data.decode("utf-8", "replace").encode(encoding)
-                self.assertEqual(recode(data, "utf8", to, "maximal"), expected, (data[:40], to))
-                self.assertEqual(recode(bytearray(data), "utf8", to, "maximal"), expected)
+                self.assertEqual(recode(data, "utf8", to, "lossy"), expected, (data[:40], to))
+                self.assertEqual(recode(bytearray(data), "utf8", to, "lossy"), expected)
             data = data[:len(data) // 2 * 2]
             for form in ("utf16le", "utf16be"):
-                self.assertEqual(recode(data, form, "utf8", "maximal"), data.decode(FORMS[form], "replace").encode())
+                self.assertEqual(recode(data, form, "utf8", "lossy"), data.decode(FORMS[form], "replace").encode())
 
 
 if __name__ == "__main__":

@@ -1,4 +1,4 @@
-"""Import in subinterpreters, one after another and at once, and use of objects there."""
+"""Import in subinterpreters, one after another and concurrently, and use of objects there."""
 import importlib
 import sys
 import threading
@@ -21,12 +21,12 @@ for _ in range(30):
     decoder = Decoder(offset=5)
     kept = decoder.feed(b"a\\xc3")
     assert [it.offset for it in copy.copy(decoder).finish()] == [6] and [it.char for it in decoder.feed(b"\\xa9")] == ["é"]
-    assert [it.error for it in decoder.feed_faults(b"\\xff")] == [ErrorKind.NON_UTF8_BYTE] and next(kept).char == "a"
+    assert [it.error for it in decoder.feed_faults(b"\\xff")] == [FaultKind.NON_UTF8_BYTE] and next(kept).char == "a"
     assert [it.offset for it in stream_faults([b"a" * 100_000, b"\\xff"])] == [100_000]
     try:
         recoder.feed(b"\\xff")
     except FaultError as fault:
-        assert fault.error is ErrorKind.INTERRUPTED_SEQUENCE and ErrorKind.__module__ == "noddychest"
+        assert fault.error is FaultKind.INTERRUPTED_SEQUENCE and FaultKind.__module__ == "noddychest"
     else:
         raise SystemError("no fault")
 """
@@ -90,7 +90,7 @@ class Interpreters(unittest.TestCase):
         import noddychest
 
         create, run, destroy = FOUND
-        kinds, run_here = noddychest.ErrorKind, iter(noddychest.pieces(b"ab\xff"))
+        kinds, run_here = noddychest.FaultKind, iter(noddychest.pieces(b"ab\xff"))
         part_here = noddychest.Decoder().feed_faults(b"ab\xff")
         it = create()
         run(it, self.CODE)

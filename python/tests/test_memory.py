@@ -1,4 +1,4 @@
-"""How much memory recoding takes: never a tenth more than what comes of it, whatever the text. And that no call leaks."""
+"""How much memory transcoding takes: never a tenth more than its output, whatever the text. And that no call leaks."""
 import codecs
 import copy
 import gc
@@ -7,7 +7,7 @@ import sys
 import tracemalloc
 import unittest
 
-from noddychest import (Decoder, Ends, ErrorKind, Piece, Recoder, boundary_before, changed_range, char_count, encoding_of_bom, faults,
+from noddychest import (Decoder, Ends, FaultKind, Piece, Recoder, boundary_before, changed_range, char_count, encoding_of_bom, faults,
                         first_fault, is_valid, number_of, offset_of, pieces, recode, recoded_len, stream_faults, stream_pieces,
                         undecided_len)
 
@@ -42,7 +42,7 @@ class Peak(unittest.TestCase):
         return len(made), peak
 
     def check(self, data, form, to):
-        for work in (lambda: recode(data, form, to), lambda: recode(data, form, to, "maximal"), lambda: Recoder(form, to).feed(data)):
+        for work in (lambda: recode(data, form, to), lambda: recode(data, form, to, "lossy"), lambda: Recoder(form, to).feed(data)):
             made, peak = self.peak(work)
             self.assertLessEqual(peak, 1.1 * made + SPARE, (data[:12], len(data), form, to))
 
@@ -148,7 +148,7 @@ class Leaks(unittest.TestCase):
     def test_references(self):
         """What the module shares is let go. (From 3.12 on nobody counts the references to None and small numbers.)"""
         for name, call in CALLS.items():
-            watched = [Piece, ErrorKind.NON_UTF8_BYTE, *([None, 0, 1, 2] if sys.version_info < (3, 12) else [])]
+            watched = [Piece, FaultKind.NON_UTF8_BYTE, *([None, 0, 1, 2] if sys.version_info < (3, 12) else [])]
             before = [sys.getrefcount(it) for it in watched]
             for _ in range(2000):
                 call()

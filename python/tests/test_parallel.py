@@ -64,7 +64,7 @@ class SameAsOne(InFolder):
         self.assertEqual(list(parallel.check(source, form, jobs).pieces()), wrong)
         self.assertEqual(parallel.count(source, form, jobs), counts)
         for to in FORMS:
-            for errors in ("replace", "maximal"):
+            for errors in ("replace", "lossy"):
                 expected = recode(data, form, to, errors)
                 made = parallel.recode(source, self.out, form, to, jobs, errors=errors)
                 self.assertEqual(self.read(), expected)
@@ -84,12 +84,12 @@ class SameAsOne(InFolder):
             self.assertEqual(self.read(), recode(data, "utf8", "utf16be"))
         self.assertEqual(made.replaced, len(parallel.check(self.path).offsets))
         self.assertEqual(parallel.check(self.path), faults_array(data))
-        self.assertEqual(parallel.check(data, jobs=2), faults_array(data))
+        self.assertEqual(parallel.check(memoryview(data), jobs=2), faults_array(data))
         self.assertEqual(parallel.count(self.path).size, len(data))
 
     def test_other_sources(self):
         data = mixed(5_000_000)
-        for it in (data, bytearray(data), memoryview(data)):
+        for it in (bytearray(data), memoryview(data), memoryview(bytearray(data))):
             parallel.recode(it, self.out, "utf8", "utf16le", 2)
             self.assertEqual(self.read(), recode(data, "utf8", "utf16le"))
         self.write(b"")
@@ -103,7 +103,7 @@ class SameAsOne(InFolder):
         parallel.recode(self.path, self.path, "utf8", "utf16le", 2)
         self.assertEqual((self.read(self.path), os.stat(self.path).st_mode & 0o777), (recode(data, "utf8", "utf16le"), 0o640))
         os.symlink(self.path, self.out)
-        parallel.recode(data, self.out, "utf8", "utf8", 2)
+        parallel.recode(memoryview(data), self.out, "utf8", "utf8", 2)
         self.assertEqual((os.path.islink(self.out), self.read(self.path)), (True, recode(data, "utf8", "utf8")))
 
     def test_progress(self):
@@ -124,8 +124,8 @@ class SameAsOne(InFolder):
         closed.close()
         for it in (None, closed, types.SimpleNamespace(write=lambda text: None)):
             with mock.patch.object(sys, "stderr", it):
-                self.assertEqual((parallel.check(b"a\xff").offsets.tolist(), parallel.count(b"a\n").lines), ([1], 1))
-                self.assertEqual(parallel.recode(b"a\xff", self.out, "utf8", "utf8").replaced, 1)
+                self.assertEqual((parallel.check(bytearray(b"a\xff")).offsets.tolist(), parallel.count(bytearray(b"a\n")).lines), ([1], 1))
+                self.assertEqual(parallel.recode(bytearray(b"a\xff"), self.out, "utf8", "utf8").replaced, 1)
 
 
 class Refused(InFolder):
@@ -152,7 +152,7 @@ class Refused(InFolder):
         for words, kinds in ((("latin-1", "utf8"), LookupError), (("utf8", "latin-1"), LookupError), (("utf8", "utf8", 0), ValueError)):
             self.assertRaises(kinds, parallel.recode, self.path, self.out, *words)
         self.assertRaises(LookupError, parallel.recode, self.path, self.out, "utf8", "utf8", errors="ignore")
-        self.assertRaises(ValueError, parallel.recode, b"abc", self.out, "utf8", "utf8", resume=True)
+        self.assertRaises(ValueError, parallel.recode, bytearray(b"abc"), self.out, "utf8", "utf8", resume=True)
         self.assertRaises(OSError, parallel.recode, self.path + "-none", self.out, "utf8", "utf8")
         self.assertRaises(OSError, parallel.recode, self.path, self.folder, "utf8", "utf8")
         self.assertRaises(OSError, parallel.recode, self.path, "/dev/full", "utf8", "utf8")
@@ -174,6 +174,23 @@ class Refused(InFolder):
             with self.assertRaises(ChangedError):
                 parallel.recode(self.path, self.out, "utf8", "utf16le", 2, at_first)
             self.assertEqual(self.left(), [])
+
+    def test_source_that_changes_at_the_end(self):
+        """After the last byte was read, while the output goes to the disk: if the source is the output, what others wrote would be lost."""
+        for data in (b"abc" * 1000, b""):
+            self.write(data)
+            real = os.fsync
+
+            def write_then(file):
+                with open(self.path, "ab") as other:
+                    other.write(b"by another")
+                real(file)
+
+            for out in (self.path, self.out):
+                self.write(data)
+                with mock.patch.object(os, "fsync", write_then), self.assertRaises(ChangedError):
+                    parallel.recode(self.path, out, "utf8", "utf16le")
+                self.assertEqual((self.read(self.path), self.left()), (data + b"by another", []))
 
     def test_full_disk(self):
         """As writes fail: by a limit of the process, by what the system says, and on a small file system where one may be mounted."""
@@ -221,7 +238,7 @@ class Interrupted(InFolder):
             it.send_signal(signal.SIGKILL)
 
     def test_goes_on(self):
-        """Killed ten times: each run goes on from what stands, and the bytes are those of a run that was not."""
+        """Killed ten times: each run goes on from what is written, and the bytes are those of a run that was not."""
         data = mixed(20_000_000)
         expected, done = hashlib.sha256(recode(data, "utf8", "utf16le")).hexdigest(), []
         self.write(data)
@@ -238,7 +255,7 @@ class Interrupted(InFolder):
         data = mixed(3_000_000)
         self.write(data)
         self.small_shards(100_000, 4)
-        for errors in ("replace", "maximal"):
+        for errors in ("replace", "lossy"):
             with self.assertRaises(ZeroDivisionError):
                 parallel.recode(self.path, self.out, "utf8", "utf16le", 2, lambda done, _: 1 / (done < 2_000_000), errors=errors, resume=True)
         self.assertEqual(len(self.left()), 2)
@@ -247,7 +264,7 @@ class Interrupted(InFolder):
             with open(os.path.join(self.folder, it), "r+b") as file:
                 file.seek(size - 300_000)
                 file.write(bytes(300_000 + 77))
-        for errors in ("replace", "maximal"):
+        for errors in ("replace", "lossy"):
             seen = []
             parallel.recode(self.path, self.out, "utf8", "utf16le", 2, lambda done, _: seen.append(done), errors=errors, resume=True)
             self.assertEqual(self.read(), recode(data, "utf8", "utf16le", errors))
@@ -257,6 +274,16 @@ class Interrupted(InFolder):
         self.write(b"other " + data)
         parallel.recode(self.path, self.out, "utf8", "utf16le", 2, resume=True)
         self.assertEqual(self.read(), recode(b"other " + data, "utf8", "utf16le"))
+
+    def test_another_version_goes_on_with_nothing(self):
+        """What an earlier version of the package has written is not gone on with."""
+        self.write(mixed(3_000_000))
+        self.small_shards(100_000, 4)
+        with mock.patch.object(parallel, "__version__", "0.9"), self.assertRaises(ZeroDivisionError):
+            parallel.recode(self.path, self.out, "utf8", "utf16le", 2, lambda done, _: 1 / (done < 2_000_000), resume=True)
+        seen = []
+        parallel.recode(self.path, self.out, "utf8", "utf16le", 2, lambda done, _: seen.append(done), resume=True)
+        self.assertEqual((seen[0], self.read()), (0, recode(self.read(self.path), "utf8", "utf16le")))
 
     def test_two_at_once(self):
         self.write(mixed(20_000_000))
@@ -273,7 +300,7 @@ class Interrupted(InFolder):
         self.assertEqual((len(refused), self.left()), (1, ["out"]))
 
     def test_links_are_not_followed(self):
-        """What stands under the name of the partial file, and is a link, leads nowhere."""
+        """A link under the name of the partial file leads nowhere."""
         self.write(b"abc" * 100)
         victim = os.path.join(self.folder, "victim")
         self.write(b"mine", victim)
@@ -307,5 +334,5 @@ class Memory(InFolder):
 
 if __name__ == "__main__":
     resource.getrusage(resource.RUSAGE_SELF)
-    shards(b"", 1)
+    shards(bytearray(), 1)
     unittest.main()

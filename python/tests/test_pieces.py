@@ -11,7 +11,7 @@ import unittest
 import weakref
 
 import noddychest
-from noddychest import (Decoder, Ends, ErrorKind, Piece, boundary_before, char_count, faults, first_fault, is_valid, pieces, stream_faults,
+from noddychest import (Decoder, Ends, FaultKind, Piece, boundary_before, char_count, faults, first_fault, is_valid, pieces, stream_faults,
                         stream_pieces)
 
 import outside
@@ -32,7 +32,7 @@ KINDS = [
     (b"\xed\xa0\x80", ["UTF16_RESERVED_CODEPOINT", "UNEXPECTED_CONTINUATION_BYTE", "UNEXPECTED_CONTINUATION_BYTE"]),
     (b"\xf4\x90\x80\x80", ["TOO_HIGH_CODEPOINT"] + ["UNEXPECTED_CONTINUATION_BYTE"] * 3),
 ]
-NAMES = {kind.name.replace("_", "").lower(): kind for kind in ErrorKind}
+NAMES = {kind.name.replace("_", "").lower(): kind for kind in FaultKind}
 
 
 def named(fields):
@@ -50,8 +50,8 @@ class Cut(unittest.TestCase):
         expected = [
             (0, "h", 1, None),
             (1, "é", 2, None),
-            (3, None, 1, ErrorKind.INTERRUPTED_SEQUENCE),
-            (4, None, 1, ErrorKind.UNEXPECTED_CONTINUATION_BYTE),
+            (3, None, 1, FaultKind.INTERRUPTED_SEQUENCE),
+            (4, None, 1, FaultKind.UNEXPECTED_CONTINUATION_BYTE),
             (5, "A", 1, None),
             (6, "😀", 4, None),
         ]
@@ -165,7 +165,7 @@ class Tuples(unittest.TestCase):
         self.assertEqual(piece._asdict(), {"offset": 0, "char": "é", "length": 2, "error": None})
         self.assertEqual(pickle.loads(pickle.dumps(piece)), piece)
         offset, char, length, error = next(iter(pieces(b"\xff")))
-        self.assertEqual((offset, char, length, error), (0, None, 1, ErrorKind.NON_UTF8_BYTE))
+        self.assertEqual((offset, char, length, error), (0, None, 1, FaultKind.NON_UTF8_BYTE))
 
     def test_nothing_leaks(self):
         def work():
@@ -205,8 +205,8 @@ class BothEnds(unittest.TestCase):
     def test_judged_by_what_is_left(self):
         ends = Ends(b"\xe2\x82A")
         self.assertEqual(ends.next_back().char, "A")
-        self.assertEqual(next(ends).error, ErrorKind.TOO_FEW_BYTES)
-        self.assertEqual(next(iter(pieces(b"\xe2\x82A"))).error, ErrorKind.INTERRUPTED_SEQUENCE)
+        self.assertEqual(next(ends).error, FaultKind.TOO_FEW_BYTES)
+        self.assertEqual(next(iter(pieces(b"\xe2\x82A"))).error, FaultKind.INTERRUPTED_SEQUENCE)
 
     def test_reversed_takes_from_the_same(self):
         ends = Ends(b"abcd")
@@ -263,8 +263,8 @@ class Owner(bytearray):
 
 class Errors(unittest.TestCase):
     def test_are_an_enum(self):
-        self.assertEqual([kind.value for kind in ErrorKind], list(range(1, 11)))
-        self.assertEqual(len({kind.reason for kind in ErrorKind}), 10)
+        self.assertEqual([kind.value for kind in FaultKind], list(range(1, 11)))
+        self.assertEqual(len({kind.reason for kind in FaultKind}), 10)
 
     def test_reasons_are_those_of_the_library(self):
         """The package has no sentences of its own: they are in the proved code, and come by its call."""
@@ -274,8 +274,8 @@ class Errors(unittest.TestCase):
         with open(path, encoding="utf-8") as file:
             texts = [it.replace("\\0", "") for it in re.findall(r'text: \*b"(.*)"', file.read())]
         names = [text.lower() for text in texts[:12]]
-        self.assertEqual([kind.reason for kind in ErrorKind], texts[12:][1:11])
-        self.assertEqual([kind.name.replace("_", "").lower() for kind in ErrorKind], names[1:11])
+        self.assertEqual([kind.reason for kind in FaultKind], texts[12:][1:11])
+        self.assertEqual([kind.name.replace("_", "").lower() for kind in FaultKind], names[1:11])
 
 
 if __name__ == "__main__":

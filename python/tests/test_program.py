@@ -8,7 +8,7 @@ import sys
 import tempfile
 import unittest
 
-from noddychest import ErrorKind, pieces, recode
+from noddychest import FaultKind, pieces, recode
 
 import outside
 
@@ -42,7 +42,7 @@ class Program(unittest.TestCase):
         self.assertEqual(ran("pieces"), (0, b"", ""))
 
     def test_check(self):
-        reason = ErrorKind.INTERRUPTED_SEQUENCE.reason, ErrorKind.UNEXPECTED_CONTINUATION_BYTE.reason
+        reason = FaultKind.INTERRUPTED_SEQUENCE.reason, FaultKind.UNEXPECTED_CONTINUATION_BYTE.reason
         path, good = self.file(SAMPLE), os.path.join(self.folder, "good")
         with open(good, "wb") as file:
             file.write("é".encode() * 10)
@@ -82,7 +82,7 @@ class Program(unittest.TestCase):
                 text = ("né\n😀" * 40).encode(codec) * (size // 200)
                 noise = b"".join(chances.choice([b"\xff", b"\n\0", b"\0\n", b"\xd8\x3d", b"\x3d\xd8", b"\xe2\x82", b"a"]) for _ in range(size % 200))
                 path = self.file(text + noise + text[:500] + noise)
-                of_nody = subprocess.run([NODY, "check", "--from", encoding, path, path + "-none", "-"], input=noise, stdout=subprocess.PIPE, stderr=subprocess.PIPE)
+                of_nody = subprocess.run([NODY, "check", "-v", "-a", "--max", "0", "--from", encoding, path, path + "-none", "-"], input=noise, stdout=subprocess.PIPE, stderr=subprocess.PIPE)
                 for jobs in ("1", "3"):
                     status, out, err = ran("check", "--encoding", encoding, "--jobs", jobs, path, path + "-none", "-", given=noise)
                     self.assertEqual((status, out, "noddychest: " + err.partition(": ")[2]), (of_nody.returncode, of_nody.stdout, of_nody.stderr.decode().replace("nody:", "noddychest:")))
@@ -94,7 +94,7 @@ class Program(unittest.TestCase):
 
     def test_files_that_cannot_be_read_stop_no_others(self):
         path, none = self.file(b"a\xff"), self.folder + "/none"
-        line = f"{path}:1:2: offset 1: {ErrorKind.NON_UTF8_BYTE.reason}\n{path}: not valid UTF-8: 1 invalid byte\n"
+        line = f"{path}:1:2: offset 1: {FaultKind.NON_UTF8_BYTE.reason}\n{path}: not valid UTF-8: 1 invalid byte\n"
         for jobs in ([], ["--jobs", "2"]):
             status, out, err = ran("check", *jobs, none, path, none, path)
             self.assertEqual((status, out, err), (3, line.encode() * 2, f"noddychest: {none}: No such file or directory\n" * 2))
@@ -114,7 +114,7 @@ class Program(unittest.TestCase):
                 self.assertEqual(out.decode().splitlines(), expected)
 
     def test_recode(self):
-        for errors in ("replace", "maximal"):
+        for errors in ("replace", "lossy"):
             expected = recode(SAMPLE, "utf8", "utf16le", errors)
             self.assertEqual(ran("recode", "--from", "utf-8", "--to", "UTF-16LE", "--errors", errors, given=SAMPLE), (0, expected, ""))
         data = "é😀".encode() * 300_000
@@ -122,7 +122,7 @@ class Program(unittest.TestCase):
         self.assertEqual((status, out), (0, ("é😀" * 300_000).encode("utf-16-be")))
         for before in (b"", b"ab", "é".encode() * 700_000):
             status, out, err = ran("recode", "--from", "utf8", "--to", "utf8", "--errors", "strict", given=before + b"\xffb")
-            self.assertEqual((status, out, err), (1, before, f"-:1:{len(before.decode()) + 1}: offset {len(before)}: {ErrorKind.NON_UTF8_BYTE.reason}\n"))
+            self.assertEqual((status, out, err), (1, before, f"-:1:{len(before.decode()) + 1}: offset {len(before)}: {FaultKind.NON_UTF8_BYTE.reason}\n"))
 
     def test_jobs(self):
         path, out = self.file(SAMPLE * 600_000), os.path.join(self.folder, "out")
@@ -133,7 +133,7 @@ class Program(unittest.TestCase):
                 self.assertEqual(file.read(), expected)
         self.assertEqual(sorted(os.listdir(self.folder)), ["file", "out"])
         status, _, err = ran("recode", "--from", "utf8", "--to", "utf16le", "-o", out, "--errors", "strict", "--jobs", "2", path)
-        self.assertEqual((status, err), (1, f"{path}:1:3: offset 3: {ErrorKind.INTERRUPTED_SEQUENCE.reason}\n"))
+        self.assertEqual((status, err), (1, f"{path}:1:3: offset 3: {FaultKind.INTERRUPTED_SEQUENCE.reason}\n"))
         path = self.file(b"a" * 3_000_000 + SAMPLE * 3 + b"\xe2")
         self.assertEqual(ran("check", "--jobs", "3", path), ran("check", path))
         self.assertEqual(ran("check", "--jobs", "3", path, "/none")[0], 3)
@@ -179,7 +179,7 @@ class Program(unittest.TestCase):
         """The status is the same, and no message comes among the output."""
         path = self.file(b"ab\xff")
         recoding = ["recode", "--from", "utf8", "--to", "utf8", "--errors", "strict", path]
-        found = f"{path}:1:3: offset 2: {ErrorKind.NON_UTF8_BYTE.reason}\n{path}: not valid UTF-8: 1 invalid byte\n".encode()
+        found = f"{path}:1:3: offset 2: {FaultKind.NON_UTF8_BYTE.reason}\n{path}: not valid UTF-8: 1 invalid byte\n".encode()
         for words, status, out in ((recoding, 1, b"ab"), ([*recoding, "--output", path + "-out"], 1, b""), (["check", path + "-none"], 3, b""),
                                    (["check", "--jobs", "2", path], 1, found), ([*recoding[:5], path, "--output", path + "-out"], 0, b"")):
             for to in ("2>&-", "2>/dev/full"):
@@ -200,7 +200,7 @@ class Program(unittest.TestCase):
             path, front = os.fsencode(self.folder) + b"/" + name, os.fsencode(self.folder) + b"/" + shown
             with open(path, "wb") as file:
                 file.write(b"a\xff")
-            expected = front + f":1:2: offset 1: {ErrorKind.NON_UTF8_BYTE.reason}\n".encode() + front + b": not valid UTF-8: 1 invalid byte\n"
+            expected = front + f":1:2: offset 1: {FaultKind.NON_UTF8_BYTE.reason}\n".encode() + front + b": not valid UTF-8: 1 invalid byte\n"
             for encoding in ("utf-8", "ascii", "latin-1", "utf-16"):
                 self.assertEqual(ran("check", path, env=dict(os.environ, PYTHONUTF8="1", PYTHONIOENCODING=encoding)), (1, expected, ""))
             missing = subprocess.run([sys.executable, "-m", "noddychest", "check", path + b"-"], stdout=subprocess.PIPE, stderr=subprocess.PIPE)
@@ -216,17 +216,31 @@ class Program(unittest.TestCase):
                 self.assertEqual((it.stderr.read(), it.wait()), (b"", 3), words)
 
     def test_what_comes_in_time_is_told_of_in_time(self):
-        """Each part of a pipe is told of before the next one is waited for; an interrupt ends it as a signal does."""
+        """Each part of a pipe is reported before the next one is waited for; an interrupt ends it as a signal does."""
         # (what a script starts in the background passes over an interrupt, and so does what that starts)
         how = {"stdin": subprocess.PIPE, "stdout": subprocess.PIPE, "stderr": subprocess.PIPE, "preexec_fn": lambda: signal.signal(signal.SIGINT, signal.SIG_DFL)}
         with subprocess.Popen([sys.executable, "-m", "noddychest", "check"], **how) as it:
             it.stdin.write(b"a\xffbcdefgh")
             it.stdin.flush()
-            self.assertEqual(it.stdout.readline(), f"-:1:2: offset 1: {ErrorKind.NON_UTF8_BYTE.reason}\n".encode())
+            self.assertEqual(it.stdout.readline(), f"-:1:2: offset 1: {FaultKind.NON_UTF8_BYTE.reason}\n".encode())
             it.send_signal(signal.SIGINT)
             self.assertEqual((it.wait(60), it.stderr.read()), (-signal.SIGINT, b""))
 
     @unittest.skipUnless(os.path.exists("/dev/full"), "there is no /dev/full")
+    def test_input_that_does_not_wait(self):
+        """Standard input that has no data now has not ended: what comes later is not left out in silence."""
+        for words in (("check",), ("pieces",), ("recode", "--from", "utf8", "--to", "utf8")):
+            reader, writer = os.pipe()
+            os.set_blocking(reader, False)
+            os.write(writer, b"abc")
+            it = subprocess.run([sys.executable, "-m", "noddychest", *words], stdin=reader, stdout=subprocess.PIPE, stderr=subprocess.PIPE)
+            self.assertEqual((it.returncode, b"valid" in it.stdout, it.stderr), (3, False, b"noddychest: -: Resource temporarily unavailable\n"))
+            os.write(writer, b"abc")
+            os.close(writer)
+            it = subprocess.run([sys.executable, "-m", "noddychest", *words], stdin=reader, stdout=subprocess.PIPE, stderr=subprocess.PIPE)
+            self.assertEqual((it.returncode, it.stderr), (0, b""))
+            os.close(reader)
+
     def test_writes_that_fail(self):
         with open("/dev/full", "wb") as full:
             for words in (["pieces"], ["check"], ["recode", "--from", "utf8", "--to", "utf8"]):
@@ -250,7 +264,7 @@ class Readme(unittest.TestCase):
         self.assertEqual(printed, [["0 1 h", "1 2 é"], ["0 h", "1 é"], []])
 
     def test_comments(self):
-        """What the samples say comes of a line comes of it."""
+        """The lines of the samples have the results that their comments name."""
         path = os.path.join(outside.TOP, "python", "README.md")
         if not os.path.exists(path):
             self.skipTest("README.md is in the repository")

@@ -1,10 +1,10 @@
-"""Recoding at once and in parts, with replacement and strict."""
+"""Transcoding whole inputs and parts, with replacement and strict."""
 import pickle
 import random
 import threading
 import unittest
 
-from noddychest import ErrorKind, FaultError, Recoder, recode
+from noddychest import FaultKind, FaultError, Recoder, recode
 
 import outside
 
@@ -59,11 +59,11 @@ class AtOnce(unittest.TestCase):
 
     def test_faults_of_utf16(self):
         for data, offset, error in [
-            (b"a\0\0\xdc", 2, ErrorKind.UNEXPECTED_TRAILING_SURROGATE),
-            (b"\0\xd8a\0", 0, ErrorKind.UNMATCHED_LEADING_SURROGATE),
-            (b"a\0\0\xd8", 2, ErrorKind.INCOMPLETE),
-            (b"a\0\0\xd8a", 2, ErrorKind.INCOMPLETE),
-            (b"a\0a", 2, ErrorKind.INCOMPLETE),
+            (b"a\0\0\xdc", 2, FaultKind.UNEXPECTED_TRAILING_SURROGATE),
+            (b"\0\xd8a\0", 0, FaultKind.UNMATCHED_LEADING_SURROGATE),
+            (b"a\0\0\xd8", 2, FaultKind.INCOMPLETE),
+            (b"a\0\0\xd8a", 2, FaultKind.INCOMPLETE),
+            (b"a\0a", 2, FaultKind.INCOMPLETE),
         ]:
             for form, it in (("utf16le", data), ("utf16be", swapped(data))):
                 with self.assertRaises(FaultError) as raised:
@@ -84,7 +84,7 @@ class AtOnce(unittest.TestCase):
         with self.assertRaises(FaultError) as raised:
             recode(b"ab\xff", "utf8", "utf8", "strict")
         again = pickle.loads(pickle.dumps(raised.exception))
-        self.assertEqual((again.offset, again.start, again.error), (2, 2, ErrorKind.NON_UTF8_BYTE))
+        self.assertEqual((again.offset, again.start, again.error), (2, 2, FaultKind.NON_UTF8_BYTE))
 
     def test_names(self):
         self.assertEqual(recode(b"a", "UTF-8", "utf_16_le"), b"a\0")
@@ -158,11 +158,11 @@ class InParts(unittest.TestCase):
 
     def test_strict_waits_for_the_kind(self):
         """The kind is the same wherever the input is cut, and at the end too few bytes are too few."""
-        kinds = [(b"\xe0\x80\x80", ErrorKind.OVERLONG_ENCODING), (b"\xe0\x80A", ErrorKind.INTERRUPTED_SEQUENCE),
-                 (b"\xed\xa0\x80", ErrorKind.UTF16_RESERVED_CODEPOINT), (b"\xf4\x90\x80\x80", ErrorKind.TOO_HIGH_CODEPOINT),
-                 (b"\xf0\x80\x80A", ErrorKind.INTERRUPTED_SEQUENCE), (b"\xe9A\n", ErrorKind.INTERRUPTED_SEQUENCE),
-                 (b"\xe0\x80", ErrorKind.TOO_FEW_BYTES), (b"\xf4\x90\x80", ErrorKind.TOO_FEW_BYTES),
-                 (b"\xe9A", ErrorKind.TOO_FEW_BYTES), (b"\xf0\x80A", ErrorKind.TOO_FEW_BYTES)]
+        kinds = [(b"\xe0\x80\x80", FaultKind.OVERLONG_ENCODING), (b"\xe0\x80A", FaultKind.INTERRUPTED_SEQUENCE),
+                 (b"\xed\xa0\x80", FaultKind.UTF16_RESERVED_CODEPOINT), (b"\xf4\x90\x80\x80", FaultKind.TOO_HIGH_CODEPOINT),
+                 (b"\xf0\x80\x80A", FaultKind.INTERRUPTED_SEQUENCE), (b"\xe9A\n", FaultKind.INTERRUPTED_SEQUENCE),
+                 (b"\xe0\x80", FaultKind.TOO_FEW_BYTES), (b"\xf4\x90\x80", FaultKind.TOO_FEW_BYTES),
+                 (b"\xe9A", FaultKind.TOO_FEW_BYTES), (b"\xf0\x80A", FaultKind.TOO_FEW_BYTES)]
         for data, kind in kinds:
             for cut in range(len(data)):
                 recoder, made = Recoder("utf8", "utf16be", "strict"), b""
@@ -195,7 +195,7 @@ class InParts(unittest.TestCase):
         for _ in range(2):
             with self.assertRaises(FaultError) as raised:
                 recoder.feed(b"b")
-            self.assertEqual((raised.exception.offset, raised.exception.error), (1, ErrorKind.INTERRUPTED_SEQUENCE))
+            self.assertEqual((raised.exception.offset, raised.exception.error), (1, FaultKind.INTERRUPTED_SEQUENCE))
             self.assertRaises(FaultError, recoder.finish)
         self.assertEqual(recoder.feed(b"\xa9") + recoder.finish(), b"\0\xe9")
 

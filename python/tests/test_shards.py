@@ -1,15 +1,17 @@
-"""Shards: what they answer, put together, is what the whole answers, for each encoding and size."""
+"""Shards: their results, put together, are those of the whole, for each encoding and size."""
 import array
 import ctypes
+import itertools
 import mmap
 import os
+import pathlib
 import pickle
 import random
 import tempfile
 import unittest
 
 import noddychest
-from noddychest import (ChangedError, Counts, ErrorKind, FaultError, Shard, char_count, faults, faults_array, first_fault, is_valid, offsets,
+from noddychest import (ChangedError, Counts, FaultKind, FaultError, Shard, char_count, faults, faults_array, first_fault, is_valid, offsets,
                         parallel, pieces, recode, recoded_len, shards)
 
 import outside
@@ -35,14 +37,14 @@ def facts(data, form):
     """What is to come of all shards: pieces with an error, kinds, counts."""
     cut = list(pieces(data, form))
     wrong = [it for it in cut if it.error is not None]
-    kinds = tuple(sum(it.error is kind for it in wrong) for kind in ErrorKind)
+    kinds = tuple(sum(it.error is kind for it in wrong) for kind in FaultKind)
     return wrong, Counts(len(data), len(cut) - len(wrong), sum(it.char == "\n" for it in cut), kinds)
 
 
 class Joined(unittest.TestCase):
     def check(self, data, form, size):
         wrong, counts = facts(data, form)
-        cut = shards(data, size, form)
+        cut = shards(memoryview(data), size, form)
         self.assertEqual(b"".join(bytes(it.source)[it.start:it.end] for it in cut), data)
         self.assertEqual([piece for it in cut for piece in faults(it)], wrong)
         arrays = noddychest._shards.no_faults()
@@ -57,13 +59,13 @@ class Joined(unittest.TestCase):
         self.assertEqual(all(map(is_valid, cut)), is_valid(data, form))
         self.assertEqual(next((it for it in map(first_fault, cut) if it), None), first_fault(data, form))
         for to in FORMS:
-            for errors in ("replace", "maximal"):
+            for errors in ("replace", "lossy"):
                 self.assertEqual(b"".join(recode(it, form, to, errors) for it in cut), recode(data, form, to, errors), (data, form, size))
             self.assertEqual(sum(recoded_len(it, form, to) for it in cut), recoded_len(data, form, to))
         self.assertEqual(self.strict(cut, form), [(it.offset, it.error) for it in wrong[:1]])
 
     def strict(self, cut, form):
-        """The offset and the kind of the first fault that strict recoding meets, shard by shard."""
+        """The offset and the kind of the first fault that strict transcoding meets, shard by shard."""
         for it in cut:
             try:
                 recode(it, form, "utf8", "strict")
@@ -85,6 +87,31 @@ class Joined(unittest.TestCase):
                 for end in range(len(whole) + 1):
                     for size in range(1, len(whole) + 2):
                         self.check(whole[:end], form, size)
+
+    def test_all_inputs(self):
+        """Python's own decoder over each shard gives the text of the whole, and so does each way to recode."""
+        self.assertEqual([(it.start, it.end) for it in shards(memoryview(b"\xe2\x82A"), 1)], [(0, 2), (2, 3)])
+        for form, encoding, most, some in (("utf8", "utf-8", 4, b"A\x80\xa0\xc3\xe0\xe2\xed\xf0\xf4"), ("utf16le", "utf-16-le", 5, b"\0A\xd8\xdc"),
+                                           ("utf16be", "utf-16-be", 5, b"\0A\xd8\xdc")):
+            for data in (bytes(it) for length in range(most + 1) for it in itertools.product(some, repeat=length)):
+                for size in (1, 2, 3):
+                    cut = shards(memoryview(data), size, form)
+                    parts = [data[it.start:it.end] for it in cut]
+                    self.assertEqual("".join(it.decode(encoding, "replace") for it in parts), data.decode(encoding, "replace"), (data, size))
+                    for errors in ("replace", "lossy"):
+                        self.assertEqual(b"".join(recode(it, form, "utf8", errors) for it in parts), recode(data, form, "utf8", errors), (data, size))
+                    self.assertEqual(self.strict_of(parts, form), self.strict_of([data], form), (data, size))
+
+    def strict_of(self, parts, form):
+        """What comes of some parts up to the first invalid byte, and its offset, or the length."""
+        out, offset = b"", 0
+        for part in parts:
+            try:
+                out += recode(part, form, "utf8", "strict")
+                offset += len(part)
+            except FaultError as fault:
+                return out + recode(part[:fault.start], form, "utf8"), offset + fault.start
+        return out, offset
 
     def test_random_bytes(self):
         for data in outside.inputs(500, 40, seed=42):
@@ -115,13 +142,13 @@ class Joined(unittest.TestCase):
         for form in FORMS:
             data = bytes(range(97, 123)) * 100
             for size in (1, 100, 2599, 2600, 2601, 10**30):
-                cut = shards(data, size, form)
+                cut = shards(memoryview(data), size, form)
                 self.assertTrue(all(0 < it.end - it.start <= size + 3 for it in cut))
-            self.assertEqual(shards(b"", 5, form), [])
+            self.assertEqual(shards(bytearray(), 5, form), [])
         for size in (0, -1):
-            self.assertRaises(ValueError, shards, b"abc", size)
-        self.assertRaises(TypeError, shards, b"abc", "5")
-        self.assertRaises(LookupError, shards, b"abc", 5, "latin-1")
+            self.assertRaises(ValueError, shards, memoryview(b"abc"), size)
+        self.assertRaises(TypeError, shards, memoryview(b"abc"), "5")
+        self.assertRaises(LookupError, shards, memoryview(b"abc"), 5, "latin-1")
         self.assertRaises(TypeError, shards, 5, 5)
 
 
@@ -157,8 +184,45 @@ class Sources(unittest.TestCase):
             self.assertRaises(TypeError, pickle.dumps, cut[0])
         del cut, it
         self.assertRaises(BufferError, shards, memoryview(b"abcd")[::2], 5)
-        for it in (b"", array.array("I"), (ctypes.c_char * 0)(), (ctypes.c_char * 3 * 0)(), (ctypes.c_uint16 * 0 * 3)()):
+        for it in (bytearray(), memoryview(b""), array.array("I"), (ctypes.c_char * 0)(), (ctypes.c_char * 3 * 0)(), (ctypes.c_uint16 * 0 * 3)()):
             self.assertEqual((shards(it, 7), parallel.count(it).size), ([], 0))
+
+    def test_paths(self):
+        """A path is a str, bytes or a PathLike of either, as for open(); it is read, and not its letters."""
+        class Named:
+            def __init__(self, path):
+                self.path = path
+
+            def __fspath__(self):
+                return self.path
+
+        self.write(b"ab\xff")
+        odd = os.path.join(os.fsencode(os.path.dirname(self.path)), b"\xff\n http:")
+        os.mkdir(odd)
+        with open(odd + b"/name", "wb") as file:
+            file.write(b"c\xff\xff")
+        for path, wanted in ((self.path, [2]), (odd + b"/name", [1, 2]), (odd + b"//name", [1, 2]), (odd + b"///name", [1, 2])):
+            for it in (os.fsencode(path), Named(os.fsencode(path)), Named(os.fsdecode(path)), pathlib.Path(os.fsdecode(path))):
+                self.assertEqual(parallel.check(it).offsets.tolist(), wanted)
+                self.assertEqual((parallel.count(it).size, parallel.count(it).faults), (3, len(wanted)))
+                self.assertEqual([found.offset for shard in pickle.loads(pickle.dumps(shards(it, 2))) for found in faults(shard)], wanted)
+                for out in (odd + b"/out", os.fsdecode(odd + b"/out"), Named(odd + b"/out"), pathlib.Path(os.fsdecode(odd + b"/out"))):
+                    for resume in (False, True):
+                        made = parallel.recode(it, out, "utf8", "utf16le", resume=resume)
+                        self.assertEqual((made.replaced, os.path.getsize(odd + b"/out"), sorted(os.listdir(odd))), (len(wanted), 6, [b"name", b"out"]))
+                        os.remove(odd + b"/out")
+
+    def test_bytes_that_are_no_path(self):
+        """Text in memory is no path. It is rejected, and not looked for as a file, or read."""
+        self.write(b"abc")
+        for call in (parallel.check, parallel.count, lambda it: shards(it, 5)):
+            self.assertRaises(FileNotFoundError, call, b"no such file")
+            self.assertRaises(FileNotFoundError, call, b"")
+            for it in (b"a\0b", b"text " * 10_000):
+                self.assertRaisesRegex(ValueError, "memoryview", call, it)
+        for out in (5, None, bytearray(b"out"), memoryview(b"out")):
+            self.assertRaises(TypeError, parallel.recode, self.path, out, "utf8", "utf8")
+        self.assertRaises(ValueError, parallel.recode, self.path, b"a\0", "utf8", "utf8")
 
     def test_changed_sources(self):
         calls = [lambda it: list(it.faults()), Shard.counts, Shard.char_count, lambda it: it.recode("utf16le"), Shard.faults_array,
@@ -189,7 +253,7 @@ class Sources(unittest.TestCase):
                     pass
 
     def test_other_encodings_are_refused(self):
-        it, = shards(b"ab", 5, "utf16le")
+        it, = shards(memoryview(b"ab"), 5, "utf16le")
         self.assertRaises(ValueError, recode, it, "utf8", "utf8")
         self.assertRaises(ValueError, recoded_len, it, "utf16be", "utf8")
         self.assertEqual(recode(it, "UTF-16", "utf8"), "扡".encode())

@@ -139,7 +139,7 @@ class OneCallAtATime(unittest.TestCase):
 class Copies(unittest.TestCase):
     def test_maximal_ones(self):
         for way in self.ways():
-            recoder = Recoder("utf8", "utf8", "maximal")
+            recoder = Recoder("utf8", "utf8", "lossy")
             self.assertEqual(recoder.feed(b"a\xf0\x9f"), b"a")
             self.assertEqual((way(recoder).feed(b"\x98!"), way(recoder).feed(b"\x98\x80")), ("\ufffd!".encode(), "😀".encode()))
 
@@ -269,7 +269,7 @@ class LockIsLetGo(unittest.TestCase):
 
 
     def test_nothing_goes_away_meanwhile(self):
-        """What would move the bytes, or give them back, is refused while a call reads them."""
+        """What would move the bytes, or give them back, is rejected while a call reads them."""
         for make, drop in ((lambda: bytearray(SIZE), lambda it: it.append(97)), (lambda: mmap.mmap(-1, SIZE), lambda it: it.close())):
             for call in (is_valid, char_count, lambda it: offset_of(it, SIZE), lambda it: recode(it, "utf16le", "utf16be")):
                 self.assertTrue(any(self.is_refused(make(), drop, call) for _ in range(TRIES)))
@@ -293,7 +293,7 @@ class LockIsLetGo(unittest.TestCase):
 
 
 class ChangingBuffers(unittest.TestCase):
-    """Bytes that other threads change while they are read: what is answered is of no use, but it is an answer."""
+    """Bytes that other threads change while they are read: the result is of no use, but the call returns."""
 
     def test_hammered(self):
         size, source = 300_000, random.Random(20)
@@ -328,7 +328,7 @@ class ChangingBuffers(unittest.TestCase):
                 place, number, changed = offset_of(it, size // 3, form), number_of(it, size // 2, form), changed_range(it, 99_999, 100_007, form)
                 if not (place is None or 0 <= place <= size) or not 0 < number <= size or not changed[0] <= 99_999 < 100_007 <= changed[1]:
                     wrong.append((place, number, changed))
-                if not max(len(recode(it, form, to)), len(recode(it, form, to, "maximal")), recoded_len(it, form, to)) <= 3 * size + 9:
+                if not max(len(recode(it, form, to)), len(recode(it, form, to, "lossy")), recoded_len(it, form, to)) <= 3 * size + 9:
                     wrong.append((form, to))
                 if not all(piece.offset <= size and piece.error for piece in itertools.islice(faults(it, form), 1000)):
                     wrong.append(form)

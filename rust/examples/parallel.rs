@@ -1,9 +1,9 @@
-//! Recodes a file by several threads, as `recode` does by one, or counts its invalid bytes by kind. It needs the memory of the file and of
-//! what comes of it.
+//! Transcodes a file by several threads, as `recode` does by one, or counts its invalid bytes by kind. It needs memory for the file and for
+//! the output.
 //!
 //! usage: `parallel recode FROM TO FILE OUT [JOBS]`, or `parallel check FROM FILE [JOBS]`; FROM and TO are `utf8`, `utf16le`, `utf16be`
 
-use noddychest::{parallel, FaultKind, Form};
+use noddychest::{parallel, Encoding, FaultKind};
 use std::error::Error;
 use std::num::NonZeroUsize;
 use std::process::ExitCode;
@@ -22,12 +22,12 @@ fn jobs_of(words: &[&str]) -> Result<Option<NonZeroUsize>, Box<dyn Error>> {
 fn run(words: &[&str]) -> Result<(), Box<dyn Error>> {
     match words {
         ["recode", from, to, file, out, rest @ ..] => {
-            let (from, to): (Form, Form) = (from.parse()?, to.parse()?);
+            let (from, to): (Encoding, Encoding) = (from.parse()?, to.parse()?);
             fs::write(out, parallel::recode(from, to, &fs::read(file)?, jobs_of(rest)?))?;
         }
         ["check", from, file, rest @ ..] => {
             let found = parallel::check(from.parse()?, &fs::read(file)?, jobs_of(rest)?);
-            for kind in FaultKind::ALL {
+            for &kind in FaultKind::ALL {
                 println!("{} {kind}", found.iter().filter(|fault| fault.kind() == kind).count());
             }
         }

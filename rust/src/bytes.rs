@@ -5,7 +5,7 @@ use crate::proved::cuts;
 use crate::proved::encode_unicode::error::Utf8Error;
 use crate::proved::encode_unicode::iterator::{Utf8CharDecoder, Utf8CharMerger};
 use crate::proved::encode_unicode::{CharExt, Utf8Char};
-use crate::{Form, Piece};
+use crate::{Encoding, Piece};
 
 /// All pieces of the bytes: characters, and single bytes that are invalid.
 ///
@@ -15,11 +15,13 @@ use crate::{Form, Piece};
 /// let text: String = noddychest::pieces(b"na\xC3\xAFve \xE2\x82").map(|piece| piece.result.unwrap_or('\u{FFFD}')).collect();
 /// assert_eq!(text, "naïve \u{FFFD}\u{FFFD}");
 /// ```
+#[doc(alias = "decode_utf8")]
+#[doc(alias = "utf8_chunks")]
 pub fn pieces(bytes: &[u8]) -> Pieces<'_> {
     Pieces::from(bytes)
 }
 
-/// The piece at the front, or `None` where there are no bytes.
+/// The piece at the front, or `None` if there are no bytes.
 ///
 /// ```
 /// let piece = noddychest::first("€5".as_bytes()).unwrap();
@@ -31,7 +33,7 @@ pub fn first(bytes: &[u8]) -> Option<Piece> {
     u8::first_of(bytes, 0)
 }
 
-/// The piece at the end, or `None` where there are no bytes. At most four bytes are looked at.
+/// The piece at the end, or `None` if there are no bytes. At most four bytes are looked at.
 ///
 /// ```
 /// let piece = noddychest::last("5€".as_bytes()).unwrap();
@@ -49,20 +51,22 @@ pub fn last(bytes: &[u8]) -> Option<Piece> {
 /// let valid = noddychest::valid_up_to(bytes);
 /// assert_eq!(std::str::from_utf8(&bytes[..valid]), Ok("ok"));
 /// ```
+#[doc(alias = "from_utf8")]
+#[doc(alias = "is_valid")]
 #[must_use]
 pub fn valid_up_to(bytes: &[u8]) -> usize {
     let front = ascii_before_line(bytes);
     front + cuts::valid_up_to(&bytes[front..])
 }
 
-/// The fewest bytes of which some at the front are passed, so that vectors lie within the lines of a processor's cache.
+/// The fewest bytes of which some at the front are passed, so that vectors lie within the lines of a CPU's cache.
 const LONG: usize = 4096;
-/// How many bytes a line has, and from which of its bytes the proved text begins to go over vectors.
+/// How many bytes a cache line has, and the offset from which on the proved text uses vectors.
 const LINE: usize = 64;
 const BEFORE_VECTORS: usize = 32;
 
-/// How many bytes to pass at the front of a long text, fewer than a line has: none where one of these is no ASCII. (Each ASCII byte is a
-/// character by itself, so the first invalid byte of what is left is that of the whole.)
+/// How many bytes to skip at the front of a long text, fewer than a cache line: none if one of these is not ASCII. (Each ASCII byte is a
+/// character, so the first invalid byte of what is left is that of the whole.)
 #[inline(always)]
 fn ascii_before_line(bytes: &[u8]) -> usize {
     if bytes.len() < LONG {
@@ -76,17 +80,19 @@ fn ascii_before_line(bytes: &[u8]) -> usize {
     }
 }
 
-/// The invalid bytes alone, each as [`pieces`] gives it. What is text between them is passed as fast as it is validated.
+/// Only the invalid bytes, each as [`pieces`] gives it from the front. Text between them is skipped about as fast as it is validated, from
+/// either end.
 ///
 /// ```
 /// let faults = noddychest::faults(b"ok\xFF, but \xE2\x82");
 /// assert_eq!(faults.map(|fault| fault.offset()).collect::<Vec<_>>(), [2, 9, 10]);
 /// ```
+#[doc(alias = "error")]
 pub fn faults(bytes: &[u8]) -> Faults<'_> {
     Faults::from(bytes)
 }
 
-/// How many characters there are, where each invalid byte counts as one: as many as [`pieces`] gives, and as many as are shown where
+/// How many characters there are, with each invalid byte counted as one: as many as [`pieces`] gives, and as many as are shown if
 /// each invalid byte is one U+FFFD.
 ///
 /// ```
@@ -99,7 +105,7 @@ pub fn char_count(bytes: &[u8]) -> usize {
 }
 
 /// The offset of the piece with this number, counted from 0: that of the [`pieces`] `nth(number)`, found as fast as text is validated.
-/// `None` where there are no more pieces.
+/// `None` if there are no more pieces.
 ///
 /// ```
 /// let bytes = b"h\xC3\xA9\xE2\x82A";
@@ -132,9 +138,10 @@ pub fn number_of(bytes: &[u8], offset: usize) -> usize {
 /// assert_eq!(noddychest::boundary_before(bytes, 3), 1);
 /// assert_eq!(noddychest::boundary_before(bytes, 9), 4);
 /// ```
+#[doc(alias = "floor_char_boundary")]
 #[must_use]
 pub fn boundary_before(bytes: &[u8], at: usize) -> usize {
-    crate::shard_end(Form::Utf8, bytes, at)
+    crate::encodings::boundary_before(Encoding::Utf8, bytes, at)
 }
 
 /// The first boundary between two pieces that is at least `at`, or the length.
@@ -144,9 +151,10 @@ pub fn boundary_before(bytes: &[u8], at: usize) -> usize {
 /// assert_eq!(noddychest::boundary_after(bytes, 2), 4);
 /// assert_eq!(noddychest::boundary_after(bytes, 1), 1);
 /// ```
+#[doc(alias = "ceil_char_boundary")]
 #[must_use]
 pub fn boundary_after(bytes: &[u8], at: usize) -> usize {
-    cuts::boundary_after(Form::Utf8.proved(), bytes, at)
+    cuts::boundary_after(Encoding::Utf8.proved(), bytes, at)
 }
 
 /// The piece that begins at `at`, as a decoder that gets one byte at a time names it; `None` from the length on.
@@ -162,7 +170,7 @@ pub fn boundary_after(bytes: &[u8], at: usize) -> usize {
 #[must_use]
 pub fn streamed_at(bytes: &[u8], at: usize) -> Option<Piece> {
     let result = Utf8CharMerger::from(bytes.get(at..)?.iter().copied()).next()?;
-    Some(Piece::new(at, result.as_ref().map_or(1, |c| c.len()), of_kind(result)))
+    Some(Piece::of(at, result.as_ref().map_or(1, |c| c.len()), of_kind(result)))
 }
 
 impl Element for u8 {
@@ -180,12 +188,16 @@ impl Element for u8 {
     #[inline(always)]
     fn last_of(left: &[u8], offset: usize) -> Option<Piece> {
         let (at, result, len) = Utf8CharDecoder::from(left).next_back()?;
-        Some(Piece::new(offset + at, len, of_kind(result)))
+        Some(Piece::of(offset + at, len, of_kind(result)))
     }
 
     #[inline(always)]
     fn valid_up_to(left: &[u8]) -> usize {
         valid_up_to(left)
+    }
+
+    fn boundary_before(left: &[u8], at: usize) -> usize {
+        boundary_before(left, at)
     }
 }
 
@@ -197,11 +209,11 @@ fn first_with_care(left: &[u8], offset: usize) -> Option<Piece> {
     }
     Some(match char::from_utf8_slice_start(left) {
         Ok((c, len)) => Piece { offset, len, result: Ok(c) },
-        Err(error) => Piece::new(offset, 1, Err::<char, _>(error.kind())),
+        Err(error) => Piece::of(offset, 1, Err::<char, _>(error.kind())),
     })
 }
 
-/// The character, or the kind alone.
+/// The character, or only the kind.
 #[inline(always)]
 pub(crate) fn of_kind(result: Result<Utf8Char, Utf8Error>) -> Result<Utf8Char, crate::encode_unicode::error::Utf8ErrorKind> {
     result.map_err(|error| error.kind())

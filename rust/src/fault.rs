@@ -7,7 +7,7 @@ use core::ops::{Add, Range};
 
 /// Why a byte, or a unit of UTF-16, is invalid.
 ///
-/// The first seven are of UTF-8 and the last three of UTF-16. Where two would be right, the first of these decides: the lead byte
+/// The first seven are of UTF-8 and the last three of UTF-16. If two would be right, the first of these decides: the lead byte
 /// itself, whether enough bytes are left, whether they are continuation bytes, and the value. So `E0 80 41` is an interrupted
 /// sequence and not an overlong encoding.
 ///
@@ -35,12 +35,13 @@ use core::ops::{Add, Range};
 /// };
 /// ```
 #[derive(Clone, Copy, Debug, PartialEq, Eq, PartialOrd, Ord, Hash)]
+#[doc(alias = "error")]
 #[non_exhaustive]
 #[repr(u8)]
 pub enum FaultKind {
     /// Fewer bytes are left than the first one needs.
     TooFewBytes = 1,
-    /// A byte that stands nowhere in UTF-8: `C0`, `C1`, or `F5` to `FF`.
+    /// A byte that never occurs in UTF-8: `C0`, `C1`, or `F5` to `FF`.
     NonUtf8Byte = 2,
     /// A continuation byte, `80` to `BF`, where a character should begin.
     UnexpectedContinuationByte = 3,
@@ -61,13 +62,14 @@ pub enum FaultKind {
 }
 
 impl FaultKind {
-    /// All kinds, in the order of their numbers.
+    /// All kinds, in the order of their numbers. More may come, so it is a slice.
     ///
     /// ```
     /// use noddychest::FaultKind;
-    /// assert!(FaultKind::ALL.contains(&FaultKind::OverlongEncoding));
+    /// let all: &[FaultKind] = FaultKind::ALL;
+    /// assert!(all.contains(&FaultKind::OverlongEncoding));
     /// ```
-    pub const ALL: [FaultKind; 10] = [
+    pub const ALL: &'static [FaultKind] = &[
         FaultKind::TooFewBytes,
         FaultKind::NonUtf8Byte,
         FaultKind::UnexpectedContinuationByte,
@@ -156,7 +158,7 @@ impl fmt::Display for FaultKind {
 
 /// An invalid byte, or unit of UTF-16: where it is, and why it is invalid.
 ///
-/// It is an [`Error`](core::error::Error), so a function that answers a `Result` passes it on by `?`, and `collect` stops at the
+/// It is an [`Error`](core::error::Error), so a function that returns a `Result` passes it on by `?`, and `collect` stops at the
 /// first one:
 ///
 /// ```
@@ -171,8 +173,10 @@ impl fmt::Display for FaultKind {
 /// assert_eq!(fault.to_string(), "invalid UTF-8 at offset 3: InterruptedSequence");
 /// ```
 ///
-/// `O` is what the offset is counted in, as for a [`Piece`](crate::Piece).
-#[derive(Clone, Copy, Debug, PartialEq, Eq, Hash)]
+/// `O` is what the offset is counted in, as for a [`Piece`](crate::Piece). Faults are ordered by offset.
+#[derive(Clone, Copy, Debug, PartialEq, Eq, PartialOrd, Ord, Hash)]
+#[doc(alias = "error")]
+#[non_exhaustive]
 pub struct Fault<O = usize> {
     offset: O,
     len: u8,
@@ -180,7 +184,18 @@ pub struct Fault<O = usize> {
 }
 
 impl<O: Copy> Fault<O> {
-    pub(crate) fn new(offset: O, len: u8, kind: FaultKind) -> Fault<O> {
+    /// A fault at an offset, of `len` bytes or units: if a part of a text is decoded, the fault in the whole.
+    ///
+    /// ```
+    /// use noddychest::{faults, Fault};
+    ///
+    /// let (header, body) = (&b"a: b\n"[..], &b"caf\xE9"[..]);
+    /// let fault = faults(body).next().unwrap();
+    /// let moved = Fault::new(header.len() as u64 + fault.offset() as u64, 1, fault.kind());
+    /// assert_eq!((moved.range(), moved.kind()), (8..9, fault.kind()));
+    /// ```
+    #[must_use]
+    pub const fn new(offset: O, len: u8, kind: FaultKind) -> Fault<O> {
         Fault { offset, len, kind }
     }
 
@@ -207,7 +222,7 @@ impl<O: Copy> Fault<O> {
         self.offset
     }
 
-    /// Its place: one byte, or one unit. Where UTF-16 is read in bytes it has two, or one where half a unit ends the text.
+    /// Its range: one byte, or one unit. If UTF-16 is read in bytes it has two, or one if half a unit ends the text.
     ///
     /// ```
     /// let bytes = b"ab\xFF";
@@ -232,3 +247,27 @@ impl<O: fmt::Display> fmt::Display for Fault<O> {
 }
 
 impl<O: fmt::Debug + fmt::Display> core::error::Error for Fault<O> {}
+
+/// An error of the kind [`InvalidData`](std::io::ErrorKind::InvalidData), in which the fault is: `error.get_ref()` and
+/// `error.downcast::<Fault>()` give it back.
+///
+/// ```
+/// use noddychest::{recode_strict, Fault, Encoding};
+/// use std::io;
+///
+/// fn converted(bytes: &[u8]) -> io::Result<Vec<u8>> {
+///     Ok(recode_strict(Encoding::Utf8, Encoding::Utf16Le, bytes)?)
+/// }
+///
+/// let error = converted(b"caf\xE9").unwrap_err();
+/// assert_eq!(error.kind(), io::ErrorKind::InvalidData);
+/// assert_eq!(error.to_string(), "invalid UTF-8 at offset 3: TooFewBytes");
+/// let fault = error.get_ref().and_then(|it| it.downcast_ref::<Fault>()).unwrap();
+/// assert_eq!(fault.offset(), 3);
+/// ```
+#[cfg(feature = "std")]
+impl<O: fmt::Debug + fmt::Display + Send + Sync + 'static> From<Fault<O>> for std::io::Error {
+    fn from(fault: Fault<O>) -> std::io::Error {
+        std::io::Error::new(std::io::ErrorKind::InvalidData, fault)
+    }
+}

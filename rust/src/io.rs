@@ -2,12 +2,12 @@
 //!
 //! ```
 //! use noddychest::io::RecodingReader;
-//! use noddychest::{Form, Recoder};
+//! use noddychest::{Encoding, Recoder};
 //! use std::io::Read;
 //!
 //! let file = &b"n\0a\0\xEF\0v\0e\0"[..];
 //! let mut text = String::new();
-//! RecodingReader::new(file, Recoder::strict(Form::Utf16Le, Form::Utf8)).read_to_string(&mut text)?;
+//! RecodingReader::new(file, Recoder::strict(Encoding::Utf16Le, Encoding::Utf8)).read_to_string(&mut text)?;
 //! assert_eq!(text, "naïve");
 //! # Ok::<(), std::io::Error>(())
 //! ```
@@ -16,12 +16,12 @@ mod decoding;
 
 use crate::{Fault, Recoder, Status};
 use std::fmt;
-use std::io::{Error, ErrorKind, Read, Result, Write};
+use std::io::{BufRead, ErrorKind, Read, Result, Write};
 
 pub use decoding::{faults, pieces, Faults, Pieces};
 
 const BLOCK: usize = 8192;
-/// No call of a recoder needs more room than this to go on, or to finish.
+/// A capacity with which every call of a recoder goes on, or finishes.
 const ENOUGH: usize = 16;
 /// Why the inner writer is there: only `into_inner` takes it, and that takes all.
 const THERE: &str = "nothing else takes it";
@@ -43,29 +43,28 @@ impl Block {
     }
 }
 
-/// How many bytes are of use, and how many there is room for: not each of them.
+/// The number of bytes in use and the capacity, not the bytes.
 impl fmt::Debug for Block {
     fn fmt(&self, f: &mut fmt::Formatter<'_>) -> fmt::Result {
         write!(f, "{}/{}", self.left().len(), self.bytes.len())
     }
 }
 
-fn refused(fault: Fault) -> Error {
-    Error::new(ErrorKind::InvalidData, fault)
-}
-
-/// Reads from a reader, and gives what that is in another form.
+/// Reads from a reader, and gives what that is in another encoding.
 ///
-/// It reads in blocks of 8 KiB, so it may have read more of the inner reader than it has given. Where a strict recoder meets invalid
-/// text the error has the kind [`InvalidData`](std::io::ErrorKind::InvalidData) and a [`Fault`] in it, after all that stands before it
+/// It reads in blocks of 8 KiB, so it may have read more of the inner reader than it has given. If a strict recoder meets invalid
+/// text the error has the kind [`InvalidData`](std::io::ErrorKind::InvalidData) and a [`Fault`] in it, after all that is before it
 /// was given. Reading on goes on after it. Errors of the inner reader are passed on, and nothing is lost by them.
+///
+/// It is a [`BufRead`], so it has lines. What is before an invalid byte in its line is in the buffer that
+/// [`read_line`](BufRead::read_line) was given; of the iterator [`lines`](BufRead::lines), which has its own, that is lost.
 ///
 /// ```
 /// use noddychest::io::RecodingReader;
-/// use noddychest::{Fault, Form, Recoder};
+/// use noddychest::{Fault, Encoding, Recoder};
 /// use std::io::Read;
 ///
-/// let mut reader = RecodingReader::new(&b"ok\xFF"[..], Recoder::strict(Form::Utf8, Form::Utf8));
+/// let mut reader = RecodingReader::new(&b"ok\xFF"[..], Recoder::strict(Encoding::Utf8, Encoding::Utf8));
 /// let mut text = Vec::new();
 /// let error = reader.read_to_end(&mut text).unwrap_err();
 /// assert_eq!(text, b"ok");
@@ -78,7 +77,7 @@ pub struct RecodingReader<R> {
     recoder: Recoder,
     /// What was read, and from where on it was not fed yet.
     part: Block,
-    /// What was recoded, and from where on it was not given yet.
+    /// What was converted, and from where on it was not given yet.
     made: Block,
     fault: Option<Fault>,
     is_full: bool,
@@ -87,11 +86,11 @@ pub struct RecodingReader<R> {
 }
 
 impl<R> RecodingReader<R> {
-    /// Recodes what that reader gives.
+    /// Transcodes what that reader gives.
     ///
     /// ```
-    /// use noddychest::{io::RecodingReader, Form, Recoder};
-    /// let reader = RecodingReader::new(std::io::stdin(), Recoder::new(Form::Utf16Be, Form::Utf8));
+    /// use noddychest::{io::RecodingReader, Encoding, Recoder};
+    /// let reader = RecodingReader::new(std::io::stdin(), Recoder::new(Encoding::Utf16Be, Encoding::Utf8));
     /// ```
     #[must_use]
     pub fn new(inner: R, recoder: Recoder) -> RecodingReader<R> {
@@ -102,8 +101,8 @@ impl<R> RecodingReader<R> {
     /// The reader.
     ///
     /// ```
-    /// use noddychest::{io::RecodingReader, Form, Recoder};
-    /// let reader = RecodingReader::new(&b"a"[..], Recoder::new(Form::Utf8, Form::Utf8));
+    /// use noddychest::{io::RecodingReader, Encoding, Recoder};
+    /// let reader = RecodingReader::new(&b"a"[..], Recoder::new(Encoding::Utf8, Encoding::Utf8));
     /// assert_eq!(reader.get_ref(), b"a");
     /// ```
     #[must_use]
@@ -114,9 +113,9 @@ impl<R> RecodingReader<R> {
     /// The reader, to be changed. What is read of it here is missing in the text, and offsets do not count it.
     ///
     /// ```
-    /// use noddychest::{io::RecodingReader, Form, Recoder};
+    /// use noddychest::{io::RecodingReader, Encoding, Recoder};
     /// use std::io::Read;
-    /// let mut reader = RecodingReader::new(&b"\xFF\xFEa\0"[..], Recoder::new(Form::Utf16Le, Form::Utf8));
+    /// let mut reader = RecodingReader::new(&b"\xFF\xFEa\0"[..], Recoder::new(Encoding::Utf16Le, Encoding::Utf8));
     /// reader.get_mut().read_exact(&mut [0; 2])?; // past the byte order mark
     /// assert_eq!(std::io::read_to_string(reader)?, "a");
     /// # Ok::<(), std::io::Error>(())
@@ -129,8 +128,8 @@ impl<R> RecodingReader<R> {
     /// The recoder: what it holds, and how many invalid bytes it has replaced of what was read.
     ///
     /// ```
-    /// use noddychest::{io::RecodingReader, Form, Recoder};
-    /// let mut reader = RecodingReader::new(&b"a\xFF"[..], Recoder::new(Form::Utf8, Form::Utf8));
+    /// use noddychest::{io::RecodingReader, Encoding, Recoder};
+    /// let mut reader = RecodingReader::new(&b"a\xFF"[..], Recoder::new(Encoding::Utf8, Encoding::Utf8));
     /// std::io::copy(&mut reader, &mut std::io::sink())?;
     /// assert_eq!(reader.recoder().replaced(), 1);
     /// # Ok::<(), std::io::Error>(())
@@ -143,8 +142,8 @@ impl<R> RecodingReader<R> {
     /// The reader. What was read of it and not given yet is lost.
     ///
     /// ```
-    /// use noddychest::{io::RecodingReader, Form, Recoder};
-    /// let reader = RecodingReader::new(&b"a"[..], Recoder::new(Form::Utf8, Form::Utf8));
+    /// use noddychest::{io::RecodingReader, Encoding, Recoder};
+    /// let reader = RecodingReader::new(&b"a"[..], Recoder::new(Encoding::Utf8, Encoding::Utf8));
     /// assert_eq!(reader.into_inner(), b"a");
     /// ```
     #[must_use]
@@ -154,11 +153,11 @@ impl<R> RecodingReader<R> {
 }
 
 impl<R: Read> RecodingReader<R> {
-    /// Recodes what was read, after it has read more where nothing of it is left.
+    /// Transcodes what was read, after it has read more where nothing of it is left.
     fn make(&mut self) -> Result<()> {
         if self.part.left().is_empty() && !self.is_full && !self.has_ended {
             let count = self.inner.read(&mut self.part.bytes)?;
-            assert!(count <= self.part.bytes.len(), "the reader says that it read more than there was room for");
+            assert!(count <= self.part.bytes.len(), "the reader says that it read more than the buffer can hold");
             (self.part.begin, self.part.end) = (0, count);
             self.has_ended = count == 0;
         }
@@ -179,38 +178,61 @@ impl<R: Read> RecodingReader<R> {
 }
 
 impl<R: Read> Read for RecodingReader<R> {
-    fn read(&mut self, room: &mut [u8]) -> Result<usize> {
-        while !room.is_empty() {
-            let given = self.made.left().read(room)?;
-            self.made.begin += given;
-            if given > 0 {
-                return Ok(given);
-            }
+    fn read(&mut self, buffer: &mut [u8]) -> Result<usize> {
+        if buffer.is_empty() {
+            return Ok(0);
+        }
+        let given = self.fill_buf()?.read(buffer)?;
+        self.consume(given);
+        Ok(given)
+    }
+}
+
+/// What was converted and not given yet, at most 8 KiB.
+///
+/// ```
+/// use noddychest::io::RecodingReader;
+/// use noddychest::{Encoding, Recoder};
+/// use std::io::BufRead;
+///
+/// let file = &b"o\0n\0e\0\n\0t\0w\0o\0"[..];
+/// let reader = RecodingReader::new(file, Recoder::new(Encoding::Utf16Le, Encoding::Utf8));
+/// assert_eq!(reader.lines().collect::<std::io::Result<Vec<_>>>()?, ["one", "two"]);
+/// # Ok::<(), std::io::Error>(())
+/// ```
+impl<R: Read> BufRead for RecodingReader<R> {
+    fn fill_buf(&mut self) -> Result<&[u8]> {
+        while self.made.left().is_empty() {
             if let Some(fault) = self.fault.take() {
-                return Err(refused(fault));
+                return Err(fault.into());
             }
             if self.has_finished {
                 break;
             }
             self.make()?;
         }
-        Ok(0)
+        Ok(self.made.left())
+    }
+
+    /// Consumes that many bytes, and no more than [`fill_buf`](BufRead::fill_buf) returned: what follows is not lost.
+    fn consume(&mut self, count: usize) {
+        self.made.begin += count.min(self.made.left().len());
     }
 }
 
-/// Writes to a writer what it is given, in another form.
+/// Writes to a writer what it is given, in another encoding.
 ///
 /// It gathers 8 KiB before it writes. Call [`finish`](RecodingWriter::finish) at the end: it writes what is gathered and held. Dropped
-/// without it the writer writes that too, as [`BufWriter`](std::io::BufWriter) does, and then nobody hears of an error. Where a strict
+/// without it the writer writes that too, as [`BufWriter`](std::io::BufWriter) does, and then nobody hears of an error. If a strict
 /// recoder meets invalid text, the error has the kind [`InvalidData`](std::io::ErrorKind::InvalidData) and a [`Fault`] in it. Since a
 /// call of `write` that fails must have taken nothing, it comes from the call that follows: the next `write`, `flush` or `finish`.
 ///
 /// ```
 /// use noddychest::io::RecodingWriter;
-/// use noddychest::{Form, Recoder};
+/// use noddychest::{Encoding, Recoder};
 /// use std::io::Write;
 ///
-/// let mut writer = RecodingWriter::new(Vec::new(), Recoder::new(Form::Utf8, Form::Utf16Le));
+/// let mut writer = RecodingWriter::new(Vec::new(), Recoder::new(Encoding::Utf8, Encoding::Utf16Le));
 /// write!(writer, "na{}ve", 'ï')?;
 /// writer.finish()?;
 /// assert_eq!(writer.into_inner(), b"n\0a\0\xEF\0v\0e\0");
@@ -221,19 +243,19 @@ pub struct RecodingWriter<W: Write> {
     /// There until `into_inner` takes it.
     inner: Option<W>,
     recoder: Recoder,
-    /// What was recoded, and from where on it was not written yet.
+    /// What was converted, and from where on it was not written yet.
     made: Block,
     fault: Option<Fault>,
-    /// While the inner writer writes: where that panics, or ends with what cannot be, nothing is written once more.
+    /// While the inner writer writes: if that panics, or returns an impossible count, nothing is written once more.
     is_writing: bool,
 }
 
 impl<W: Write> RecodingWriter<W> {
-    /// Recodes what is written, to that writer.
+    /// Transcodes what is written, to that writer.
     ///
     /// ```
-    /// use noddychest::{io::RecodingWriter, Form, Recoder};
-    /// let writer = RecodingWriter::new(std::io::stdout(), Recoder::new(Form::Utf8, Form::Utf16Be));
+    /// use noddychest::{io::RecodingWriter, Encoding, Recoder};
+    /// let writer = RecodingWriter::new(std::io::stdout(), Recoder::new(Encoding::Utf8, Encoding::Utf16Be));
     /// ```
     #[must_use]
     pub fn new(inner: W, recoder: Recoder) -> RecodingWriter<W> {
@@ -244,9 +266,9 @@ impl<W: Write> RecodingWriter<W> {
     /// invalid byte, at which a strict recoder stopped, it goes on after that byte.
     ///
     /// ```
-    /// use noddychest::{io::RecodingWriter, Form, Recoder};
+    /// use noddychest::{io::RecodingWriter, Encoding, Recoder};
     /// use std::io::Write;
-    /// let mut writer = RecodingWriter::new(Vec::new(), Recoder::new(Form::Utf8, Form::Utf8));
+    /// let mut writer = RecodingWriter::new(Vec::new(), Recoder::new(Encoding::Utf8, Encoding::Utf8));
     /// writer.write_all(b"a\xE2\x82")?;
     /// writer.finish()?;
     /// assert_eq!(writer.into_inner(), "a\u{FFFD}\u{FFFD}".as_bytes());
@@ -261,9 +283,9 @@ impl<W: Write> RecodingWriter<W> {
     /// The writer. It has been given what was written to it, and not yet what is gathered.
     ///
     /// ```
-    /// use noddychest::{io::RecodingWriter, Form, Recoder};
+    /// use noddychest::{io::RecodingWriter, Encoding, Recoder};
     /// use std::io::Write;
-    /// let mut writer = RecodingWriter::new(Vec::new(), Recoder::new(Form::Utf8, Form::Utf8));
+    /// let mut writer = RecodingWriter::new(Vec::new(), Recoder::new(Encoding::Utf8, Encoding::Utf8));
     /// writer.write_all(b"a")?;
     /// assert!(writer.get_ref().is_empty());
     /// writer.flush()?;
@@ -279,8 +301,8 @@ impl<W: Write> RecodingWriter<W> {
     /// [`flush`](std::io::Write::flush) first.
     ///
     /// ```
-    /// use noddychest::{io::RecodingWriter, Form, Recoder};
-    /// let mut writer = RecodingWriter::new(Vec::new(), Recoder::new(Form::Utf8, Form::Utf16Le));
+    /// use noddychest::{io::RecodingWriter, Encoding, Recoder};
+    /// let mut writer = RecodingWriter::new(Vec::new(), Recoder::new(Encoding::Utf8, Encoding::Utf16Le));
     /// writer.get_mut().extend(b"\xFF\xFE"); // a byte order mark
     /// assert_eq!(writer.into_inner(), b"\xFF\xFE");
     /// ```
@@ -292,9 +314,9 @@ impl<W: Write> RecodingWriter<W> {
     /// The recoder: what it holds, and how many invalid bytes it has replaced.
     ///
     /// ```
-    /// use noddychest::{io::RecodingWriter, Form, Recoder};
+    /// use noddychest::{io::RecodingWriter, Encoding, Recoder};
     /// use std::io::Write;
-    /// let mut writer = RecodingWriter::new(std::io::sink(), Recoder::new(Form::Utf8, Form::Utf8));
+    /// let mut writer = RecodingWriter::new(std::io::sink(), Recoder::new(Encoding::Utf8, Encoding::Utf8));
     /// writer.write_all(b"a\xFF\xE2")?;
     /// assert_eq!((writer.recoder().replaced(), writer.recoder().held()), (1, &b"\xE2"[..]));
     /// # Ok::<(), std::io::Error>(())
@@ -307,8 +329,8 @@ impl<W: Write> RecodingWriter<W> {
     /// The writer. What is held or gathered is lost: call [`finish`](RecodingWriter::finish) before.
     ///
     /// ```
-    /// use noddychest::{io::RecodingWriter, Form, Recoder};
-    /// let writer = RecodingWriter::new(Vec::new(), Recoder::new(Form::Utf8, Form::Utf8));
+    /// use noddychest::{io::RecodingWriter, Encoding, Recoder};
+    /// let writer = RecodingWriter::new(Vec::new(), Recoder::new(Encoding::Utf8, Encoding::Utf8));
     /// assert!(writer.into_inner().is_empty());
     /// ```
     #[must_use]
@@ -357,7 +379,7 @@ impl<W: Write> RecodingWriter<W> {
         self.inner.as_mut().map_or(Ok(()), W::flush)
     }
 
-    /// Recodes what it can of a part, and answers how much of it was read.
+    /// Transcodes what it can of a part, and returns how much of it was read.
     fn feed(&mut self, part: &[u8]) -> usize {
         let did = self.recoder.feed(part, &mut self.made.bytes[self.made.end..]);
         self.made.end += did.written;
@@ -369,7 +391,7 @@ impl<W: Write> RecodingWriter<W> {
 
     /// Tells of the invalid byte at which the call before stopped.
     fn tell(&mut self) -> Result<()> {
-        self.fault.take().map_or(Ok(()), |fault| Err(refused(fault)))
+        self.fault.take().map_or(Ok(()), |fault| Err(fault.into()))
     }
 }
 
@@ -381,7 +403,7 @@ impl<W: Write> Write for RecodingWriter<W> {
                 self.drain()?;
             }
             let read = self.feed(part);
-            // (nothing is read of it where a fault, or a character, is among the bytes that are held)
+            // (nothing is read of it if a fault, or a character, is among the bytes that are held)
             if read > 0 || part.is_empty() {
                 return Ok(read);
             }
@@ -392,7 +414,7 @@ impl<W: Write> Write for RecodingWriter<W> {
     fn flush(&mut self) -> Result<()> {
         self.tell()?;
         self.drain()?;
-        // (a character for which there was no room)
+        // (a character that did not fit)
         self.feed(&[]);
         self.drain()?;
         self.flush_inner()

@@ -1,8 +1,8 @@
 //! Decodes damaged UTF-8 and UTF-16 without losing a byte.
 //!
 //! [`pieces`] splits any bytes into characters and single invalid bytes, each with its offset, its length and the reason why it is
-//! invalid. From the front, from the back, from both ends or in parts, the split is the same. [`Recoder`] converts between UTF-8 and
-//! both byte orders of UTF-16, and either replaces what is invalid by U+FFFD or stops at it. [`faults`] lists what is invalid alone, and
+//! invalid. From the front, from the end, from both ends or in parts, the split is the same. [`Recoder`] converts between UTF-8 and
+//! both byte orders of UTF-16, and either replaces what is invalid by U+FFFD or stops at it. [`faults`] lists only what is invalid, and
 //! [`Decoder`] splits input that comes in parts. [`encode_unicode`] has the whole API of the crate of that name: characters kept as UTF-8 or
 //! UTF-16, and iterators over any source.
 //!
@@ -32,24 +32,27 @@
 //!
 //! # What is proved
 //!
-//! Every answer of the source is machine-proved. The source is Rust with contracts; a script takes the contracts away, and what is left
-//! is compiled here by rustc. That script, and what stands around that text, are tested and not proved. By default every index is
-//! tested, so memory safety rests on rustc and on the few places that are `unsafe`, which the package's `UNSAFE.md` lists. The feature
-//! `trusted` leaves those tests out; memory safety then rests on the proofs and on the script too.
+//! Every result of the source is machine-proved. The source is Rust with contracts; a script takes the contracts away, and what is left
+//! is compiled here by rustc. That script, and what is around that text, are tested and not proved. By default every index is
+//! tested, so memory safety rests on rustc and on the few places that are `unsafe`, which the package's `UNSAFE.md` lists.
+//!
+//! Whoever builds a program may leave those tests out, by `RUSTFLAGS="--cfg noddychest_trusted"`, on targets of 64 bits: memory safety then
+//! rests on the proofs and on the script too. It is no feature, since cargo gives all crates of a build the features that any of them
+//! asks for: a library would decide it for each program that uses it.
 //!
 //! # Features
 //!
-//! - `std` (on by default): [`io`] and [`parallel`], `Read`, and on x86-64 AVX2 or SSSE3 where the processor has it.
-//! - `alloc`: [`recode`] and its kin, [`PieceTable`], [`TextBuffer`], and what gives or takes a `Vec` or a `String`. All else needs `core` alone.
-//! - `trusted`: for targets of 64 bits, no test of what the proofs rule out.
+//! - `std` (on by default): [`io`] and [`parallel`], `Read`, and on x86-64 AVX2 or SSSE3 if the CPU has it.
+//! - `alloc`: [`recode`] and its kin, [`PieceTable`], [`TextBuffer`], and what gives or takes a `Vec` or a `String`. All else needs only `core`.
 //! - `c`: the functions of the library for C, for the package `noddychest-c`.
 //!
 //! # Platforms
 //!
 //! It is written for every target of rustc of 32 or 64 bits, and was run on Linux on x86-64.
-//! On ARM64 the library for C, the programs, the Rust crate's calls for C and the package for Python ran in QEMU alone.
+//! On ARM64 the library for C, the programs, the Rust crate's calls for C and the package for Python ran only in QEMU.
 //!
 //! [`String::from_utf8_lossy`]: https://doc.rust-lang.org/std/string/struct.String.html#method.from_utf8_lossy
+#![cfg_attr(docsrs, feature(doc_cfg))]
 #![cfg_attr(not(feature = "std"), no_std)]
 #![cfg_attr(not(feature = "std"), allow(rustdoc::broken_intra_doc_links))]
 
@@ -59,14 +62,14 @@ extern crate alloc;
 #[cfg(target_pointer_width = "16")]
 compile_error!("a target of 16 bits is too small: the code of a character is kept in a `usize`");
 
-#[cfg(all(feature = "trusted", not(target_pointer_width = "64")))]
-compile_error!("the feature `trusted` is for targets of 64 bits: in the proofs a `usize` has 64");
+#[cfg(all(noddychest_trusted, not(target_pointer_width = "64")))]
+compile_error!("the trusted mode is for targets of 64 bits: in the proofs a `usize` has 64");
 
 mod bytes;
 mod decoder;
 pub mod encode_unicode;
+pub mod encodings;
 mod fault;
-pub mod forms;
 #[cfg(feature = "std")]
 pub mod io;
 #[cfg(feature = "std")]
@@ -75,8 +78,8 @@ pub mod parts;
 mod piece;
 mod pieces;
 /// What `scripts/erase` made of the proved text. (It keeps laws, which are functions that do nothing, and what only the programs use.)
-#[cfg_attr(not(feature = "trusted"), path = "proved/checked/mod.rs")]
-#[cfg_attr(feature = "trusted", path = "proved/trusted/mod.rs")]
+#[cfg_attr(not(noddychest_trusted), path = "proved/checked/mod.rs")]
+#[cfg_attr(noddychest_trusted, path = "proved/trusted/mod.rs")]
 #[allow(dead_code, improper_ctypes_definitions, unused_imports, unused_labels, unused_variables)]
 #[rustfmt::skip]
 #[allow(missing_debug_implementations, clippy::all, clippy::pedantic, clippy::undocumented_unsafe_blocks)]
@@ -105,7 +108,7 @@ pub use proved::cuts::{Change, Counts};
 #[cfg(feature = "alloc")]
 pub use recode::{decode, decode_lossy, decode_strict, recode, recode_lossy, recode_strict, try_recode};
 pub use recoder::{
-    changed_range, form_of_bom, recoded_len, recoded_len_max, shard_end, Form, Progress, Recoder, Status, UnknownForm,
+    changed_range, encoding_of_bom, recoded_len, recoded_len_max, shard_end, Encoding, Progress, Recoder, Status, UnknownEncoding,
 };
 pub use support::alloc::AllocError;
 #[cfg(feature = "alloc")]
@@ -113,7 +116,7 @@ pub use table::{PieceTable, TablePieces};
 #[cfg(feature = "alloc")]
 pub use text_buffer::{BufferBytes, TextBuffer};
 
-/// Whether this processor has what the crate needs. It needs nothing: where the processor lacks what some code uses, other code runs.
+/// Whether this CPU has what the crate needs. It needs nothing: if the CPU lacks what some code uses, other code runs.
 ///
 /// ```
 /// assert!(noddychest::is_supported());
@@ -122,6 +125,43 @@ pub use text_buffer::{BufferBytes, TextBuffer};
 pub fn is_supported() -> bool {
     true
 }
+
+/// Structs to which more fields may come: another crate cannot name all fields of one in a pattern, nor write them all. None of these
+/// compiles:
+///
+/// ```compile_fail,E0638
+/// let noddychest::Piece { offset, len, result } = noddychest::first(b"a").unwrap();
+/// ```
+/// ```compile_fail,E0639
+/// let piece = noddychest::Piece { offset: 0, len: 1, result: Ok('a') };
+/// ```
+/// ```compile_fail,E0638
+/// let noddychest::Progress { read, written, status } = noddychest::Progress::new(0, 0, noddychest::Status::Done);
+/// ```
+/// ```compile_fail,E0639
+/// let did = noddychest::Progress { read: 0, written: 0, status: noddychest::Status::Done };
+/// ```
+/// ```compile_fail,E0638
+/// let noddychest::Counts { bytes, pieces, faults, line_feeds } = noddychest::Counts::default();
+/// ```
+/// ```compile_fail,E0639
+/// let counts = noddychest::Counts { bytes: 1, pieces: 1, faults: 0, line_feeds: 0 };
+/// ```
+/// ```compile_fail,E0638
+/// let noddychest::Change { offset, number, gone, come } = noddychest::Change::default();
+/// ```
+/// ```compile_fail,E0639
+/// let change = noddychest::Change { offset: 1, ..noddychest::Change::default() };
+/// ```
+///
+/// This does:
+///
+/// ```
+/// let noddychest::Piece { offset, result, .. } = noddychest::first(b"a").unwrap();
+/// assert_eq!((offset, result), (0, Ok('a')));
+/// ```
+#[cfg(all(doctest, feature = "alloc"))]
+struct MoreFieldsMayCome;
 
 /// The example of the README.
 #[cfg(all(doctest, feature = "std"))]

@@ -13,11 +13,14 @@ use core::ops::Range;
 /// let piece = noddychest::first("é".as_bytes()).unwrap();
 /// assert_eq!((piece.offset, piece.len, piece.result), (0, 2, Ok('é')));
 /// ```
-#[derive(Clone, Copy, Debug, PartialEq, Eq, Hash)]
+///
+/// Pieces are ordered by offset. More fields may come, so a pattern needs `..`, and [`new`](Piece::new) makes one.
+#[derive(Clone, Copy, Debug, PartialEq, Eq, PartialOrd, Ord, Hash)]
+#[non_exhaustive]
 pub struct Piece<O = usize> {
     /// Where it begins: in bytes, or in units of UTF-16, from the front of what was split, or of all that a decoder was fed.
     pub offset: O,
-    /// How many bytes or units it has: 1 to 4 bytes, or 1 or 2 units. What is invalid has one; where UTF-16 is read in bytes it has
+    /// How many bytes or units it has: 1 to 4 bytes, or 1 or 2 units. What is invalid has one; if UTF-16 is read in bytes it has
     /// two, or one where half a unit ends the text.
     pub len: usize,
     /// The character, or what is wrong.
@@ -25,9 +28,9 @@ pub struct Piece<O = usize> {
 }
 
 impl Piece {
-    /// A piece of so many bytes or units.
+    /// A piece of the proved text.
     #[inline(always)]
-    pub(crate) fn new<C: Into<char>, K: Into<FaultKind>>(offset: usize, len: usize, result: Result<C, K>) -> Piece {
+    pub(crate) fn of<C: Into<char>, K: Into<FaultKind>>(offset: usize, len: usize, result: Result<C, K>) -> Piece {
         let result = match result {
             Ok(c) => Ok(c.into()),
             Err(kind) => Err(Fault::new(offset, 1, kind.into())),
@@ -35,7 +38,7 @@ impl Piece {
         Piece { offset, len, result }
     }
 
-    /// Its place, to slice with.
+    /// Its range, to slice with.
     ///
     /// ```
     /// let bytes = b"a\xC3\xA9";
@@ -67,13 +70,13 @@ impl cuts::FromPiece for Piece<u64> {
 }
 
 impl Piece<u64> {
-    /// Its place in all that was fed.
+    /// Its range in all that was fed.
     ///
     /// ```
-    /// use noddychest::{Decoder, Form, Piece};
-    /// let mut room = [Piece::default(); 4];
-    /// let did = Decoder::new(Form::Utf16Le).feed(b"a\0b\0c", &mut room);
-    /// assert_eq!((did.written, room[1].range()), (2, 2..4));
+    /// use noddychest::{Decoder, Encoding, Piece};
+    /// let mut buffer = [Piece::default(); 4];
+    /// let did = Decoder::new(Encoding::Utf16Le).feed(b"a\0b\0c", &mut buffer);
+    /// assert_eq!((did.written, buffer[1].range()), (2, 2..4));
     /// ```
     #[must_use]
     pub fn range(&self) -> Range<u64> {
@@ -81,8 +84,21 @@ impl Piece<u64> {
     }
 }
 
+impl<O> Piece<O> {
+    /// A piece at an offset, of `len` bytes or units.
+    ///
+    /// ```
+    /// use noddychest::Piece;
+    /// assert_eq!(noddychest::pieces("a€".as_bytes()).nth(1), Some(Piece::new(1, 3, Ok('€'))));
+    /// ```
+    #[must_use]
+    pub const fn new(offset: O, len: usize, result: Result<char, Fault<O>>) -> Piece<O> {
+        Piece { offset, len, result }
+    }
+}
+
 impl<O: Copy> Piece<O> {
-    /// The character, or `None` where it is invalid.
+    /// The character, or `None` if it is invalid.
     ///
     /// ```
     /// let text: String = noddychest::pieces(b"a\xFFb").map(|piece| piece.char().unwrap_or('\u{FFFD}')).collect();
@@ -93,7 +109,7 @@ impl<O: Copy> Piece<O> {
         self.result.ok()
     }
 
-    /// What is wrong, or `None` where it is a character.
+    /// What is wrong, or `None` if it is a character.
     ///
     /// ```
     /// let faults = noddychest::pieces(b"a\xFFb\xFE").filter_map(|piece| piece.fault());
@@ -105,11 +121,11 @@ impl<O: Copy> Piece<O> {
     }
 }
 
-/// The character U+0000 at the offset 0, to make a room of.
+/// The character U+0000 at the offset 0, to fill a new buffer.
 ///
 /// ```
-/// let room = [noddychest::Piece::<u64>::default(); 16];
-/// assert_eq!(room[0].char(), Some('\0'));
+/// let buffer = [noddychest::Piece::<u64>::default(); 16];
+/// assert_eq!(buffer[0].char(), Some('\0'));
 /// ```
 impl<O: Default> Default for Piece<O> {
     fn default() -> Piece<O> {

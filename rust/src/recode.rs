@@ -1,67 +1,69 @@
-//! Recoding of a whole text, and into a `Vec` or a `String` that grows.
+//! Transcoding of a whole text, and into a `Vec` or a `String` that grows.
 
 use crate::proved::cuts;
 use crate::support::memory;
 use crate::table::granted;
-use crate::{AllocError, Fault, Form, Progress, Recoder, Status};
+use crate::{AllocError, Encoding, Fault, Progress, Recoder, Status};
 use alloc::string::String;
 use alloc::vec::Vec;
 
-/// How much is recoded at once where it goes to a `String`.
+/// How much is converted by one call if it goes to a `String`.
 const BLOCK: usize = 1024;
 
-/// What the bytes are in another form; each invalid byte (of UTF-16 each unit) becomes one U+FFFD.
+/// What the bytes are in another encoding; each invalid byte (of UTF-16 each unit) becomes one U+FFFD.
 ///
 /// ```
-/// use noddychest::{recode, Form};
-/// assert_eq!(recode(Form::Utf16Le, Form::Utf8, b"\xAC\x20\x00\xDE"), "€\u{FFFD}".as_bytes());
+/// use noddychest::{recode, Encoding};
+/// assert_eq!(recode(Encoding::Utf16Le, Encoding::Utf8, b"\xAC\x20\x00\xDE"), "€\u{FFFD}".as_bytes());
 /// ```
+#[doc(alias = "transcode")]
+#[doc(alias = "encode")]
 #[must_use]
-pub fn recode(from: Form, to: Form, bytes: &[u8]) -> Vec<u8> {
+pub fn recode(from: Encoding, to: Encoding, bytes: &[u8]) -> Vec<u8> {
     granted(try_recode(from, to, bytes))
 }
 
-/// The same, where memory may be refused.
+/// [`recode`], but returns an error if an allocation fails.
 ///
 /// ```
-/// use noddychest::{try_recode, Form};
-/// assert_eq!(try_recode(Form::Utf8, Form::Utf16Be, b"a\xFF"), Ok(b"\0a\xFF\xFD".to_vec()));
+/// use noddychest::{try_recode, Encoding};
+/// assert_eq!(try_recode(Encoding::Utf8, Encoding::Utf16Be, b"a\xFF"), Ok(b"\0a\xFF\xFD".to_vec()));
 /// ```
-pub fn try_recode(from: Form, to: Form, bytes: &[u8]) -> Result<Vec<u8>, AllocError> {
+pub fn try_recode(from: Encoding, to: Encoding, bytes: &[u8]) -> Result<Vec<u8>, AllocError> {
     let mut out = Vec::new();
     append_recoded(from, to, bytes, &mut out)?;
     Ok(out)
 }
 
-/// Appends what the bytes are in another form.
-pub(crate) fn append_recoded(from: Form, to: Form, bytes: &[u8], out: &mut Vec<u8>) -> Result<(), AllocError> {
+/// Appends what the bytes are in another encoding.
+pub(crate) fn append_recoded(from: Encoding, to: Encoding, bytes: &[u8], out: &mut Vec<u8>) -> Result<(), AllocError> {
     let mut recoder = cuts::Recoder::new(from.proved(), to.proved());
     recoder.feed(bytes, memory::Vec::of(out))?;
     recoder.finish(memory::Vec::of(out))?;
     Ok(())
 }
 
-/// What the bytes are in another form; each maximal subpart becomes one U+FFFD, as [`Recoder::lossy`] says it.
+/// What the bytes are in another encoding; each maximal subpart becomes one U+FFFD, as [`Recoder::lossy`] says it.
 ///
 /// ```
-/// use noddychest::{recode, recode_lossy, Form};
-/// assert_eq!(recode_lossy(Form::Utf8, Form::Utf8, b"\xE2\x82A"), "\u{FFFD}A".as_bytes());
-/// assert_eq!(recode(Form::Utf8, Form::Utf8, b"\xE2\x82A"), "\u{FFFD}\u{FFFD}A".as_bytes());
+/// use noddychest::{recode, recode_lossy, Encoding};
+/// assert_eq!(recode_lossy(Encoding::Utf8, Encoding::Utf8, b"\xE2\x82A"), "\u{FFFD}A".as_bytes());
+/// assert_eq!(recode(Encoding::Utf8, Encoding::Utf8, b"\xE2\x82A"), "\u{FFFD}\u{FFFD}A".as_bytes());
 /// ```
 #[must_use]
-pub fn recode_lossy(from: Form, to: Form, bytes: &[u8]) -> Vec<u8> {
+pub fn recode_lossy(from: Encoding, to: Encoding, bytes: &[u8]) -> Vec<u8> {
     recode_by(Recoder::lossy(from, to), bytes).unwrap_or_else(|fault| unreachable!("{fault}: only a strict recoder stops"))
 }
 
-/// What the bytes are in another form, or the first of them that is invalid.
+/// What the bytes are in another encoding, or the first of them that is invalid.
 ///
 /// ```
-/// use noddychest::{recode_strict, FaultKind, Form};
-/// assert_eq!(recode_strict(Form::Utf8, Form::Utf16Be, b"ok"), Ok(b"\0o\0k".to_vec()));
-/// let fault = recode_strict(Form::Utf8, Form::Utf16Be, b"ok\xFF").unwrap_err();
+/// use noddychest::{recode_strict, FaultKind, Encoding};
+/// assert_eq!(recode_strict(Encoding::Utf8, Encoding::Utf16Be, b"ok"), Ok(b"\0o\0k".to_vec()));
+/// let fault = recode_strict(Encoding::Utf8, Encoding::Utf16Be, b"ok\xFF").unwrap_err();
 /// assert_eq!((fault.offset(), fault.kind()), (2, FaultKind::NonUtf8Byte));
 /// ```
-pub fn recode_strict(from: Form, to: Form, bytes: &[u8]) -> Result<Vec<u8>, Fault> {
+pub fn recode_strict(from: Encoding, to: Encoding, bytes: &[u8]) -> Result<Vec<u8>, Fault> {
     recode_by(Recoder::strict(from, to), bytes)
 }
 
@@ -82,48 +84,52 @@ fn refused(did: Progress) -> Result<(), Fault> {
 /// The text of the bytes; each invalid byte (of UTF-16 each unit) becomes one U+FFFD.
 ///
 /// ```
-/// use noddychest::{decode, Form};
-/// assert_eq!(decode(Form::Utf16Le, b"\xAC\x20\x00\xDE"), "€\u{FFFD}");
+/// use noddychest::{decode, Encoding};
+/// assert_eq!(decode(Encoding::Utf16Le, b"\xAC\x20\x00\xDE"), "€\u{FFFD}");
 /// ```
+#[doc(alias = "decode_utf8")]
 #[must_use]
-pub fn decode(form: Form, bytes: &[u8]) -> String {
-    text(recode(form, Form::Utf8, bytes))
+pub fn decode(encoding: Encoding, bytes: &[u8]) -> String {
+    text(recode(encoding, Encoding::Utf8, bytes))
 }
 
 /// The text of the bytes; each maximal subpart becomes one U+FFFD. Of UTF-8 it is what [`String::from_utf8_lossy`] gives.
 ///
 /// ```
-/// use noddychest::{decode_lossy, Form};
-/// assert_eq!(decode_lossy(Form::Utf8, b"\xF0\x9F\x98!"), String::from_utf8_lossy(b"\xF0\x9F\x98!"));
+/// use noddychest::{decode_lossy, Encoding};
+/// assert_eq!(decode_lossy(Encoding::Utf8, b"\xF0\x9F\x98!"), String::from_utf8_lossy(b"\xF0\x9F\x98!"));
 /// ```
+#[doc(alias = "decode_utf8")]
+#[doc(alias = "from_utf8_lossy")]
 #[must_use]
-pub fn decode_lossy(form: Form, bytes: &[u8]) -> String {
-    text(recode_lossy(form, Form::Utf8, bytes))
+pub fn decode_lossy(encoding: Encoding, bytes: &[u8]) -> String {
+    text(recode_lossy(encoding, Encoding::Utf8, bytes))
 }
 
 /// The text of the bytes, or the first of them that is invalid.
 ///
 /// ```
-/// use noddychest::{decode_strict, Form};
-/// assert_eq!(decode_strict(Form::Utf16Be, b"\0o\0k").as_deref(), Ok("ok"));
-/// assert_eq!(decode_strict(Form::Utf8, b"ok\xFF").unwrap_err().offset(), 2);
+/// use noddychest::{decode_strict, Encoding};
+/// assert_eq!(decode_strict(Encoding::Utf16Be, b"\0o\0k").as_deref(), Ok("ok"));
+/// assert_eq!(decode_strict(Encoding::Utf8, b"ok\xFF").unwrap_err().offset(), 2);
 /// ```
-pub fn decode_strict(form: Form, bytes: &[u8]) -> Result<String, Fault> {
-    recode_strict(form, Form::Utf8, bytes).map(text)
+#[doc(alias = "decode_utf8")]
+pub fn decode_strict(encoding: Encoding, bytes: &[u8]) -> Result<String, Fault> {
+    recode_strict(encoding, Encoding::Utf8, bytes).map(text)
 }
 
 fn text(bytes: Vec<u8>) -> String {
     String::from_utf8(bytes).expect("what is recoded to UTF-8 is UTF-8")
 }
 
-/// Into room that grows.
+/// Into a buffer that grows.
 impl Recoder {
-    /// Feeds a part of the text, and appends what comes of it. It is never [`Status::Full`], and reads the whole part, but where a strict
+    /// Feeds a part of the text, and appends the output. It is never [`Status::Full`], and reads the whole part, unless a strict
     /// recoder stops at a [`Status::Fault`].
     ///
     /// ```
-    /// use noddychest::{Form, Recoder};
-    /// let (mut recoder, mut out) = (Recoder::new(Form::Utf8, Form::Utf16Be), Vec::new());
+    /// use noddychest::{Encoding, Recoder};
+    /// let (mut recoder, mut out) = (Recoder::new(Encoding::Utf8, Encoding::Utf16Be), Vec::new());
     /// for part in [&b"caf\xC3"[..], b"\xA9\xFF"] {
     ///     assert_eq!(recoder.feed_to_vec(part, &mut out).read, part.len());
     /// }
@@ -131,31 +137,31 @@ impl Recoder {
     /// assert_eq!(out, b"\0c\0a\0f\0\xE9\xFF\xFD");
     /// ```
     pub fn feed_to_vec(&mut self, part: &[u8], out: &mut Vec<u8>) -> Progress {
-        append(out, part, |rest, room| self.feed(rest, room))
+        append(out, part, |rest, buffer| self.feed(rest, buffer))
     }
 
     /// Appends what is held, when no more follows. It is never [`Status::Full`]. Of a strict recoder see [`finish`](Recoder::finish).
     ///
     /// ```
-    /// use noddychest::{Form, Recoder};
-    /// let (mut recoder, mut out) = (Recoder::new(Form::Utf8, Form::Utf8), Vec::new());
+    /// use noddychest::{Encoding, Recoder};
+    /// let (mut recoder, mut out) = (Recoder::new(Encoding::Utf8, Encoding::Utf8), Vec::new());
     /// assert_eq!(recoder.feed_to_vec(b"a\xC3", &mut out).written, 1);
     /// assert_eq!(recoder.finish_to_vec(&mut out).written, 3);
     /// assert_eq!(out, "a\u{FFFD}".as_bytes());
     /// ```
     pub fn finish_to_vec(&mut self, out: &mut Vec<u8>) -> Progress {
-        append(out, &[], |_, room| self.finish(room))
+        append(out, &[], |_, buffer| self.finish(buffer))
     }
 
     /// [`feed_to_vec`](Recoder::feed_to_vec) into a string.
     ///
     /// # Panics
     ///
-    /// If the recoder writes another form than UTF-8.
+    /// If the recoder writes another encoding than UTF-8.
     ///
     /// ```
-    /// use noddychest::{Form, Recoder};
-    /// let (mut recoder, mut text) = (Recoder::lossy(Form::Utf8, Form::Utf8), String::from("> "));
+    /// use noddychest::{Encoding, Recoder};
+    /// let (mut recoder, mut text) = (Recoder::lossy(Encoding::Utf8, Encoding::Utf8), String::from("> "));
     /// for part in [&b"caf\xC3"[..], b"\xA9\xE2\x82!"] {
     ///     assert_eq!(recoder.feed_to_string(part, &mut text).read, part.len());
     /// }
@@ -164,29 +170,29 @@ impl Recoder {
     /// ```
     pub fn feed_to_string(&mut self, part: &[u8], out: &mut String) -> Progress {
         self.expect_utf8();
-        append_text(out, part, |rest, room| self.feed(rest, room))
+        append_text(out, part, |rest, buffer| self.feed(rest, buffer))
     }
 
     /// [`finish_to_vec`](Recoder::finish_to_vec) into a string.
     ///
     /// # Panics
     ///
-    /// If the recoder writes another form than UTF-8.
+    /// If the recoder writes another encoding than UTF-8.
     ///
     /// ```
-    /// use noddychest::{Form, Recoder};
-    /// let (mut recoder, mut text) = (Recoder::new(Form::Utf16Le, Form::Utf8), String::new());
+    /// use noddychest::{Encoding, Recoder};
+    /// let (mut recoder, mut text) = (Recoder::new(Encoding::Utf16Le, Encoding::Utf8), String::new());
     /// assert_eq!(recoder.feed_to_string(b"a\0\x3D\xD8", &mut text).written, 1);
     /// assert_eq!(recoder.finish_to_string(&mut text).written, 3);
     /// assert_eq!(text, "a\u{FFFD}");
     /// ```
     pub fn finish_to_string(&mut self, out: &mut String) -> Progress {
         self.expect_utf8();
-        append_text(out, &[], |_, room| self.finish(room))
+        append_text(out, &[], |_, buffer| self.finish(buffer))
     }
 
     fn expect_utf8(&self) {
-        assert!(self.to() == Form::Utf8, "a string takes UTF-8, and this recoder writes {}", self.to());
+        assert!(self.to() == Encoding::Utf8, "a string takes UTF-8, and this recoder writes {}", self.to());
     }
 }
 
@@ -194,7 +200,7 @@ impl Recoder {
 fn append(out: &mut Vec<u8>, part: &[u8], mut step: impl FnMut(&[u8], &mut [u8]) -> Progress) -> Progress {
     let (begin, mut end, mut read) = (out.len(), out.len(), 0);
     loop {
-        // (text of one form is about as long in another; where it is longer the room grows as vectors do)
+        // (text of one encoding is about as long in another; if it is longer the vector grows)
         out.resize(end + (part.len() - read) + 16, 0);
         let did = step(&part[read..], &mut out[end..]);
         read += did.read;
@@ -206,13 +212,13 @@ fn append(out: &mut Vec<u8>, part: &[u8], mut step: impl FnMut(&[u8], &mut [u8])
     }
 }
 
-/// The same to a string, by steps that write UTF-8.
+/// Appends the output to a string, by steps that write UTF-8.
 fn append_text(out: &mut String, part: &[u8], mut step: impl FnMut(&[u8], &mut [u8]) -> Progress) -> Progress {
-    let (mut room, begin, mut read) = ([0; BLOCK], out.len(), 0);
+    let (mut buffer, begin, mut read) = ([0; BLOCK], out.len(), 0);
     loop {
-        let did = step(&part[read..], &mut room);
+        let did = step(&part[read..], &mut buffer);
         read += did.read;
-        out.push_str(core::str::from_utf8(&room[..did.written]).expect("a recoder to UTF-8 writes whole characters"));
+        out.push_str(core::str::from_utf8(&buffer[..did.written]).expect("a recoder to UTF-8 writes whole characters"));
         if did.status != Status::Full {
             return Progress { read, written: out.len() - begin, status: did.status };
         }

@@ -38,7 +38,7 @@ impl PieceTable {
         granted(PieceTable::try_new(bytes))
     }
 
-    /// The same, where memory may be refused.
+    /// [`new`](PieceTable::new), but returns an error if an allocation fails.
     ///
     /// ```
     /// assert!(noddychest::PieceTable::try_new(b"a\xFF").is_ok());
@@ -68,7 +68,7 @@ impl PieceTable {
         TablePieces { items: self.inner.pieces().iter() }
     }
 
-    /// Puts other bytes in the place of those in the range, and keeps the pieces up to date.
+    /// Replaces the bytes in the range by others, and keeps the pieces up to date.
     ///
     /// # Panics
     ///
@@ -83,7 +83,7 @@ impl PieceTable {
         granted(self.try_replace(range, with));
     }
 
-    /// The same, where memory may be refused: the table is then as it was.
+    /// [`replace`](PieceTable::replace), but returns an error if an allocation fails: the table is then as it was.
     ///
     /// # Panics
     ///
@@ -105,6 +105,22 @@ impl Clone for PieceTable {
     }
 }
 
+/// Equal if the bytes are equal, and so the pieces.
+///
+/// ```
+/// use noddychest::PieceTable;
+/// let mut table = PieceTable::new(b"a\xC3");
+/// table.replace(2..2, b"\xA9");
+/// assert_eq!(table, PieceTable::new("aé".as_bytes()));
+/// ```
+impl PartialEq for PieceTable {
+    fn eq(&self, other: &PieceTable) -> bool {
+        self.bytes() == other.bytes()
+    }
+}
+
+impl Eq for PieceTable {}
+
 /// The bytes, and the pieces.
 impl fmt::Debug for PieceTable {
     fn fmt(&self, f: &mut fmt::Formatter<'_>) -> fmt::Result {
@@ -112,7 +128,7 @@ impl fmt::Debug for PieceTable {
     }
 }
 
-/// What memory was granted for; else it ends the process, as std's collections do.
+/// What memory was granted for; otherwise it ends the process, as std's collections do.
 pub(crate) fn granted<T>(result: Result<T, AllocError>) -> T {
     result.unwrap_or_else(|AllocError| handle_alloc_error(Layout::new::<cuts::Item>()))
 }
@@ -133,7 +149,7 @@ pub struct TablePieces<'a> {
 
 /// The piece of an item of the proved text.
 pub(crate) fn piece((offset, result, len): cuts::Item) -> Piece {
-    Piece::new(offset, len, of_kind(result))
+    Piece::of(offset, len, of_kind(result))
 }
 
 impl Iterator for TablePieces<'_> {

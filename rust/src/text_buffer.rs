@@ -12,7 +12,7 @@ use core::ops::Range;
 /// A text that is edited, of which it is known at any time how many characters, invalid bytes and lines it has.
 ///
 /// The bytes are kept in chunks of some kilobytes. An edit of a few bytes changes one or two of them; no other byte is read or moved. Take a
-/// [`PieceTable`](crate::PieceTable) for a short text of which all pieces are wanted at once.
+/// [`PieceTable`](crate::PieceTable) for a short text, if all pieces are wanted as one list.
 ///
 /// ```
 /// use noddychest::TextBuffer;
@@ -24,6 +24,7 @@ use core::ops::Range;
 /// assert_eq!(text.next_fault(0), Some(6));
 /// assert_eq!(text.line_of(6), 1);
 /// ```
+#[doc(alias = "rope")]
 pub struct TextBuffer {
     inner: cuts::TextBuffer<Global>,
 }
@@ -39,7 +40,7 @@ impl TextBuffer {
         granted(TextBuffer::try_new(bytes))
     }
 
-    /// The same, where memory may be refused.
+    /// [`new`](TextBuffer::new), but returns an error if an allocation fails.
     ///
     /// ```
     /// assert!(noddychest::TextBuffer::try_new(b"a\xFF").is_ok());
@@ -185,7 +186,7 @@ impl TextBuffer {
         all
     }
 
-    /// Puts other bytes in the place of those in the range. The answer says which pieces went and which came: a view repaints only
+    /// Replaces the bytes of the range. The result says which pieces went and which came: a view repaints only
     /// these.
     ///
     /// # Panics
@@ -202,7 +203,7 @@ impl TextBuffer {
         granted(self.try_replace(range, with))
     }
 
-    /// The same, where memory may be refused: the text is then as it was.
+    /// [`replace`](TextBuffer::replace), but returns an error if an allocation fails: the text is then as it was.
     ///
     /// # Panics
     ///
@@ -217,7 +218,7 @@ impl TextBuffer {
         self.inner.replace(range.start, range.end, with)
     }
 
-    /// Inserts bytes at the offset. The answer is as that of [`replace`](TextBuffer::replace).
+    /// Inserts bytes at the offset. The result is as that of [`replace`](TextBuffer::replace).
     ///
     /// # Panics
     ///
@@ -232,7 +233,7 @@ impl TextBuffer {
         self.replace(offset..offset, with)
     }
 
-    /// Removes the bytes of the range. The answer is as that of [`replace`](TextBuffer::replace).
+    /// Removes the bytes of the range. The result is as that of [`replace`](TextBuffer::replace).
     ///
     /// # Panics
     ///
@@ -245,6 +246,20 @@ impl TextBuffer {
     /// ```
     pub fn remove(&mut self, range: Range<usize>) -> Change {
         self.replace(range, b"")
+    }
+
+    /// Whether each byte is that of a text of as many bytes. (Their chunks may end at other offsets.)
+    fn has_bytes_of(&self, other: &TextBuffer) -> bool {
+        let mut at = 0;
+        while at < self.len() {
+            let (one, two) = (self.inner.chunk_at(at), other.inner.chunk_at(at));
+            let len = one.len().min(two.len());
+            if len == 0 || one[..len] != two[..len] {
+                return false;
+            }
+            at += len;
+        }
+        true
     }
 }
 
@@ -261,6 +276,22 @@ impl Clone for TextBuffer {
     }
 }
 
+/// Equal if the bytes are equal, whatever was edited.
+///
+/// ```
+/// use noddychest::TextBuffer;
+/// let mut text = TextBuffer::new(b"one two");
+/// text.remove(3..7);
+/// assert_eq!(text, TextBuffer::new(b"one"));
+/// ```
+impl PartialEq for TextBuffer {
+    fn eq(&self, other: &TextBuffer) -> bool {
+        self.counts() == other.counts() && self.has_bytes_of(other)
+    }
+}
+
+impl Eq for TextBuffer {}
+
 /// What it counts, without its bytes: they may be many.
 impl fmt::Debug for TextBuffer {
     fn fmt(&self, f: &mut fmt::Formatter<'_>) -> fmt::Result {
@@ -274,6 +305,7 @@ impl fmt::Debug for TextBuffer {
 /// let text = noddychest::TextBuffer::new(b"");
 /// assert_eq!(text.bytes(0..0).next(), None);
 /// ```
+#[doc(alias = "chunk")]
 #[derive(Clone, Debug)]
 #[must_use = "iterators do nothing unless consumed"]
 pub struct BufferBytes<'a> {

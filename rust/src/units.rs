@@ -21,11 +21,12 @@ use crate::Piece;
 /// let fault = units::pieces(&[0xD83D, 0x41]).find_map(|piece| piece.fault()).unwrap();
 /// assert_eq!((fault.offset(), fault.kind()), (0, FaultKind::UnmatchedLeadingSurrogate));
 /// ```
+#[doc(alias = "decode_utf16")]
 pub fn pieces(units: &[u16]) -> Pieces<'_> {
     Pieces::from(units)
 }
 
-/// The piece at the front, or `None` where there are no units.
+/// The piece at the front, or `None` if there are no units.
 ///
 /// ```
 /// let piece = noddychest::units::first(&[0xD83D, 0xDE00, 0x41]).unwrap();
@@ -36,7 +37,7 @@ pub fn first(units: &[u16]) -> Option<Piece> {
     u16::first_of(units, 0)
 }
 
-/// The piece at the end, or `None` where there are no units. At most two units are looked at.
+/// The piece at the end, or `None` if there are no units. At most two units are looked at.
 ///
 /// ```
 /// let piece = noddychest::units::last(&[0x41, 0xD83D, 0xDE00]).unwrap();
@@ -59,7 +60,8 @@ pub fn valid_up_to(units: &[u16]) -> usize {
     cuts::units_valid_up_to(units)
 }
 
-/// The invalid units alone, each as [`pieces`] gives it. What is text between them is passed as fast as it is validated.
+/// Only the invalid units, each as [`pieces`] gives it from the front. Text between them is skipped about as fast as it is validated, from
+/// either end.
 ///
 /// ```
 /// let faults = noddychest::units::faults(&[0x6F, 0xDE00, 0x6B, 0xD83D]);
@@ -69,7 +71,7 @@ pub fn faults(units: &[u16]) -> Faults<'_> {
     Faults::from(units)
 }
 
-/// How many characters there are, where each invalid unit counts as one.
+/// How many characters there are, with each invalid unit counted as one.
 ///
 /// ```
 /// assert_eq!(noddychest::units::char_count(&[0x41, 0xD83D, 0xDE00, 0xDE00]), 3);
@@ -79,7 +81,7 @@ pub fn char_count(units: &[u16]) -> usize {
     cuts::unit_char_count(units)
 }
 
-/// The offset in units of the piece with this number, counted from 0. `None` where there are no more pieces.
+/// The offset in units of the piece with this number, counted from 0. `None` if there are no more pieces.
 ///
 /// ```
 /// assert_eq!(noddychest::units::offset_of(&[0x41, 0xD83D, 0xDE00, 0xDE00], 2), Some(3));
@@ -89,7 +91,7 @@ pub fn offset_of(units: &[u16], number: usize) -> Option<usize> {
     cuts::unit_offset_of(units, number)
 }
 
-/// How many pieces begin before this offset in units: where one begins at it, its number, counted from 0. All of them, where the
+/// How many pieces begin before this offset in units: if one begins at it, its number, counted from 0. All of them, if the
 /// offset is the length or more.
 ///
 /// ```
@@ -121,7 +123,7 @@ pub fn boundary_after(units: &[u16], at: usize) -> usize {
     cuts::unit_boundary_after(units, at)
 }
 
-/// The pieces of some units, from the front and from the back. [`pieces`] makes it.
+/// The pieces of some units, from the front and from the end. [`pieces`] makes it.
 ///
 /// ```
 /// let mut pieces = noddychest::units::pieces(&[0x41, 0xD83D, 0xDE00]);
@@ -131,7 +133,7 @@ pub fn boundary_after(units: &[u16], at: usize) -> usize {
 /// ```
 pub type Pieces<'a> = crate::Pieces<'a, u16>;
 
-/// The invalid units of some units, from the front. [`faults`] makes it.
+/// The invalid units of some units, from the front and from the end. [`faults`] makes it.
 ///
 /// ```
 /// let mut faults = noddychest::units::faults(&[0x6F, 0xDE00, 0x6B]);
@@ -146,17 +148,21 @@ impl Element for u16 {
     #[inline(always)]
     fn first_of(left: &[u16], offset: usize) -> Option<Piece> {
         let (_, result, len) = Utf16CharDecoder::from(left).next()?;
-        Some(Piece::new(offset, len, result))
+        Some(Piece::of(offset, len, result))
     }
 
     #[inline(always)]
     fn last_of(left: &[u16], offset: usize) -> Option<Piece> {
         let (at, result, len) = Utf16CharDecoder::from(left).next_back()?;
-        Some(Piece::new(offset + at, len, result))
+        Some(Piece::of(offset + at, len, result))
     }
 
     #[inline(always)]
     fn valid_up_to(left: &[u16]) -> usize {
         cuts::units_valid_up_to(left)
+    }
+
+    fn boundary_before(left: &[u16], at: usize) -> usize {
+        cuts::unit_boundary_before(left, at)
     }
 }

@@ -2,7 +2,7 @@
 #![cfg(feature = "std")]
 
 use noddychest::io::RecodingWriter;
-use noddychest::{Form, Recoder};
+use noddychest::{Encoding, Recoder};
 use std::cell::RefCell;
 use std::io::{self, Write};
 use std::panic::{catch_unwind, AssertUnwindSafe};
@@ -35,26 +35,26 @@ fn of(shared: &Shared, recoder: Recoder) -> RecodingWriter<Shared> {
 #[test]
 fn writes_what_it_has() {
     let shared = Shared::default();
-    of(&shared, Recoder::new(Form::Utf8, Form::Utf8)).write_all(b"caf\xC3").unwrap();
+    of(&shared, Recoder::new(Encoding::Utf8, Encoding::Utf8)).write_all(b"caf\xC3").unwrap();
     assert_eq!(*shared.written.borrow(), "caf\u{FFFD}".as_bytes());
 }
 
 #[test]
 fn a_strict_one_writes_what_stands_before_the_fault() {
     let shared = Shared::default();
-    of(&shared, Recoder::strict(Form::Utf8, Form::Utf16Be)).write_all(b"ok\xE2\x82").unwrap();
+    of(&shared, Recoder::strict(Encoding::Utf8, Encoding::Utf16Be)).write_all(b"ok\xE2\x82").unwrap();
     assert_eq!(*shared.written.borrow(), b"\0o\0k");
 }
 
 #[test]
 fn one_that_is_finished_or_taken_writes_no_more() {
     let shared = Shared::default();
-    let mut writer = of(&shared, Recoder::new(Form::Utf8, Form::Utf8));
+    let mut writer = of(&shared, Recoder::new(Encoding::Utf8, Encoding::Utf8));
     writer.write_all(b"a").unwrap();
     writer.finish().unwrap();
     drop(writer);
     assert_eq!((*shared.written.borrow()).clone(), b"a");
-    let mut writer = of(&shared, Recoder::new(Form::Utf8, Form::Utf8));
+    let mut writer = of(&shared, Recoder::new(Encoding::Utf8, Encoding::Utf8));
     writer.write_all(b"b").unwrap();
     drop(writer.into_inner());
     assert_eq!((*shared.written.borrow()).clone(), b"a");
@@ -63,7 +63,7 @@ fn one_that_is_finished_or_taken_writes_no_more() {
 #[test]
 fn a_writer_that_panics_is_not_called_again() {
     let shared = Shared { panics: true, ..Shared::default() };
-    let mut writer = of(&shared, Recoder::new(Form::Utf8, Form::Utf8));
+    let mut writer = of(&shared, Recoder::new(Encoding::Utf8, Encoding::Utf8));
     writer.write_all(b"a").unwrap();
     assert!(catch_unwind(AssertUnwindSafe(|| writer.finish())).is_err());
     drop(writer);

@@ -1,6 +1,6 @@
-//! The names, numbers and version of the crate beside those of `c/noddychest.h`, where that is: in the repository.
+//! The names, numbers and version of the crate compared with those of `c/noddychest.h`, if that is: in the repository.
 
-use noddychest::{FaultKind, Form};
+use noddychest::{Encoding, FaultKind};
 
 /// The header, or nothing in the package.
 fn header() -> String {
@@ -32,17 +32,17 @@ fn says(header: &str, name: &str, number: u8) {
 #[test]
 fn numbers_are_those_of_the_header() {
     let header = header();
-    for kind in FaultKind::ALL {
+    for &kind in FaultKind::ALL {
         says(&header, &format!("NODY_KIND_{}", of_header(kind.name())), kind as u8);
     }
-    for form in Form::ALL {
-        says(&header, &format!("NODY_FORM_{}", form.name().to_uppercase()), form as u8);
+    for &encoding in Encoding::ALL {
+        says(&header, &format!("NODY_{}", encoding.name().to_uppercase()), encoding as u8);
     }
 }
 
 #[test]
 fn names_are_those_of_the_kinds() {
-    for kind in FaultKind::ALL {
+    for &kind in FaultKind::ALL {
         assert_eq!(kind.name(), format!("{kind:?}"));
     }
 }

@@ -1,10 +1,10 @@
-//! Sources that keep no law of their traits: the answers may be any, and each call ends without harm. With debug assertions the trusted
-//! mode tests what it takes as proved.
+//! Sources that break the laws of their traits: the results may be any, and each call returns without harm. With debug assertions the
+//! trusted mode tests what it takes as proved.
 mod common;
 
 use common::Chance;
 use noddychest::encode_unicode::{CharExt, IterExt, Utf16Char, Utf8Char};
-use noddychest::{Form, PieceTable, Recoder, Status};
+use noddychest::{Encoding, PieceTable, Recoder, Status};
 use std::borrow::Borrow;
 use std::cell::Cell;
 use std::panic::{catch_unwind, AssertUnwindSafe};
@@ -137,14 +137,14 @@ fn calls_out_of_bounds_panic() {
     let _ = std::panic::take_hook();
 }
 
-/// Recoding into room of each size, also none.
+/// Transcoding into room of each size, also none.
 #[test]
 fn rooms_of_all_sizes() {
     let mut chance = Chance(9);
     for _ in 0..200 {
         let text = chance.bytes(40);
         for room in 0..12 {
-            let mut recoder = Recoder::new(Form::Utf8, Form::Utf16Le);
+            let mut recoder = Recoder::new(Encoding::Utf8, Encoding::Utf16Le);
             let (mut out, mut rest) = (vec![0; room], &text[..]);
             for _ in 0..200 {
                 let did = recoder.feed(rest, &mut out);

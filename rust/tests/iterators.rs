@@ -1,10 +1,10 @@
-//! Each iterator beside a list of what it gives: asked from both ends by turns, by all that skips, and for its bounds.
+//! Each iterator compared with a list of what it gives: asked from both ends by turns, by all that skips, and for its bounds.
 
 mod common;
 
-use common::Chance;
+use common::{long_text_of, of_utf8, Chance, End};
 use noddychest::encode_unicode::{CharExt, IterExt, SliceExt, StrExt};
-use noddychest::{parts, pieces, units, PieceTable};
+use noddychest::{faults, parts, pieces, units, Encoding, Fault, PieceTable};
 use std::fmt::Debug;
 
 /// The number of what is left is within the bounds.
@@ -13,7 +13,7 @@ fn bounds(it: &impl Iterator, left: usize) {
     assert!(least <= left && most.map_or(true, |most| left <= most), "{left} are left, and not {least} to {most:?}");
 }
 
-/// Finds the item after so many.
+/// Finds the item after `n` others.
 fn after<T>(mut n: usize) -> impl FnMut(&T) -> bool {
     move |_| n.checked_sub(1).map(|less| n = less).is_none()
 }
@@ -61,13 +61,90 @@ fn one_end<I: Iterator>(mut it: I) {
     }
 }
 
+/// Faults of long inputs from both ends, in any order: each comes once, is what it is from the front, and what is left lies between the two
+/// that came last.
+fn faults_by_turns<T: Copy>(bytes: &[T], all: &[Fault], mut it: impl DoubleEndedIterator<Item = Fault>, chance: &mut Chance) {
+    let mut list = all.iter().copied();
+    let odds = 1 + chance.below(9);
+    loop {
+        let is_front = chance.below(10) < odds;
+        let (is, want) = if is_front { (it.next(), list.next()) } else { (it.next_back(), list.next_back()) };
+        assert_eq!(is, want, "of {} bytes, {list:?} left", bytes.len());
+        if want.is_none() {
+            break;
+        }
+    }
+    assert!(it.next().is_none() && it.next_back().is_none());
+}
+
+#[test]
+fn faults_come_once_from_both_ends() {
+    let mut chance = Chance(77);
+    for round in 0..200 {
+        let len = [10, 100, 600, 3_000, 20_000][round % 5];
+        let bytes = long_text_of(Encoding::Utf8, &mut chance, len);
+        let kinds =
+            of_utf8(&bytes, End::OfSlice).into_iter().filter_map(|(at, _, it)| it.err().map(|kind| Fault::new(at, 1, kind)));
+        let all: Vec<Fault> = kinds.collect();
+        assert!(faults(&bytes).eq(all.iter().copied()));
+        assert!(faults(&bytes).rev().eq(all.iter().rev().copied()));
+        faults_by_turns(&bytes, &all, faults(&bytes), &mut chance);
+        let units: Vec<u16> = long_text_of(Encoding::Utf16Le, &mut chance, len)
+            .chunks_exact(2)
+            .map(|it| u16::from_le_bytes([it[0], it[1]]))
+            .collect();
+        let all: Vec<Fault> = units::pieces(&units).filter_map(|piece| piece.fault()).collect();
+        assert!(units::faults(&units).rev().eq(all.iter().rev().copied()));
+        faults_by_turns(&units, &all, units::faults(&units), &mut chance);
+    }
+}
+
+/// All that the order of calls can be, over short inputs of the bytes that depend on one another; and what is left after each.
+#[test]
+fn faults_in_each_order() {
+    const BYTES: [u8; 8] = [b'A', 0x80, 0xBF, 0xC3, 0xE0, 0xED, 0xF0, 0xFF];
+    for number in 0..8_usize.pow(4) {
+        let bytes: Vec<u8> = (0..4).map(|k| BYTES[number >> (3 * k) & 7]).collect();
+        let all: Vec<Fault> = pieces(&bytes).filter_map(|piece| piece.fault()).collect();
+        for order in 0..1_usize << all.len() {
+            let (mut it, mut front, mut back) = (faults(&bytes), 0, all.len());
+            for k in 0..all.len() {
+                if order >> k & 1 == 0 {
+                    assert_eq!(it.next(), Some(all[front]));
+                    front += 1;
+                } else {
+                    back -= 1;
+                    assert_eq!(it.next_back(), Some(all[back]));
+                }
+                let begin = front.checked_sub(1).map_or(0, |it| all[it].range().end);
+                let end = all.get(back).map_or(bytes.len(), |it| it.offset());
+                assert_eq!((it.offset(), it.as_slice()), (begin, &bytes[begin..end]));
+            }
+            assert_eq!((it.next_back(), it.next()), (None, None));
+        }
+    }
+}
+
+/// What is text at the end is passed in blocks: no call goes over all of it again.
+#[test]
+fn faults_from_the_back_are_not_quadratic() {
+    let mut bytes = "text".repeat(500_000).into_bytes();
+    bytes[0] = 0xFF;
+    assert_eq!(faults(&bytes).next_back().map(|it| it.offset()), Some(0));
+    let bytes = b"a\xFF".repeat(300_000);
+    assert_eq!(faults(&bytes).rev().count(), 300_000);
+    let mut it = faults(&bytes);
+    while it.next().and_then(|_| it.next_back()).is_some() {}
+    assert!(it.as_slice().is_empty());
+}
+
 #[test]
 fn iterators_are_lists_of_their_items() {
     let mut chance = Chance(21);
     for seed in 0..3_000 {
         let (bytes, of_units) = (chance.bytes(24), chance.units(12));
         let text = String::from_utf8_lossy(&bytes).into_owned();
-        // (why a byte is invalid is judged by what is left)
+        // (why a byte is invalid depends on what is left)
         both_ends(pieces(&bytes).map(|it| (it.range(), it.char())), seed);
         both_ends(units::pieces(&of_units).map(|it| (it.range(), it.char())), seed);
         both_ends(bytes.utf8char_indices().map(|(at, it, len)| (at, it.ok(), len)), seed);
@@ -79,8 +156,9 @@ fn iterators_are_lists_of_their_items() {
         both_ends(PieceTable::new(&bytes).pieces(), seed);
         both_ends(parts::split_ascii(&bytes, b'A').map(|it| (it.start(), it.as_bytes())), seed);
         both_ends(parts::lines(&bytes).map(|it| (it.start(), it.as_bytes())), seed);
-        one_end(noddychest::faults(&bytes));
-        one_end(units::faults(&of_units));
+        // (and of these by all: each is whole what it is from the front)
+        both_ends(noddychest::faults(&bytes), seed);
+        both_ends(units::faults(&of_units), seed);
         one_end(bytes.iter().to_utf8chars());
         one_end(of_units.iter().to_utf16chars());
         one_end(text.utf8chars().to_bytes());

@@ -1,20 +1,20 @@
-//! Several threads over texts of several shards, beside what std makes of the whole.
+//! Several threads over texts of several shards, compared with what std makes of the whole.
 
 mod common;
 
-use common::{encoded, long_text_of, of_form, Chance, End};
-use noddychest::{parallel, recode, Form};
+use common::{encoded, long_text_of, of_encoding, Chance, End};
+use noddychest::{parallel, recode, Encoding};
 use std::num::NonZeroUsize;
 
 #[test]
 fn long_texts_are_recoded_and_checked() {
     let mut chance = Chance(18);
-    for from in Form::ALL {
+    for &from in Encoding::ALL {
         let bytes = long_text_of(from, &mut chance, 400_000);
-        let told = of_form(from, &bytes, End::OfSlice);
+        let told = of_encoding(from, &bytes, End::OfSlice);
         for jobs in [2, 5] {
             let jobs = NonZeroUsize::new(jobs);
-            for to in Form::ALL {
+            for &to in Encoding::ALL {
                 let want = encoded(to, told.iter().map(|it| it.2.unwrap_or('\u{FFFD}')));
                 assert!(parallel::recode(from, to, &bytes, jobs) == want, "{from} {to} {jobs:?}");
             }
@@ -29,9 +29,9 @@ fn long_texts_are_recoded_and_checked() {
 fn nothing_and_little() {
     for bytes in [&b""[..], b"\xFF", b"a", b"\xE2\x82"] {
         for jobs in [None, NonZeroUsize::new(1), NonZeroUsize::new(99)] {
-            let made = parallel::recode(Form::Utf8, Form::Utf16Le, bytes, jobs);
-            assert_eq!(made, recode(Form::Utf8, Form::Utf16Le, bytes));
-            assert_eq!(parallel::check(Form::Utf8, bytes, jobs), noddychest::faults(bytes).collect::<Vec<_>>());
+            let made = parallel::recode(Encoding::Utf8, Encoding::Utf16Le, bytes, jobs);
+            assert_eq!(made, recode(Encoding::Utf8, Encoding::Utf16Le, bytes));
+            assert_eq!(parallel::check(Encoding::Utf8, bytes, jobs), noddychest::faults(bytes).collect::<Vec<_>>());
         }
     }
 }
@@ -40,6 +40,6 @@ fn nothing_and_little() {
 #[test]
 fn no_room_is_kept() {
     let text = "a".repeat(1_000_000);
-    let made = parallel::recode(Form::Utf8, Form::Utf8, text.as_bytes(), None);
+    let made = parallel::recode(Encoding::Utf8, Encoding::Utf8, text.as_bytes(), None);
     assert!(made == text.as_bytes() && made.capacity() < 1_100_000, "{}", made.capacity());
 }

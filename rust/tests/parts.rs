@@ -1,9 +1,9 @@
-//! A decoder in parts, and the pieces of a reader, beside what std and the table of errors say of the whole.
+//! A decoder in parts, and the pieces of a reader, compared with what std and the table of errors say of the whole.
 
 mod common;
 
-use common::{long_text_of, of_form, text_of, Chance, End, Told};
-use noddychest::{io, Decoder, FaultKind, Form, Piece, Status};
+use common::{long_text_of, of_encoding, text_of, Chance, End, Told};
+use noddychest::{io, Decoder, Encoding, FaultKind, Piece, Status};
 use std::io::{BufRead, BufReader, Error, ErrorKind, Read, Result};
 
 fn seen(piece: Piece<u64>) -> Told {
@@ -14,9 +14,9 @@ fn seen(piece: Piece<u64>) -> Told {
     (piece.offset as usize, piece.len, piece.result.map_err(|fault| fault.kind()))
 }
 
-/// What stands in a room that was not written.
+/// The content of an output buffer before it is written.
 fn blank() -> Piece<u64> {
-    Piece { offset: 77, ..Piece::default() }
+    Piece::new(77, 1, Ok('\0'))
 }
 
 /// Feeds the parts into rooms of the sizes that `room` gives. Of what is held nothing is decided, and all else was given.
@@ -54,7 +54,7 @@ fn decoded_in_parts(mut decoder: Decoder, parts: &[&[u8]], mut room: impl FnMut(
     out
 }
 
-/// The same of the invalid bytes alone. A decoder that is fed for all pieces goes beside it, and holds the same after each part.
+/// The invalid bytes of the parts. A second decoder that is fed for all pieces has the same carried-over bytes after each part.
 fn faults_in_parts(mut decoder: Decoder, parts: &[&[u8]], mut room: impl FnMut() -> usize) -> Vec<Told> {
     let (mut out, mut beside) = (Vec::new(), decoder.clone());
     for part in parts {
@@ -86,16 +86,16 @@ fn faults_in_parts(mut decoder: Decoder, parts: &[&[u8]], mut room: impl FnMut()
 fn random_texts_in_random_parts() {
     let mut chance = Chance(11);
     for _ in 0..20_000 {
-        for form in Form::ALL {
-            let bytes = text_of(form, &mut chance, 16);
-            let want = of_form(form, &bytes, End::OfParts);
+        for &encoding in Encoding::ALL {
+            let bytes = text_of(encoding, &mut chance, 16);
+            let want = of_encoding(encoding, &bytes, End::OfParts);
             let first = chance.below(bytes.len() + 1);
             let second = first + chance.below(bytes.len() - first + 1);
             let parts = [&bytes[..first], &bytes[first..second], &bytes[second..]];
             let most = 2 + chance.below(20);
-            assert_eq!(decoded_in_parts(Decoder::new(form), &parts, || chance.below(most)), want, "{form} {parts:x?}");
+            assert_eq!(decoded_in_parts(Decoder::new(encoding), &parts, || chance.below(most)), want, "{encoding} {parts:x?}");
             let faults: Vec<Told> = want.into_iter().filter(|it| it.2.is_err()).collect();
-            assert_eq!(faults_in_parts(Decoder::new(form), &parts, || chance.below(most)), faults, "{form} {parts:x?}");
+            assert_eq!(faults_in_parts(Decoder::new(encoding), &parts, || chance.below(most)), faults, "{encoding} {parts:x?}");
         }
     }
 }
@@ -104,14 +104,14 @@ fn random_texts_in_random_parts() {
 fn every_cut_of_short_texts() {
     let mut chance = Chance(12);
     for _ in 0..300 {
-        for form in Form::ALL {
-            let bytes = text_of(form, &mut chance, 8);
-            let want = of_form(form, &bytes, End::OfParts);
+        for &encoding in Encoding::ALL {
+            let bytes = text_of(encoding, &mut chance, 8);
+            let want = of_encoding(encoding, &bytes, End::OfParts);
             for first in 0..=bytes.len() {
                 for second in first..=bytes.len() {
                     for room in [1, 2, 5, 64] {
                         let parts = [&bytes[..first], &bytes[first..second], &bytes[second..]];
-                        assert_eq!(decoded_in_parts(Decoder::new(form), &parts, || room), want, "{form} {parts:x?}");
+                        assert_eq!(decoded_in_parts(Decoder::new(encoding), &parts, || room), want, "{encoding} {parts:x?}");
                     }
                 }
             }
@@ -119,16 +119,16 @@ fn every_cut_of_short_texts() {
     }
 }
 
-/// More pieces than a decoder asks of the proved text at once, in rooms of about as many.
+/// More pieces than a decoder asks of the proved text in one call, in output buffers of about as many.
 #[test]
 fn long_texts_in_large_rooms() {
     let mut chance = Chance(13);
-    for form in Form::ALL {
-        let bytes = long_text_of(form, &mut chance, 20_000);
-        let want = of_form(form, &bytes, End::OfParts);
+    for &encoding in Encoding::ALL {
+        let bytes = long_text_of(encoding, &mut chance, 20_000);
+        let want = of_encoding(encoding, &bytes, End::OfParts);
         for room in [31, 32, 33, 64, 65, 100_000] {
             let parts: Vec<&[u8]> = bytes.chunks(1 + chance.below(5_000)).collect();
-            assert!(decoded_in_parts(Decoder::new(form), &parts, || room) == want, "{form} {room}");
+            assert!(decoded_in_parts(Decoder::new(encoding), &parts, || room) == want, "{encoding} {room}");
         }
     }
 }
@@ -141,13 +141,13 @@ fn byte_by_byte_as_a_merger() {
         let parts: Vec<&[u8]> = bytes.chunks(1).collect();
         let merged = noddychest::pieces(&bytes).map(|it| noddychest::streamed_at(&bytes, it.offset).expect("a piece"));
         let merged = merged.map(|it| (it.offset, it.len, it.result.map_err(|fault| fault.kind())));
-        assert!(decoded_in_parts(Decoder::new(Form::Utf8), &parts, || 2).into_iter().eq(merged), "{bytes:x?}");
+        assert!(decoded_in_parts(Decoder::new(Encoding::Utf8), &parts, || 2).into_iter().eq(merged), "{bytes:x?}");
     }
 }
 
 /// What a decoder holds that was fed the bytes.
-fn held_of(form: Form, bytes: &[u8]) -> usize {
-    let mut decoder = Decoder::new(form);
+fn held_of(encoding: Encoding, bytes: &[u8]) -> usize {
+    let mut decoder = Decoder::new(encoding);
     let did = decoder.feed(bytes, &mut vec![blank(); bytes.len()]);
     assert_eq!((did.read, did.status), (bytes.len(), Status::Done));
     decoder.held().len()
@@ -157,15 +157,15 @@ fn held_of(form: Form, bytes: &[u8]) -> usize {
 fn what_is_undecided_is_what_a_decoder_holds() {
     let mut chance = Chance(15);
     for _ in 0..20_000 {
-        for form in Form::ALL {
-            let bytes = text_of(form, &mut chance, 10);
+        for &encoding in Encoding::ALL {
+            let bytes = text_of(encoding, &mut chance, 10);
             for block in (0..=bytes.len()).map(|len| &bytes[..len]) {
-                assert_eq!(noddychest::undecided_len(form, block), held_of(form, block), "{form} {block:x?}");
+                assert_eq!(noddychest::undecided_len(encoding, block), held_of(encoding, block), "{encoding} {block:x?}");
             }
         }
     }
     let long = [&b"a".repeat(100_000)[..], b"\xF0\x9F\x98"].concat();
-    assert_eq!(noddychest::undecided_len(Form::Utf8, &long), 3);
+    assert_eq!(noddychest::undecided_len(Encoding::Utf8, &long), 3);
 }
 
 /// A block without its undecided end has the pieces that the whole has there, whatever the rest is.
@@ -173,14 +173,14 @@ fn what_is_undecided_is_what_a_decoder_holds() {
 fn what_is_decided_stays() {
     let mut chance = Chance(16);
     for _ in 0..2_000 {
-        for form in Form::ALL {
-            let bytes = text_of(form, &mut chance, 10);
-            let want = of_form(form, &bytes, End::OfParts);
+        for &encoding in Encoding::ALL {
+            let bytes = text_of(encoding, &mut chance, 10);
+            let want = of_encoding(encoding, &bytes, End::OfParts);
             for len in 0..=bytes.len() {
-                let whole = len - noddychest::undecided_len(form, &bytes[..len]);
-                let mut have = of_form(form, &bytes[..len], End::OfParts);
+                let whole = len - noddychest::undecided_len(encoding, &bytes[..len]);
+                let mut have = of_encoding(encoding, &bytes[..len], End::OfParts);
                 have.retain(|it| it.0 < whole);
-                assert_eq!(have, want[..have.len()], "{form} {len} {bytes:x?}");
+                assert_eq!(have, want[..have.len()], "{encoding} {len} {bytes:x?}");
                 assert_eq!(have.last().map_or(0, |it| it.0 + it.1), whole);
             }
         }
@@ -189,7 +189,7 @@ fn what_is_decided_stays() {
 
 #[test]
 fn rooms_without_a_place() {
-    let mut decoder = Decoder::new(Form::Utf8);
+    let mut decoder = Decoder::new(Encoding::Utf8);
     assert_eq!(decoder.feed(b"", &mut []).status, Status::Done);
     let did = decoder.feed(b"\xE2", &mut []);
     assert_eq!((did.read, did.status, decoder.held()), (1, Status::Done, &b"\xE2"[..]));
@@ -203,7 +203,7 @@ fn rooms_without_a_place() {
 
 #[test]
 fn clones_go_on_by_themselves() {
-    let mut decoder = Decoder::new(Form::Utf16Le);
+    let mut decoder = Decoder::new(Encoding::Utf16Le);
     let mut room = [blank(); 4];
     assert_eq!(decoder.feed(b"a\0\x3D\xD8\0", &mut room).written, 1);
     let mut other = decoder.clone();
@@ -211,7 +211,7 @@ fn clones_go_on_by_themselves() {
     assert_eq!(seen(room[0]), (2, 4, Ok('😀')));
     assert_eq!(other.finish(&mut room).written, 2);
     assert_eq!([seen(room[0]), seen(room[1])], [(2, 2, Err(FaultKind::Incomplete)), (4, 1, Err(FaultKind::Incomplete))]);
-    assert_eq!((decoder.form(), decoder.offset(), other.offset()), (Form::Utf16Le, 6, 5));
+    assert_eq!((decoder.encoding(), decoder.offset(), other.offset()), (Encoding::Utf16Le, 6, 5));
 }
 
 /// Lends some bytes at a time, takes some of them, and fails now and then. It never lends again what was taken.
@@ -259,27 +259,27 @@ fn all<T>(mut items: impl Iterator<Item = Result<T>>) -> Vec<T> {
     out
 }
 
-fn hold_reader(form: Form, bytes: &[u8], seed: u64) {
-    let want = of_form(form, bytes, End::OfParts);
+fn hold_reader(encoding: Encoding, bytes: &[u8], seed: u64) {
+    let want = of_encoding(encoding, bytes, End::OfParts);
     let reader = || Halting { chance: Chance(seed), bytes: bytes.to_vec(), place: 0, lent: 0 };
-    assert!(all(io::pieces(reader(), form)).into_iter().map(seen).eq(want.iter().copied()), "{form} {bytes:x?}");
-    let faults = all(io::faults(reader(), form)).into_iter().map(|it| (it.range(), it.kind()));
+    assert!(all(io::pieces(reader(), encoding)).into_iter().map(seen).eq(want.iter().copied()), "{encoding} {bytes:x?}");
+    let faults = all(io::faults(reader(), encoding)).into_iter().map(|it| (it.range(), it.kind()));
     let want = want.into_iter().filter_map(|(at, len, answer)| Some((at as u64..(at + len) as u64, answer.err()?)));
-    assert!(faults.eq(want), "{form} {bytes:x?}");
+    assert!(faults.eq(want), "{encoding} {bytes:x?}");
 }
 
 #[test]
 fn readers_that_halt() {
     let mut chance = Chance(15);
     for seed in 0..6_000 {
-        for form in Form::ALL {
-            let bytes = text_of(form, &mut chance, 40);
-            hold_reader(form, &bytes, seed);
+        for &encoding in Encoding::ALL {
+            let bytes = text_of(encoding, &mut chance, 40);
+            hold_reader(encoding, &bytes, seed);
         }
     }
     for seed in 0..60 {
-        for form in Form::ALL {
-            hold_reader(form, &long_text_of(form, &mut chance, 3_000), seed);
+        for &encoding in Encoding::ALL {
+            hold_reader(encoding, &long_text_of(encoding, &mut chance, 3_000), seed);
         }
     }
 }
@@ -287,14 +287,14 @@ fn readers_that_halt() {
 #[test]
 fn readers_of_small_buffers() {
     let mut chance = Chance(16);
-    for form in Form::ALL {
-        let bytes = long_text_of(form, &mut chance, 3_000);
-        let want = of_form(form, &bytes, End::OfParts);
+    for &encoding in Encoding::ALL {
+        let bytes = long_text_of(encoding, &mut chance, 3_000);
+        let want = of_encoding(encoding, &bytes, End::OfParts);
         for capacity in [1, 2, 3, 7, 64, 4096] {
-            let pieces = all(io::pieces(BufReader::with_capacity(capacity, &bytes[..]), form));
-            assert!(pieces.into_iter().map(seen).eq(want.iter().copied()), "{form} {capacity}");
-            let faults = all(io::faults(BufReader::with_capacity(capacity, &bytes[..]), form)).len();
-            assert_eq!(faults, want.iter().filter(|it| it.2.is_err()).count(), "{form} {capacity}");
+            let pieces = all(io::pieces(BufReader::with_capacity(capacity, &bytes[..]), encoding));
+            assert!(pieces.into_iter().map(seen).eq(want.iter().copied()), "{encoding} {capacity}");
+            let faults = all(io::faults(BufReader::with_capacity(capacity, &bytes[..]), encoding)).len();
+            assert_eq!(faults, want.iter().filter(|it| it.2.is_err()).count(), "{encoding} {capacity}");
         }
     }
 }
@@ -323,18 +323,18 @@ impl Read for Failing<'_> {
 
 #[test]
 fn errors_come_after_what_was_read() {
-    let mut pieces = io::pieces(Failing(b"a\xC3"), Form::Utf8);
+    let mut pieces = io::pieces(Failing(b"a\xC3"), Encoding::Utf8);
     assert_eq!(pieces.next().expect("a piece").expect("no error").char(), Some('a'));
     for _ in 0..3 {
         assert_eq!(pieces.next().expect("an error").expect_err("no piece").to_string(), "the disk is gone");
     }
-    let mut faults = io::faults(Failing(b"a\xFFb"), Form::Utf8);
+    let mut faults = io::faults(Failing(b"a\xFFb"), Encoding::Utf8);
     assert_eq!(faults.next().expect("a fault").expect("no error").offset(), 1);
     assert!(faults.next().expect("an error").is_err());
     assert!(faults.into_inner().0.is_empty());
 }
 
-/// Lends the same bytes so many times.
+/// Lends the same bytes `times` times.
 struct Again<'a> {
     bytes: &'a [u8],
     place: usize,
@@ -360,7 +360,7 @@ impl Read for Again<'_> {
     }
 }
 
-/// Offsets go on past what 32 bits can count. (It goes over 5 GB, which takes long where nothing is optimized.)
+/// Offsets go on past what 32 bits can count. (It goes over 5 GB, which takes long if nothing is optimized.)
 #[test]
 fn offsets_past_32_bits() {
     if cfg!(debug_assertions) {
@@ -369,11 +369,11 @@ fn offsets_past_32_bits() {
     const LEN: usize = 1 << 20;
     let mut bytes = vec![b'a'; LEN];
     bytes[LEN - 1] = 0xFF;
-    let faults = io::faults(Again { bytes: &bytes, place: LEN, times: 5_000 }, Form::Utf8);
+    let faults = io::faults(Again { bytes: &bytes, place: LEN, times: 5_000 }, Encoding::Utf8);
     let offsets = faults.map(|it| it.expect("no error").offset());
     assert!(offsets.eq((1..=5_000).map(|k| k * LEN as u64 - 1)));
     let text = "😀".repeat(LEN / 4);
-    let (mut decoder, mut room) = (Decoder::new(Form::Utf8), vec![blank(); LEN / 4]);
+    let (mut decoder, mut room) = (Decoder::new(Encoding::Utf8), vec![blank(); LEN / 4]);
     for _ in 0..4_097 {
         assert_eq!(decoder.feed(text.as_bytes(), &mut room).written, LEN / 4);
     }

@@ -1,25 +1,25 @@
-//! Recoding, beside what std makes of the text, in every cut and every room.
+//! Transcoding, compared with what std makes of the text, in every cut and every room.
 
 mod common;
 
-use common::{encoded, long_text_of, of_form, of_hex, rows, text_of, Chance, End};
+use common::{encoded, long_text_of, of_encoding, of_hex, rows, text_of, Chance, End};
 use noddychest::{
     changed_range, decode, decode_lossy, decode_strict, recode, recode_lossy, recode_strict, recoded_len, recoded_len_max,
     shard_end,
 };
-use noddychest::{Fault, FaultKind, Form, Recoder, Status};
+use noddychest::{Encoding, Fault, FaultKind, Recoder, Status};
 
 /// The characters and faults of the text, with how many bytes each has.
-fn decoded(form: Form, bytes: &[u8]) -> Vec<(usize, Result<char, FaultKind>)> {
-    of_form(form, bytes, End::OfSlice).into_iter().map(|(_, len, answer)| (len, answer)).collect()
+fn decoded(encoding: Encoding, bytes: &[u8]) -> Vec<(usize, Result<char, FaultKind>)> {
+    of_encoding(encoding, bytes, End::OfSlice).into_iter().map(|(_, len, answer)| (len, answer)).collect()
 }
 
 /// What std makes of it, with U+FFFD for each fault.
-fn replaced(from: Form, to: Form, bytes: &[u8]) -> Vec<u8> {
+fn replaced(from: Encoding, to: Encoding, bytes: &[u8]) -> Vec<u8> {
     encoded(to, decoded(from, bytes).into_iter().map(|it| it.1.unwrap_or('\u{FFFD}')))
 }
 
-fn faults(from: Form, bytes: &[u8]) -> Vec<(usize, usize, FaultKind)> {
+fn faults(from: Encoding, bytes: &[u8]) -> Vec<(usize, usize, FaultKind)> {
     let mut offset = 0;
     let places = decoded(from, bytes).into_iter().map(|(len, answer)| {
         offset += len;
@@ -28,8 +28,8 @@ fn faults(from: Form, bytes: &[u8]) -> Vec<(usize, usize, FaultKind)> {
     places.filter_map(|(at, len, answer)| answer.err().map(|kind| (at, len, kind))).collect()
 }
 
-fn pairs() -> impl Iterator<Item = (Form, Form)> {
-    Form::ALL.into_iter().flat_map(|from| Form::ALL.into_iter().map(move |to| (from, to)))
+fn pairs() -> impl Iterator<Item = (Encoding, Encoding)> {
+    Encoding::ALL.iter().flat_map(|from| Encoding::ALL.iter().map(move |to| (*from, *to)))
 }
 
 /// How many places before a room and after it have to stay as they were.
@@ -75,18 +75,18 @@ fn recoded_in_parts(mut recoder: Recoder, parts: &[&[u8]], mut room: impl FnMut(
 
 /// What std makes of it, with U+FFFD for each maximal subpart. Of UTF-16 that is a surrogate, half a unit, or both where they end the
 /// text.
-fn replaced_lossily(from: Form, to: Form, bytes: &[u8]) -> Vec<u8> {
-    if from == Form::Utf8 {
+fn replaced_lossily(from: Encoding, to: Encoding, bytes: &[u8]) -> Vec<u8> {
+    if from == Encoding::Utf8 {
         return encoded(to, String::from_utf8_lossy(bytes).chars());
     }
-    let mut told = of_form(from, bytes, End::OfSlice);
+    let mut told = of_encoding(from, bytes, End::OfSlice);
     if let [.., (_, 2, Err(FaultKind::Incomplete)), _] = told[..] {
         told.pop();
     }
     encoded(to, told.into_iter().map(|it| it.2.unwrap_or('\u{FFFD}')))
 }
 
-/// Feeds the parts into a vector, and into a string where that is UTF-8.
+/// Feeds the parts into a vector, and into a string if that is UTF-8.
 fn appended_in_parts(recoder: &Recoder, parts: &[&[u8]]) -> Vec<u8> {
     let (mut recoder, mut other) = (recoder.clone(), recoder.clone());
     let (mut out, mut text) = (vec![1, 2], String::from("\u{1}\u{2}"));
@@ -94,13 +94,13 @@ fn appended_in_parts(recoder: &Recoder, parts: &[&[u8]]) -> Vec<u8> {
         let had = out.len();
         let did = recoder.feed_to_vec(part, &mut out);
         assert_eq!((did.read, had + did.written, did.status), (part.len(), out.len(), Status::Done));
-        if other.to() == Form::Utf8 {
+        if other.to() == Encoding::Utf8 {
             assert_eq!(other.feed_to_string(part, &mut text), did);
         }
     }
     let did = recoder.finish_to_vec(&mut out);
     assert_eq!((did.read, did.status, recoder.held()), (0, Status::Done, &[][..]));
-    if other.to() == Form::Utf8 {
+    if other.to() == Encoding::Utf8 {
         assert_eq!(other.finish_to_string(&mut text), did);
         assert_eq!(text.as_bytes(), out);
     }
@@ -108,7 +108,7 @@ fn appended_in_parts(recoder: &Recoder, parts: &[&[u8]]) -> Vec<u8> {
     out.split_off(2)
 }
 
-fn hold_text(from: Form, to: Form, bytes: &[u8], chance: &mut Chance) {
+fn hold_text(from: Encoding, to: Encoding, bytes: &[u8], chance: &mut Chance) {
     let whole = replaced(from, to, bytes);
     let valid: Vec<u8> = encoded(to, decoded(from, bytes).into_iter().filter_map(|it| it.1.ok()));
     let want = faults(from, bytes);
@@ -187,14 +187,14 @@ fn long_texts() {
 #[test]
 fn texts_become_strings() {
     let mut chance = Chance(9);
-    for form in Form::ALL {
+    for &encoding in Encoding::ALL {
         for _ in 0..2_000 {
-            let bytes = text_of(form, &mut chance, 16);
-            assert_eq!(decode(form, &bytes).as_bytes(), replaced(form, Form::Utf8, &bytes));
-            assert_eq!(decode_lossy(form, &bytes).as_bytes(), replaced_lossily(form, Form::Utf8, &bytes));
-            let fault = faults(form, &bytes).first().copied();
-            let strict = decode_strict(form, &bytes).map_err(|it| (it.offset(), it.range().len(), it.kind()));
-            assert_eq!(strict, fault.map_or(Ok(decode(form, &bytes)), Err));
+            let bytes = text_of(encoding, &mut chance, 16);
+            assert_eq!(decode(encoding, &bytes).as_bytes(), replaced(encoding, Encoding::Utf8, &bytes));
+            assert_eq!(decode_lossy(encoding, &bytes).as_bytes(), replaced_lossily(encoding, Encoding::Utf8, &bytes));
+            let fault = faults(encoding, &bytes).first().copied();
+            let strict = decode_strict(encoding, &bytes).map_err(|it| (it.offset(), it.range().len(), it.kind()));
+            assert_eq!(strict, fault.map_or(Ok(decode(encoding, &bytes)), Err));
         }
     }
 }
@@ -202,7 +202,7 @@ fn texts_become_strings() {
 /// A strict recoder that appends stops at each fault, and goes on with what it did not read.
 #[test]
 fn strict_recoders_append_up_to_faults() {
-    let (mut recoder, mut text) = (Recoder::strict(Form::Utf16Be, Form::Utf8), String::new());
+    let (mut recoder, mut text) = (Recoder::strict(Encoding::Utf16Be, Encoding::Utf8), String::new());
     let (mut rest, mut told) = (&b"\0a\xDE\0\xD8\0\0b\xD8"[..], Vec::new());
     loop {
         let did = recoder.feed_to_string(rest, &mut text);
@@ -220,20 +220,20 @@ fn strict_recoders_append_up_to_faults() {
 
 #[test]
 #[should_panic(expected = "a string takes UTF-8, and this recoder writes utf16le")]
-fn a_string_takes_no_other_form() {
-    let _ = Recoder::new(Form::Utf8, Form::Utf16Le).feed_to_string(b"", &mut String::new());
+fn a_string_takes_no_other_encoding() {
+    let _ = Recoder::new(Encoding::Utf8, Encoding::Utf16Le).feed_to_string(b"", &mut String::new());
 }
 
 /// A strict recoder waits only where what follows decides whether a byte is invalid, or why.
 #[test]
 fn strict_recoding_waits_for_the_kind() {
     for (part, held) in [(&b"a\xE9"[..], 1), (b"a\xE9\n", 2), (b"a\xF0\x80A", 3), (b"a\xE9\x80", 2)] {
-        let (mut recoder, mut room) = (Recoder::strict(Form::Utf8, Form::Utf8), [0; 9]);
+        let (mut recoder, mut room) = (Recoder::strict(Encoding::Utf8, Encoding::Utf8), [0; 9]);
         let did = recoder.feed(part, &mut room);
         assert_eq!((did.read, did.written, did.status), (part.len(), 1, Status::Done), "{part:x?}");
         assert_eq!(recoder.held(), &part[part.len() - held..]);
     }
-    let mut recoder = Recoder::strict(Form::Utf8, Form::Utf8);
+    let mut recoder = Recoder::strict(Encoding::Utf8, Encoding::Utf8);
     assert_eq!(recoder.feed(b"\xE9\n", &mut [0; 9]).status, Status::Done);
     let Status::Fault(fault) = recoder.feed(b"A", &mut [0; 9]).status else { panic!("a third byte decides") };
     assert_eq!((fault.offset(), fault.kind()), (0, FaultKind::InterruptedSequence));
@@ -243,7 +243,7 @@ fn strict_recoding_waits_for_the_kind() {
 #[test]
 fn strict_recoding_is_not_quadratic() {
     let text = "aé€😀".repeat(1_000_000);
-    let (mut recoder, mut rest, mut written) = (Recoder::strict(Form::Utf8, Form::Utf8), text.as_bytes(), 0);
+    let (mut recoder, mut rest, mut written) = (Recoder::strict(Encoding::Utf8, Encoding::Utf8), text.as_bytes(), 0);
     let begun = std::time::Instant::now();
     while !rest.is_empty() {
         let did = recoder.feed(rest, &mut [0; 64]);
@@ -257,8 +257,8 @@ fn strict_recoding_is_not_quadratic() {
 #[test]
 fn vectors_of_recodings() {
     for row in rows("recode.txt") {
-        let forms: Vec<Form> = row[0].split(' ').map(|it| it.parse().expect("a form")).collect();
-        assert_eq!(recode(forms[0], forms[1], &of_hex(&row[1])), of_hex(&row[2]), "{row:?}");
+        let encodings: Vec<Encoding> = row[0].split(' ').map(|it| it.parse().expect("an encoding")).collect();
+        assert_eq!(recode(encodings[0], encodings[1], &of_hex(&row[1])), of_hex(&row[2]), "{row:?}");
     }
 }
 
@@ -278,25 +278,58 @@ fn shards_are_recoded_by_themselves() {
     }
 }
 
+/// All inputs of up to four bytes of each kind: std's lossy text of the shards, joined, is that of the whole, and so is ours. Strictly,
+/// the second shard counts if the first has no invalid byte.
+#[test]
+fn shards_join_in_each_way() {
+    assert_eq!([0, 1, 2, 3].map(|at| shard_end(Encoding::Utf8, b"\xE2\x82A", at)), [0, 0, 2, 3]);
+    assert_eq!([0, 1, 2, 3].map(|at| shard_end(Encoding::Utf16Le, b"\x3D\xD8A", at)), [0, 0, 0, 3]);
+    const BYTES: [u8; 12] = [0x41, 0x80, 0x90, 0xA0, 0xC3, 0xE0, 0xE2, 0xED, 0xF0, 0xF1, 0xF4, 0xFF];
+    let strict = |bytes: &[u8]| match recode_strict(Encoding::Utf8, Encoding::Utf16Le, bytes) {
+        Ok(out) => (out, bytes.len()),
+        Err(fault) => (recode(Encoding::Utf8, Encoding::Utf16Le, &bytes[..fault.offset()]), fault.offset()),
+    };
+    for number in 0..BYTES.len().pow(4) {
+        let digits = [1, 12, 144, 1728].map(|unit| BYTES[number / unit % 12]);
+        for (len, at) in (0..=4).flat_map(|len| (0..=len).map(move |at| (len, at))) {
+            let bytes = &digits[..len];
+            let (front, rest) = bytes.split_at(shard_end(Encoding::Utf8, bytes, at));
+            let text = String::from_utf8_lossy(bytes);
+            assert_eq!(String::from_utf8_lossy(front) + String::from_utf8_lossy(rest), text, "{bytes:x?} at {at}");
+            let joined =
+                [recode_lossy(Encoding::Utf8, Encoding::Utf8, front), recode_lossy(Encoding::Utf8, Encoding::Utf8, rest)]
+                    .concat();
+            assert_eq!(joined, text.as_bytes(), "{bytes:x?} at {at}");
+            let (mut out, mut read) = strict(front);
+            if read == front.len() {
+                let more = strict(rest);
+                out.extend(more.0);
+                read += more.1;
+            }
+            assert_eq!((out, read), strict(bytes), "{bytes:x?} at {at}");
+        }
+    }
+}
+
 /// Any bytes in place of some: the pieces that the range leaves out are as they were.
 #[test]
 fn pieces_outside_of_the_changed_range_stay() {
     let mut chance = Chance(31);
     for _ in 0..30_000 {
-        for form in [Form::Utf8, Form::Utf16Le, Form::Utf16Be] {
-            let old = text_of(form, &mut chance, 12);
+        for encoding in [Encoding::Utf8, Encoding::Utf16Le, Encoding::Utf16Be] {
+            let old = text_of(encoding, &mut chance, 12);
             let start = chance.below(old.len() + 1);
             let end = start + chance.below(old.len() - start + 1);
-            let put = text_of(form, &mut chance, 3);
+            let put = text_of(encoding, &mut chance, 3);
             let new = [&old[..start], &put, &old[end..]].concat();
-            let was = changed_range(form, &old, start..end);
-            let is = changed_range(form, &new, start..start + put.len());
-            let said = format!("{form} {old:x?} {start}..{end} by {put:x?}: {was:?}, {is:?}");
+            let was = changed_range(encoding, &old, start..end);
+            let is = changed_range(encoding, &new, start..start + put.len());
+            let said = format!("{encoding} {old:x?} {start}..{end} by {put:x?}: {was:?}, {is:?}");
             assert!(was.start <= start && start <= was.start + 6 && end <= was.end && was.end <= end + 6, "{said}");
             for told_at in [End::OfSlice, End::OfParts] {
-                let (before, after) = (of_form(form, &old, told_at), of_form(form, &new, told_at));
+                let (before, after) = (of_encoding(encoding, &old, told_at), of_encoding(encoding, &new, told_at));
                 assert!(before.iter().filter(|it| it.0 < was.start).eq(after.iter().filter(|it| it.0 < is.start)), "{said}");
-                if form != Form::Utf8 && (put.len() + end - start) % 2 == 1 {
+                if encoding != Encoding::Utf8 && (put.len() + end - start) % 2 == 1 {
                     continue;
                 }
                 assert_eq!((was.start, was.end + start + put.len()), (is.start, is.end + end), "{said}");
@@ -310,7 +343,7 @@ fn pieces_outside_of_the_changed_range_stay() {
 #[test]
 #[allow(clippy::reversed_empty_ranges)]
 fn changed_ranges_of_any_offsets() {
-    assert_eq!(changed_range(Form::Utf8, b"", 0..usize::MAX), 0..0);
-    assert_eq!(changed_range(Form::Utf8, b"abcdefgh", usize::MAX..usize::MAX), 5..8);
-    assert_eq!(changed_range(Form::Utf16Be, b"abcdefgh", 7..2), changed_range(Form::Utf16Be, b"abcdefgh", 2..2));
+    assert_eq!(changed_range(Encoding::Utf8, b"", 0..usize::MAX), 0..0);
+    assert_eq!(changed_range(Encoding::Utf8, b"abcdefgh", usize::MAX..usize::MAX), 5..8);
+    assert_eq!(changed_range(Encoding::Utf16Be, b"abcdefgh", 7..2), changed_range(Encoding::Utf16Be, b"abcdefgh", 2..2));
 }

@@ -1,9 +1,9 @@
-//! Pieces, beside std's decoders and beside the vectors of the repository.
+//! Pieces, compared with std's decoders and with the vectors of the repository.
 
 mod common;
 
 use common::{long_text_of, of_hex, of_units, of_utf8, rows, Chance, End, Told};
-use noddychest::{units, Fault, Form, Piece};
+use noddychest::{units, Encoding, Fault, Piece};
 use std::fmt::Debug;
 
 /// What std says of UTF-8: each character, and each byte that is none of one.
@@ -39,7 +39,7 @@ fn seen(piece: Piece) -> (usize, usize, Option<char>) {
     (piece.offset, piece.len, piece.char())
 }
 
-/// Faults as they are told, each in its place; what is left after each is what follows it.
+/// Compares the faults with the expected ones, by their offsets and kinds.
 fn hold_told(faults: impl Iterator<Item = Fault>, want: &[Told], whole: &dyn Debug) {
     let want = want.iter().filter_map(|(at, len, answer)| answer.err().map(|kind| (*at..at + len, kind)));
     assert!(faults.map(|it| (it.range(), it.kind())).eq(want), "{whole:x?}");
@@ -66,14 +66,14 @@ fn hold_unit_faults(units: &[u16]) {
     assert_eq!((faults.next(), faults.offset(), faults.size_hint()), (None, units.len(), (0, Some(0))));
 }
 
-/// Long text goes by vectors: with a fault at any place of some blocks, and at the end.
+/// Long text is scanned by SIMD: with a fault at any offset of some blocks, and at the end.
 #[test]
 fn faults_are_found_in_long_text() {
     let mut chance = Chance(10);
     for _ in 0..60 {
-        let bytes = long_text_of(Form::Utf8, &mut chance, 3_000);
+        let bytes = long_text_of(Encoding::Utf8, &mut chance, 3_000);
         hold_faults(&bytes);
-        let units = long_text_of(Form::Utf16Le, &mut chance, 3_000);
+        let units = long_text_of(Encoding::Utf16Le, &mut chance, 3_000);
         hold_unit_faults(&units.chunks_exact(2).map(|it| u16::from_le_bytes([it[0], it[1]])).collect::<Vec<_>>());
     }
     for at in 0..200 {
@@ -103,12 +103,12 @@ fn hold_numbers<T: std::fmt::Debug>(
     }
 }
 
-/// Long text goes by vectors: with an invalid byte at any place of some blocks, and at the end.
+/// Long text is scanned by SIMD: with an invalid byte at any offset of some blocks, and at the end.
 #[test]
 fn numbers_of_long_text() {
     let mut chance = Chance(12);
     for _ in 0..10 {
-        let bytes = long_text_of(Form::Utf8, &mut chance, 12_000);
+        let bytes = long_text_of(Encoding::Utf8, &mut chance, 12_000);
         let want = by_std(&bytes);
         hold_numbers(&bytes[..], &want, noddychest::offset_of, noddychest::number_of);
         for number in (0..want.len()).step_by(97) {
@@ -129,7 +129,7 @@ fn numbers_of_long_text() {
     }
 }
 
-/// Where a long text lies in memory decides how many ASCII bytes are passed before it is gone over, and no answer.
+/// The address of a long text decides how many ASCII bytes are skipped before the scan, and changes no result.
 #[test]
 fn valid_up_to_wherever_a_text_lies() {
     let room = "a text of ASCII, ".repeat(300).into_bytes();

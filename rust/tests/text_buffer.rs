@@ -1,13 +1,13 @@
-//! A text that is edited, beside a list of its bytes that is cut anew after each edit.
+//! A text that is edited, compared with a list of its bytes that is cut anew after each edit.
 
 mod common;
 
-use common::{of_form, Chance, End};
-use noddychest::{Change, Form, Piece, TextBuffer};
+use common::{of_encoding, Chance, End};
+use noddychest::{Change, Encoding, Piece, PieceTable, TextBuffer};
 
 /// Where each piece begins, how long it is, and whether it is a character.
 fn cut(bytes: &[u8]) -> Vec<(usize, usize, Option<char>)> {
-    of_form(Form::Utf8, bytes, End::OfSlice).into_iter().map(|(at, len, answer)| (at, len, answer.ok())).collect()
+    of_encoding(Encoding::Utf8, bytes, End::OfSlice).into_iter().map(|(at, len, answer)| (at, len, answer.ok())).collect()
 }
 
 fn shown(piece: Piece) -> (usize, usize, Option<char>) {
@@ -43,7 +43,7 @@ fn agrees_at(text: &TextBuffer, bytes: &[u8], place: usize) {
 /// What did not change is as it was; an edit of some bytes changes few pieces around them.
 fn tells(change: Change, old: &[u8], new: &[u8], start: usize, end: usize) {
     let (before, after) = (cut(old), cut(new));
-    let Change { offset, number, gone, come } = change;
+    let Change { offset, number, gone, come, .. } = change;
     assert_eq!(before[..number], after[..number]);
     assert_eq!(offset, before.get(number).map_or(old.len(), |it| it.0));
     assert_eq!(old[offset + gone.bytes..], new[offset + come.bytes..]);
@@ -157,4 +157,42 @@ fn copies_are_apart_and_threads_may_have_one() {
     copy.replace(0..1, b"t");
     assert_eq!((text.to_vec(), copy.to_vec()), (b"one".to_vec(), b"tne".to_vec()));
     assert!(format!("{text:?}").starts_with("TextBuffer { counts: Counts {"));
+}
+
+/// Whether two texts are equal, whichever is asked.
+fn same(one: &TextBuffer, two: &TextBuffer) -> bool {
+    let is_same = one == two;
+    assert_eq!(two == one, is_same);
+    is_same
+}
+
+/// Texts are equal by their bytes, however they were edited: the chunks of these end at other offsets.
+#[test]
+fn texts_are_compared_by_their_bytes() {
+    let mut chance = Chance(31);
+    for round in 0..24 {
+        let bytes = some(&mut chance, [0, 5, 900, 9_000][round % 4]);
+        let whole = TextBuffer::new(&bytes);
+        let mut made = TextBuffer::default();
+        for part in bytes.chunks(50 + chance.below(700)) {
+            made.insert(made.len(), part);
+        }
+        for _ in 0..20 {
+            let at = chance.below(made.len() + 1);
+            made.insert(at, &bytes[..bytes.len().min(2_100)]);
+            made.remove(at..at + bytes.len().min(2_100));
+        }
+        assert!(same(&made, &whole) && same(&made, &made.clone()));
+        if !bytes.is_empty() {
+            let at = chance.below(bytes.len());
+            made.replace(at..at + 1, &[bytes[at] ^ 1]);
+            assert!(!same(&made, &whole));
+            made.replace(at..at + 1, &[bytes[at], b'!']);
+            assert!(!same(&made, &whole));
+        }
+    }
+    let (one, two) = (PieceTable::new(b"a\xC3"), PieceTable::new(b"a\xC3\xA9"));
+    let mut edited = one.clone();
+    edited.replace(2..2, b"\xA9");
+    assert!(one != two && edited == two && edited != one);
 }

@@ -3,19 +3,24 @@
 use noddychest::encode_unicode::{error, iterator, Utf8Char};
 use noddychest::parts::{Span, SplitAscii, SplitLines};
 use noddychest::{
-    io, units, AllocError, BufferBytes, Change, Counts, Decoder, Fault, FaultKind, Faults, Form, Piece, PieceTable, Pieces,
-    Progress, Recoder, Status, TablePieces, TextBuffer, UnknownForm,
+    io, units, AllocError, BufferBytes, Change, Counts, Decoder, Encoding, Fault, FaultKind, Faults, Piece, PieceTable, Pieces,
+    Progress, Recoder, Status, TablePieces, TextBuffer, UnknownEncoding,
 };
-use std::collections::HashSet;
+use std::collections::{BTreeSet, HashSet};
 use std::error::Error;
 use std::fmt::Debug;
 use std::hash::Hash;
+use std::io::{BufRead, ErrorKind};
 use std::iter::FusedIterator;
 
 fn is_shared<T: Send + Sync + Clone + Debug>() {}
 fn is_value<T: Send + Sync + Copy + Debug + Eq + Hash>() {}
 fn goes_both_ways<T: DoubleEndedIterator<Item = Piece> + FusedIterator>() {}
-fn goes_on<T: Iterator<Item = Fault> + FusedIterator>() {}
+fn is_ordered<T: Ord + Hash>() {}
+fn starts_empty<T: Default + Copy + Eq + Hash + Debug>() {}
+fn is_compared<T: Eq + Clone + Debug>() {}
+fn gives_faults_both_ways<T: DoubleEndedIterator<Item = Fault> + FusedIterator + Clone>() {}
+fn is_buffered<T: BufRead>() {}
 fn ends<T: Iterator + FusedIterator>() {}
 fn is_error<T: Error + Send + Sync + 'static>() {}
 fn is_error_of_upstream<T: Error + Send + Sync + Copy + Eq + 'static>() {}
@@ -36,13 +41,23 @@ fn types_have_their_traits() {
     is_value::<Fault>();
     is_value::<Fault<u64>>();
     is_value::<FaultKind>();
-    is_value::<Form>();
+    is_value::<Encoding>();
     is_value::<Status>();
     is_value::<Progress>();
     goes_both_ways::<Pieces<'static>>();
     goes_both_ways::<units::Pieces<'static>>();
-    goes_on::<Faults<'static>>();
-    goes_on::<units::Faults<'static>>();
+    gives_faults_both_ways::<Faults<'static>>();
+    gives_faults_both_ways::<units::Faults<'static>>();
+    is_ordered::<Fault>();
+    is_ordered::<Fault<u64>>();
+    is_ordered::<Piece>();
+    is_ordered::<Piece<u64>>();
+    is_ordered::<FaultKind>();
+    starts_empty::<Counts>();
+    starts_empty::<Change>();
+    is_compared::<TextBuffer>();
+    is_compared::<PieceTable>();
+    is_buffered::<io::RecodingReader<std::io::Stdin>>();
     ends::<io::Pieces<&[u8]>>();
     ends::<io::Faults<&[u8]>>();
     ends::<iterator::Utf8CharDecoder<'static>>();
@@ -55,7 +70,7 @@ fn types_have_their_traits() {
     ends::<iterator::Utf16Iterator>();
     is_error::<Fault>();
     is_error::<Fault<u64>>();
-    is_error::<UnknownForm>();
+    is_error::<UnknownEncoding>();
     is_error::<AllocError>();
     is_error_of_upstream::<error::CodepointError>();
     is_error_of_upstream::<error::EmptyStrError>();
@@ -111,11 +126,73 @@ fn errors_describe_themselves() {
 
 #[test]
 fn kinds_are_named_as_the_programs_name_them() {
-    let names: HashSet<&str> = FaultKind::ALL.into_iter().map(FaultKind::name).collect();
+    let names: HashSet<&str> = FaultKind::ALL.iter().map(|kind| kind.name()).collect();
     assert_eq!(names.len(), 10);
-    for kind in FaultKind::ALL {
+    for &kind in FaultKind::ALL {
         assert_eq!(kind.name(), format!("{kind:?}"));
     }
+}
+
+/// More may come: how many there are is in no type.
+#[test]
+fn all_are_slices() {
+    const KINDS: &[FaultKind] = FaultKind::ALL;
+    const FORMS: &[Encoding] = Encoding::ALL;
+    assert_eq!((KINDS[9], FORMS[2]), (FaultKind::Incomplete, Encoding::Utf16Be));
+}
+
+/// By offset, then by length; at one offset and length a character is before a fault, and a fault goes by its kind.
+#[test]
+fn pieces_and_faults_are_ordered() {
+    let all: Vec<Piece> = noddychest::pieces(b"a\xC3\xA9\xFF\xE2\x82A\xC0").collect();
+    assert!(all.windows(2).all(|it| it[0] < it[1]));
+    let mut turned: Vec<Piece> = all.iter().rev().copied().collect();
+    turned.sort_unstable();
+    assert_eq!(turned, all);
+    let faults: BTreeSet<Fault> = noddychest::faults(b"\xFFa\xFF").chain(noddychest::faults(b"\xFFa\xFF")).collect();
+    assert_eq!(faults.iter().map(Fault::offset).collect::<Vec<_>>(), [0, 2]);
+    let fault = |offset: u64, kind| Fault::new(offset, 1, kind);
+    assert!(fault(1, FaultKind::NonUtf8Byte) < fault(2, FaultKind::TooFewBytes));
+    assert!(fault(1, FaultKind::TooFewBytes) < fault(1, FaultKind::NonUtf8Byte));
+    assert!(Piece::new(1, 1, Ok('\u{10FFFF}')) < Piece::new(1, 1, Err(fault(1, FaultKind::TooFewBytes))));
+}
+
+/// What another crate makes is what this one makes.
+#[test]
+fn values_are_made() {
+    assert_eq!(noddychest::faults(b"a\xFF").next(), Some(Fault::new(1, 1, FaultKind::NonUtf8Byte)));
+    let mut pieces = noddychest::pieces("é!".as_bytes());
+    assert_eq!((pieces.next(), pieces.next()), (Some(Piece::new(0, 2, Ok('é'))), Some(Piece::new(2, 1, Ok('!')))));
+    let fault = Fault::new(0, 2, FaultKind::Incomplete);
+    let mut room = [Piece::default(); 2];
+    let mut decoder = Decoder::new(Encoding::Utf16Le);
+    assert_eq!(decoder.feed(b"\x3D\xD8", &mut room), Progress::new(2, 0, Status::Done));
+    assert_eq!(decoder.finish(&mut room), Progress::new(0, 1, Status::Done));
+    assert_eq!(room[0], Piece::new(0, 2, Err(fault)));
+    assert_eq!((fault.range(), room[0].range()), (0..2, 0..2));
+    assert_eq!((Counts::default(), Change::default().come), (Counts::of(b""), Counts::of(b"")));
+    let mut counts = HashSet::from([Counts::default()]);
+    assert!(counts.insert(Counts::of(b"a")) && !counts.insert(TextBuffer::new(b"b").counts()));
+    let mut changes = HashSet::from([TextBuffer::new(b"ab").remove(0..1)]);
+    assert!(!changes.insert(TextBuffer::new(b"cb").remove(0..1)) && changes.insert(TextBuffer::new(b"ab").insert(1, b"c")));
+}
+
+/// A function over files passes a fault on by `?`; who gets the error finds the fault in it.
+#[test]
+fn faults_are_errors_of_files() {
+    fn converted(bytes: &[u8]) -> std::io::Result<Vec<u8>> {
+        Ok(noddychest::recode_strict(Encoding::Utf8, Encoding::Utf16Le, bytes)?)
+    }
+    assert_eq!(converted(b"ok").expect("no fault"), b"o\0k\0");
+    let error = converted(b"ok\xFF").unwrap_err();
+    assert_eq!((error.kind(), &*error.to_string()), (ErrorKind::InvalidData, "invalid UTF-8 at offset 2: NonUtf8Byte"));
+    assert_eq!(error.get_ref().and_then(|it| it.downcast_ref()), Some(&Fault::new(2_usize, 1, FaultKind::NonUtf8Byte)));
+    let error = noddychest::try_recode(Encoding::Utf8, Encoding::Utf8, b"a").map_err(std::io::Error::from);
+    assert_eq!(error.expect("memory"), b"a");
+    let error = std::io::Error::from(Fault::new(u64::MAX, 1, FaultKind::TooFewBytes));
+    assert_eq!(error.kind(), ErrorKind::InvalidData);
+    let fault = *error.into_inner().expect("the fault").downcast::<Fault<u64>>().expect("a fault");
+    assert_eq!((fault.offset(), fault.kind()), (u64::MAX, FaultKind::TooFewBytes));
 }
 
 #[test]
@@ -124,7 +201,7 @@ fn clones_go_on_by_themselves() {
     let other = pieces.clone();
     pieces.next();
     assert_eq!((pieces.count(), other.count()), (1, 2));
-    let mut recoder = Recoder::new(Form::Utf8, Form::Utf8);
+    let mut recoder = Recoder::new(Encoding::Utf8, Encoding::Utf8);
     assert_eq!(recoder.feed(b"\xC3", &mut [0; 4]).written, 0);
     let mut other = recoder.clone();
     let mut room = [0; 4];
@@ -135,34 +212,35 @@ fn clones_go_on_by_themselves() {
 
 /// The labels of the Encoding Standard (encoding.spec.whatwg.org, "Names and labels"), in any case, and the names of the programs.
 #[test]
-fn forms_have_labels() {
+fn encodings_have_labels() {
     let labels = [
-        ("utf8 utf-8 UTF-8 Utf8 unicode-1-1-utf-8 unicode11utf8 unicode20utf8 x-unicode20utf8", Form::Utf8),
-        ("utf16le utf-16le UTF-16LE UTF-16 unicode unicodefeff csUnicode ISO-10646-UCS-2 ucs-2", Form::Utf16Le),
-        ("utf16be UTF-16BE unicodeFFFE", Form::Utf16Be),
+        ("utf8 utf-8 UTF-8 Utf8 unicode-1-1-utf-8 unicode11utf8 unicode20utf8 x-unicode20utf8", Encoding::Utf8),
+        ("utf16le utf-16le UTF-16LE UTF-16 unicode unicodefeff csUnicode ISO-10646-UCS-2 ucs-2", Encoding::Utf16Le),
+        ("utf16be UTF-16BE unicodeFFFE", Encoding::Utf16Be),
     ];
-    for (names, form) in labels {
+    for (names, encoding) in labels {
         for name in names.split(' ') {
-            assert_eq!(name.parse(), Ok(form), "{name}");
-            assert_eq!(format!("\t {name}\n").parse(), Ok(form), "{name}");
+            assert_eq!(name.parse(), Ok(encoding), "{name}");
+            assert_eq!(format!("\t {name}\n").parse(), Ok(encoding), "{name}");
         }
     }
     for name in ["", " ", "utf", "utf-", "utf 8", "latin1", "utf-32", "utf8\u{a0}", "ut\u{17f}8"] {
-        assert!(name.parse::<Form>().is_err(), "{name}");
+        assert!(name.parse::<Encoding>().is_err(), "{name}");
     }
 }
 
 #[test]
-fn marks_tell_the_form() {
-    let marks: [(&[u8], Form); 3] = [(b"\xEF\xBB\xBF", Form::Utf8), (b"\xFF\xFE", Form::Utf16Le), (b"\xFE\xFF", Form::Utf16Be)];
-    for (mark, form) in marks {
-        assert_eq!(noddychest::form_of_bom(mark), Some((form, mark.len())));
-        assert_eq!(noddychest::form_of_bom(&[mark, &b"\0\0a"[..]].concat()), Some((form, mark.len())), "{form}");
-        assert_eq!(noddychest::form_of_bom(&[mark, mark].concat()), Some((form, mark.len())), "{form}");
-        assert_eq!(noddychest::form_of_bom(&mark[..mark.len() - 1]), None, "{form}");
-        assert_eq!(noddychest::form_of_bom(&[&b"a"[..], mark].concat()), None, "{form}");
+fn marks_tell_the_encoding() {
+    let marks: [(&[u8], Encoding); 3] =
+        [(b"\xEF\xBB\xBF", Encoding::Utf8), (b"\xFF\xFE", Encoding::Utf16Le), (b"\xFE\xFF", Encoding::Utf16Be)];
+    for (mark, encoding) in marks {
+        assert_eq!(noddychest::encoding_of_bom(mark), Some((encoding, mark.len())));
+        assert_eq!(noddychest::encoding_of_bom(&[mark, &b"\0\0a"[..]].concat()), Some((encoding, mark.len())), "{encoding}");
+        assert_eq!(noddychest::encoding_of_bom(&[mark, mark].concat()), Some((encoding, mark.len())), "{encoding}");
+        assert_eq!(noddychest::encoding_of_bom(&mark[..mark.len() - 1]), None, "{encoding}");
+        assert_eq!(noddychest::encoding_of_bom(&[&b"a"[..], mark].concat()), None, "{encoding}");
     }
     for other in [&b""[..], b"a", b"\xEF\xBB\xBE", b"\xEF\xBF\xBB", b"\xFF\xFF", b"\xFE\xFE", b"\0\0\xFE\xFF", b"+/v8"] {
-        assert_eq!(noddychest::form_of_bom(other), None, "{other:x?}");
+        assert_eq!(noddychest::encoding_of_bom(other), None, "{other:x?}");
     }
 }

@@ -1,20 +1,21 @@
-//! This project beside `encoding_rs`, iconv(3) and std, for each pair of forms and input.
+//! This project compared with `encoding_rs`, iconv(3) and std, for each pair of forms and input.
 //!
 //! `recode times SIZE ROUNDS`: a line for each pair, input and side: the nanoseconds for each byte.
 //! `recode one FROM TO INPUT SIDE SIZE CALLS`: just these calls, for counting instructions.
 //! `recode list`: a line for each pair of forms and each input, with the sides.
-//! `recode short ROUNDS CALLS`, `recode short-one FROM TO INPUT BYTES SIDE CALLS`, `recode short-list`: the same of
-//! short texts, for each call.
+//! `recode short ROUNDS CALLS`, `recode short-one FROM TO INPUT BYTES SIDE CALLS`, `recode short-list`: these for short
+//! texts, and per call.
 //! `recode input FORM INPUT SIZE`: the bytes of an input in that form.
 //!
-//! The input is handed over in parts of 64 KiB, and to std, which has no call for parts, at once. Each call answers
-//! how many bytes came out.
+//! The input is passed in parts of 64 KiB, and to std, which has no call for parts, whole. Each call returns the length of its
+//! output. Ours is the library for C, for x86-64-v2, which writes into a buffer; `feed`, into a list, is the crate for Cargo's.
 
 use bench::forms::{self, bytes_in, bytes_of_units};
 use bench::inputs::Input;
 use bench::passages::{self, SHORT_LENGTHS, SHORT_NAMES};
 use bench::report::Best;
-use bench::{by_encoding_rs, by_iconv, by_std};
+use bench::{by_encoding_rs, by_iconv, by_std, library};
+use noddychest::{Encoding, Recoder};
 use std::hint::black_box;
 use std::io::Write;
 use std::process::ExitCode;
@@ -25,13 +26,6 @@ const SIDES: [&str; 4] = ["ours", "encoding_rs", "iconv", "std"];
 const SHORT_SIDES: [&str; 3] = ["feed", "feed_into", "encoding_rs"];
 const SHORT_COUNT: usize = 1000;
 const USAGE: &str = "recode times SIZE ROUNDS | one FROM TO INPUT SIDE SIZE CALLS | list | short ROUNDS CALLS | short-one FROM TO INPUT BYTES SIDE CALLS | short-list | input FORM INPUT SIZE";
-
-#[link(name = "bench_c", kind = "static")]
-extern "C" {
-    fn bench_c_recode(from: u32, to: u32, src: *const u8, len: usize, part: usize) -> u64;
-    fn bench_c_recode_short(from: u32, to: u32, src: *const u8, len: usize, each: usize) -> u64;
-    fn bench_c_recode_short_into(from: u32, to: u32, src: *const u8, len: usize, each: usize, room: *mut u8, room_len: usize) -> u64;
-}
 
 fn main() -> ExitCode {
     let args: Vec<String> = std::env::args().skip(1).collect();
@@ -68,14 +62,14 @@ fn status(agree: bool) -> ExitCode {
     if agree { ExitCode::SUCCESS } else { ExitCode::FAILURE }
 }
 
-/// What is recoded into what.
+/// What is converted into what.
 #[derive(Clone, Copy)]
 struct Pair {
     from: usize,
     to: usize,
 }
 
-/// Where the peers write, made once and used again.
+/// The buffers of the peers, made once and used again.
 struct Rooms {
     bytes: Vec<u8>,
     of_encoding_rs: by_encoding_rs::Rooms,
@@ -92,7 +86,7 @@ fn pairs() -> impl Iterator<Item = Pair> {
     all.clone().flat_map(move |from| all.clone().map(move |to| Pair { from, to }))
 }
 
-// A line for each pair and input. The status is 1 where two sides give different numbers of bytes for a text.
+// A line for each pair and input. The status is 1 if two sides give different numbers of bytes for a text.
 fn times(size: usize, rounds: usize) -> ExitCode {
     let (mut agree, mut rooms) = (true, Rooms::new(PART));
     for pair in pairs() {
@@ -195,7 +189,7 @@ impl Pair {
     fn recode(self, side: &str, src: &[u8], rooms: &mut Rooms) -> u64 {
         let Pair { from, to } = self;
         match side {
-            "ours" => unsafe { bench_c_recode(from as u32, to as u32, src.as_ptr(), src.len(), PART) },
+            "ours" => library::in_parts(from, to, src, PART, &mut rooms.bytes),
             "encoding_rs" => by_encoding_rs::in_parts(from, to, src, PART, &mut rooms.of_encoding_rs),
             "iconv" => by_iconv::in_parts(from, to, src, PART, &mut rooms.bytes),
             "std" => by_std::at_once(from, to, src),
@@ -203,7 +197,7 @@ impl Pair {
         }
     }
 
-    // The nanoseconds of one call, the best of the rounds, which have so many calls together.
+    // The nanoseconds of one call: the best round, each of which makes `calls` calls.
     fn time_short(self, name: &str, len: usize, rounds: usize, calls: usize, rooms: &mut Rooms) -> bool {
         let (src, each) = self.short_texts(name, len).expect("the names are known");
         let sides = self.sides(&SHORT_SIDES);
@@ -247,16 +241,25 @@ impl Pair {
     }
 
     fn recode_short(self, side: &str, src: &[u8], each: usize, rooms: &mut Rooms) -> u64 {
-        let (from, to) = (self.from as u32, self.to as u32);
-        let room = &mut rooms.bytes;
         match side {
-            "feed" => unsafe { bench_c_recode_short(from, to, src.as_ptr(), src.len(), each) },
-            "feed_into" => unsafe {
-                bench_c_recode_short_into(from, to, src.as_ptr(), src.len(), each, room.as_mut_ptr(), room.len())
-            },
+            "feed" => self.short_to_vec(src, each),
+            "feed_into" => library::short(self.from, self.to, src, each, &mut rooms.bytes),
             "encoding_rs" => by_encoding_rs::short(self.from, self.to, src, each, &mut rooms.of_encoding_rs),
             _ => 0,
         }
+    }
+
+    // By the crate for Cargo, into one list that is emptied before each text.
+    fn short_to_vec(self, src: &[u8], each: usize) -> u64 {
+        let (from, to, mut out) = (Encoding::ALL[self.from], Encoding::ALL[self.to], Vec::new());
+        let one = |text: &[u8]| {
+            out.clear();
+            let mut recoder = Recoder::new(from, to);
+            let _ = recoder.feed_to_vec(text, &mut out);
+            let _ = recoder.finish_to_vec(&mut out);
+            out.len() as u64
+        };
+        src.chunks(each).map(one).sum()
     }
 }
 

@@ -1,24 +1,21 @@
-//! `replacements SIZE ROUNDS [INPUT]`: what a replacement of one byte by one costs in a table of pieces, beside moving both
-//! lists by `Vec::splice`, which is handed the new pieces, and beside decoding all anew with the Rust crate.
+//! `replacements SIZE ROUNDS [INPUT]`: what a replacement of one byte by one costs in a table of pieces, compared with moving both
+//! lists by `Vec::splice`, which is handed the new pieces, and with decoding all anew with the Rust crate.
 //!
 //! Each number is the best time of the rounds, in microseconds, for one of many replacements at random
 //! places. What making the table takes is measured too, and taken off.
 
 use bench::inputs;
-use bench::work::{number_of, word_of, Checksum};
+use bench::rust::number_of;
+use bench::sums::{word_of, Checksum, ERROR};
 use encode_unicode::error::Utf8Error;
 use encode_unicode::iterator::Utf8CharDecoder;
 use encode_unicode::Utf8Char;
+use noddychest::{FaultKind, PieceTable};
 use std::hint::black_box;
 use std::process::ExitCode;
 use std::time::{Duration, Instant};
 
 const SEED: u64 = 0x5eed;
-
-#[link(name = "bench_c", kind = "static")]
-extern "C" {
-    fn bench_c_replacements(src: *const u8, len: usize, seed: u64, count: u64) -> u64;
-}
 
 type Item = (usize, Result<Utf8Char, Utf8Error>, usize);
 
@@ -51,7 +48,7 @@ fn main() -> ExitCode {
 // One row of the table. Whether both sides end with the same pieces.
 fn row(name: &str, size: usize, rounds: usize) -> bool {
     let src = inputs::make(name, size).expect("the names are known").bytes;
-    // Where few pieces move, a replacement takes less than a microsecond.
+    // If few pieces move, a replacement takes less than a microsecond.
     let count = if name == "ascii" { 400_000 } else { 1_000 };
     let steps = steps_of(&src, count);
     let made = best(rounds, || ours(&src, 0));
@@ -71,11 +68,29 @@ fn row(name: &str, size: usize, rounds: usize) -> bool {
     replaced.1 == spliced.1
 }
 
+// The checksum of the pieces of the table after `count` replacements.
 fn ours(src: &[u8], count: u64) -> u64 {
-    unsafe { bench_c_replacements(src.as_ptr(), src.len(), SEED, count) }
+    let (mut table, mut random) = (PieceTable::new(src), SEED);
+    for _ in 0..count {
+        let (place, byte) = replacement(&mut random, table.bytes().len());
+        table.replace(place..place + 1, &[byte]);
+    }
+    let mut sum = Checksum::default();
+    for piece in table.pieces() {
+        let what = piece.result.map_or_else(|fault| ERROR | (fault.kind() as u32 - FaultKind::TooFewBytes as u32), |c| c as u32);
+        sum.add(word_of(piece.offset, piece.len, what));
+    }
+    sum.value()
 }
 
-// The best time of the rounds, and the answer.
+// The next offset, below the length, and the byte that is put there.
+#[inline(always)]
+fn replacement(random: &mut u64, len: usize) -> (usize, u8) {
+    *random = random.wrapping_mul(0x5851_f42d_4c95_7f2d).wrapping_add(0x1405_7b7e_f767_814f);
+    ((*random >> 24) as usize % len, (*random >> 56) as u8)
+}
+
+// The best time of the rounds, and the result.
 fn best(rounds: usize, work: impl Fn() -> u64) -> (Duration, u64) {
     let timed = (0..rounds.max(1)).map(|_| {
         let start = Instant::now();
@@ -85,7 +100,7 @@ fn best(rounds: usize, work: impl Fn() -> u64) -> (Duration, u64) {
     timed.min_by_key(|(time, _)| *time).expect("there is a round")
 }
 
-// The same of moving both lists alone; the answer is the checksum of the pieces.
+// The best time and the checksum of the pieces if only both lists are moved.
 fn best_splice(rounds: usize, src: &[u8], steps: &[Step]) -> (Duration, u64) {
     let timed = (0..rounds.max(1)).map(|_| {
         let mut bytes = src.to_vec();
@@ -119,15 +134,13 @@ fn checksum_of(pieces: &[Item]) -> u64 {
     sum.value()
 }
 
-// The replacements that `bench_c_replacements` makes, each with the pieces that it changes.
+// The replacements that `ours` makes, each with the pieces that it changes.
 fn steps_of(src: &[u8], count: u64) -> Vec<Step> {
     let mut bytes = src.to_vec();
     let mut pieces: Vec<Item> = Utf8CharDecoder::from(src).collect();
     let mut random = SEED;
     let steps = (0..count).map(|_| {
-        random = random.wrapping_mul(0x5851_f42d_4c95_7f2d).wrapping_add(0x1405_7b7e_f767_814f);
-        let place = (random >> 24) as usize % bytes.len();
-        let byte = (random >> 56) as u8;
+        let (place, byte) = replacement(&mut random, bytes.len());
         let keep = pieces.partition_point(|item| item.0 < place.saturating_sub(3));
         let resume = pieces.partition_point(|item| item.0 < place + 4);
         let from = keep.checked_sub(1).map_or(0, |last| pieces[last].0 + pieces[last].2);

@@ -15,7 +15,7 @@ fn main() -> ExitCode {
     }
 }
 
-// Lists the pieces, and answers how many of them are errors.
+// Lists the pieces, and returns how many of them are errors.
 fn run() -> io::Result<usize> {
     let mut bytes = Vec::new();
     io::stdin().lock().read_to_end(&mut bytes)?;

@@ -1,12 +1,14 @@
-//! How far bytes and units are well-formed: this project beside std, `simdutf8` and `encoding_rs`.
+//! How far bytes and units are well-formed: this project compared with std, `simdutf8` and `encoding_rs`.
 //!
-//! `valid times SIZE ROUNDS`: a line for each form, input and side: the nanoseconds for each byte.
-//! `valid one FORM INPUT SIDE SIZE CALLS`: just these calls, for counting instructions.
+//! `valid times LEVEL SIZE ROUNDS`: a line for each form, input and side: the nanoseconds for each byte.
+//! `valid one LEVEL FORM INPUT SIDE SIZE CALLS`: just these calls, for counting instructions.
 //! `valid list`: a line for each form and each input, with the sides.
 //!
+//! LEVEL is that of x86-64 for which ours is compiled: v2, or v3 on a CPU that has it.
 //! All inputs are texts, of which every side reads the whole.
 
 use bench::inputs::Input;
+use bench::library::{self, Level};
 use bench::passages;
 use bench::report::Best;
 use encoding_rs::Encoding;
@@ -18,13 +20,7 @@ use std::time::Instant;
 
 const UTF8_SIDES: [&str; 5] = ["ours", "std", "simdutf8", "simdutf8_16", "encoding_rs"];
 const UTF16_SIDES: [&str; 3] = ["ours", "std", "encoding_rs"];
-const USAGE: &str = "valid times SIZE ROUNDS | one utf8|utf16 INPUT SIDE SIZE CALLS | list";
-
-#[link(name = "bench_c", kind = "static")]
-extern "C" {
-    fn bench_c_valid_up_to(src: *const u8, len: usize) -> usize;
-    fn bench_c_units_valid_up_to(src: *const u16, len: usize) -> u64;
-}
+const USAGE: &str = "valid times v2|v3 SIZE ROUNDS | one v2|v3 utf8|utf16 INPUT SIDE SIZE CALLS | list";
 
 fn main() -> ExitCode {
     let args: Vec<String> = std::env::args().skip(1).collect();
@@ -37,8 +33,8 @@ fn main() -> ExitCode {
 
 fn done(words: &[&str]) -> Option<ExitCode> {
     match words {
-        ["times", size, rounds] => Some(times(number(size)?, number(rounds)?)),
-        ["one", form, name, side, size, calls] => one(form, name, side, number(size)?, number(calls)?),
+        ["times", level, size, rounds] => Some(times(Level::of_name(level)?, number(size)?, number(rounds)?)),
+        ["one", level, form, name, side, size, calls] => one(Level::of_name(level)?, form, name, side, number(size)?, number(calls)?),
         ["list"] => Some(list()),
         _ => None,
     }
@@ -71,25 +67,25 @@ fn bytes_of(form: &str, input: &Input) -> usize {
     if form == "utf8" { input.bytes.len() } else { 2 * input.units.len() }
 }
 
-// A line for each form, text and side. The status is 1 where one does not read to the end.
-fn times(size: usize, rounds: usize) -> ExitCode {
+// A line for each form, text and side. The status is 1 if one does not read to the end.
+fn times(level: Level, size: usize, rounds: usize) -> ExitCode {
     let mut agree = true;
     for (form, sides) in forms() {
         for (name, input) in texts(size) {
-            agree &= time_row(form, sides, name, &input, rounds);
+            agree &= time_row(level, form, sides, name, &input, rounds);
         }
     }
     if agree { ExitCode::SUCCESS } else { ExitCode::FAILURE }
 }
 
 // Rounds of all sides, in turn.
-fn time_row(form: &str, sides: &[&str], name: &str, input: &Input, rounds: usize) -> bool {
+fn time_row(level: Level, form: &str, sides: &[&str], name: &str, input: &Input, rounds: usize) -> bool {
     let mut best: Vec<Best> = sides.iter().map(|_| Best::default()).collect();
     let mut ends = vec![0; sides.len()];
     for _ in 0..rounds {
         for (side, (best, end)) in sides.iter().zip(best.iter_mut().zip(&mut ends)) {
             let start = Instant::now();
-            *end = black_box(valid_up_to(form, side, black_box(input)));
+            *end = black_box(valid_up_to(level, form, side, black_box(input)));
             best.add(start.elapsed());
         }
     }
@@ -104,26 +100,26 @@ fn time_row(form: &str, sides: &[&str], name: &str, input: &Input, rounds: usize
 }
 
 // So many calls of one side, which may be none of them.
-fn one(form: &str, name: &str, side: &str, size: usize, calls: usize) -> Option<ExitCode> {
+fn one(level: Level, form: &str, name: &str, side: &str, size: usize, calls: usize) -> Option<ExitCode> {
     let (form, _) = forms().into_iter().find(|(known, _)| *known == form)?;
     let input = passages::make(name, size)?;
     let mut end = 0;
     for _ in 0..calls {
-        end = black_box(valid_up_to(form, side, black_box(&input)));
+        end = black_box(valid_up_to(level, form, side, black_box(&input)));
     }
     println!("{end} {}", bytes_of(form, &input));
     Some(ExitCode::SUCCESS)
 }
 
-fn valid_up_to(form: &str, side: &str, input: &Input) -> usize {
+fn valid_up_to(level: Level, form: &str, side: &str, input: &Input) -> usize {
     let (bytes, units) = (input.bytes.as_slice(), input.units.as_slice());
     match (form, side) {
-        ("utf8", "ours") => unsafe { bench_c_valid_up_to(bytes.as_ptr(), bytes.len()) },
+        ("utf8", "ours") => library::valid_up_to(level, bytes),
         ("utf8", "std") => std::str::from_utf8(bytes).map_or_else(|error| error.valid_up_to(), str::len),
         ("utf8", "simdutf8") => simdutf8::basic::from_utf8(bytes).map_or(0, str::len),
         ("utf8", "simdutf8_16") => text_len_by_sixteen(bytes),
         ("utf8", "encoding_rs") => Encoding::utf8_valid_up_to(bytes),
-        ("utf16", "ours") => unsafe { bench_c_units_valid_up_to(units.as_ptr(), units.len()) as usize },
+        ("utf16", "ours") => library::units_valid_up_to(level, units),
         ("utf16", "std") => well_formed_units(units),
         ("utf16", "encoding_rs") => encoding_rs::mem::utf16_valid_up_to(units),
         _ => 0,

@@ -17,7 +17,7 @@ static void validate(void) {
 
 static void recode(void) {
     size_t written;
-    if (nody_recode(NODY_FORM_UTF8, NODY_FORM_UTF16LE, in, LEN, out, sizeof out, &written) != NODY_STATUS_DONE) exit(1);
+    if (nody_recode(NODY_UTF8, NODY_UTF16LE, in, LEN, out, sizeof out, &written) != NODY_STATUS_DONE) exit(1);
 }
 
 static void decode(void) {

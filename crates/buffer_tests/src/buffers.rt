@@ -1,4 +1,4 @@
-//! A text that is edited in chunks: many of them, and edits over their ends.
+//! A text that is edited in chunks: many of them, and edits that span their ends.
 ghost use Rattle.std.specs.Prelude.{◌≡◌, ◌≤◌, length};
 
 use cuts::{Change, Counts, TextBuffer, TextCursor};
@@ -9,7 +9,7 @@ use std::io::ErrorKind;
 use std::process::Abort;
 use std::test::Fail;
 
-// Puts other bytes in place of some, where these are in the text.
+// Replaces some bytes by others, if the former are in the text.
 fn put<A: Allocator + Copy>(
     text: &mut TextBuffer<A>,
     start: usize,
@@ -37,7 +37,8 @@ fn one_byte_changes_among_ten_thousand(rt: HostRuntime) -> Result<(), Fail> {
     Ok(())
 }
 
-// A character of three bytes at each of some places: a chunk ends there, begins there, or lies before and after it.
+// A character of three bytes at each of some offsets: a chunk ends there, begins there, or lies before and
+// after it.
 #[test]
 fn characters_are_put_in_and_taken_out_at_the_ends_of_chunks(rt: HostRuntime) -> Result<(), Fail> {
     let bytes = vec![in rt.alloc(); b'a'; 9_000]?;
@@ -74,7 +75,7 @@ fn a_long_text_is_put_in_and_taken_out(rt: HostRuntime) -> Result<(), Fail> {
     Ok(())
 }
 
-// The offset, the scalar and the length of a piece, or its kind in place of a scalar.
+// The offset, the length, and the scalar or kind of a piece.
 fn piece_of<A: Allocator + Copy>(
     text: &TextBuffer<A>,
     number: usize,
@@ -86,8 +87,8 @@ fn piece_of<A: Allocator + Copy>(
     }
 }
 
-// Two bytes of a character of three, and a letter after them: a chunk ends after the first of these, after the second, or
-// elsewhere. It is the letter that says what is wrong with the first.
+// Two bytes of a character of three, and a letter after them: a chunk ends after the first of these, after the
+// second, or elsewhere. The letter decides the kind of the first fault.
 #[test]
 fn a_fault_is_called_the_same_at_the_end_of_a_chunk(rt: HostRuntime) -> Result<(), Fail> {
     for place in 3_570..3_600 {
@@ -142,8 +143,8 @@ fn are_found<A: Allocator + Copy>(rt: &impl Abort, text: &TextBuffer<A>) {
     assert!(rt; text.next_fault(0).is_none());
 }
 
-// "voici: naïve et café" loses the last byte of its "ï". So the six characters "naïve " go, which begin at 7, and six pieces
-// come: one of them is a faulty byte.
+// "voici: naïve et café" loses the last byte of its "ï". The six characters "naïve " go, which begin at 7, and six
+// pieces come: one of them is an invalid byte.
 #[test]
 fn an_edit_says_what_went_and_what_came(rt: HostRuntime) -> Result<(), Fail> {
     let mut text = TextBuffer::of(rt.alloc(), "voici: na\u{ef}ve et caf\u{e9}".as_bytes())?;
@@ -210,7 +211,8 @@ fn shown<A: Allocator + Copy>(text: &TextBuffer<A>, number: usize) -> Option<Sho
     Some((answer, len))
 }
 
-// Edits in turn, around the place where the first chunk ends. The view then shows what a text has that is made of all bytes.
+// A sequence of edits around the offset where the first chunk ends. The view then shows what a text made anew
+// of all bytes has.
 #[test]
 fn a_view_that_repaints_what_edits_say_shows_the_text(rt: HostRuntime) -> Result<(), Fail> {
     let parts: [&[u8]; 6] = [
@@ -265,7 +267,7 @@ fn within<A: Allocator + Copy>(text: &TextBuffer<A>, start: usize, end: usize) -
     text.chunk_within(start.min(end), end)
 }
 
-// Two bytes a call, and one failure on the way.
+// The stream passes two bytes a call, and fails once on the way.
 #[test]
 fn a_text_is_read_and_written_in_parts(rt: HostRuntime) -> Result<(), Fail> {
     let mut input = Fuse::over(rt.alloc(), b"abcde");
@@ -284,7 +286,7 @@ fn a_text_is_read_and_written_in_parts(rt: HostRuntime) -> Result<(), Fail> {
     Ok(())
 }
 
-// More chunks than a row has: what is looked up after it is found by its sum.
+// More chunks than a row has: what lies after them is found by the sum of the row.
 #[test]
 fn a_text_of_two_rows_is_looked_up_and_edited(rt: HostRuntime) -> Result<(), Fail> {
     let line = b"twelve bytes";
@@ -305,5 +307,37 @@ fn a_text_of_two_rows_is_looked_up_and_edited(rt: HostRuntime) -> Result<(), Fai
     put(&mut text, 50_000, 50_000, bytes.as_slice())?;
     assert!(rt; text.next_fault(0) == Some(850_000) && text.len() == 860_000);
     assert!(rt; text.offset_of(850_003) == Some(850_004));
+    Ok(())
+}
+
+// The number of calls of `chunk_at` that read all of a text, or 1,000 if these are too few.
+fn calls_to_read<A: Allocator + Copy>(text: &TextBuffer<A>) -> usize {
+    let mut offset: usize = 0;
+    for calls in 0..1_000 {
+        if text.len() <= offset {
+            return calls;
+        }
+        offset = offset.saturating_add(text.chunk_at(offset).len());
+    }
+    1_000
+}
+
+// A call lends all that is left of a chunk. A new chunk has more than a kilobyte, but at most two, and so has one
+// that an edit made; after many edits at one offset chunks are shorter.
+#[test]
+fn a_call_lends_a_chunk_of_one_or_two_kilobytes(rt: HostRuntime) -> Result<(), Fail> {
+    let bytes = vec![in rt.alloc(); b'a'; 100_000]?;
+    let mut text = TextBuffer::of(rt.alloc(), bytes.as_slice())?;
+    let calls = calls_to_read(&text);
+    assert!(rt; 49 <= calls && calls <= 98);
+    put(&mut text, 50_000, 50_000, bytes.as_slice())?;
+    let calls = calls_to_read(&text);
+    assert!(rt; 98 <= calls && calls <= 196);
+    let mut text = TextBuffer::of(rt.alloc(), b"")?;
+    for _ in 0..10_000 {
+        put(&mut text, 0, 0, b"abcdefghij")?;
+    }
+    let calls = calls_to_read(&text);
+    assert!(rt; 49 <= calls && calls <= 500);
     Ok(())
 }

@@ -1,4 +1,5 @@
-//! Tests of texts that are edited: tables of pieces and text buffers that change again and again, also where memory runs out.
+//! Tests of texts that are edited: tables of pieces and text buffers that change again and again, also with failing
+//! allocation.
 #![tactic(auto)]
 
 #[cfg(test)]

@@ -8,7 +8,7 @@ use std::alloc::{AllocError, Allocator};
 use std::process::Abort;
 use std::test::Fail;
 
-// One byte becomes two, in at most eight steps, whatever the table.
+// Replaces one byte by two, in at most eight steps, whatever the table.
 fn put_two<A: Allocator + Copy>(
     table: &mut PieceTable<A>,
     place: u32,
@@ -46,7 +46,8 @@ fn a_table_has_a_million_bytes(rt: HostRuntime) -> Result<(), Fail> {
     Ok(())
 }
 
-// So many characters of two bytes take the place of some bytes of a table of ten thousand, whose pieces are then those that std finds.
+// Replaces some bytes of a table of ten thousand by `count` characters of two bytes; the pieces are then
+// those that std finds.
 fn takes_many<A: Allocator + Copy>(
     rt: &impl Abort,
     alloc: A,
@@ -84,7 +85,7 @@ fn are_those_of_std<A: Allocator + Copy>(rt: &impl Abort, table: &PieceTable<A>,
     }
 }
 
-// Memory is there, and no number of bytes is too many for it.
+// There is enough memory, and no count is too large.
 #[test]
 fn many_bytes_are_replaced_by_many(rt: HostRuntime) -> Result<(), Fail> {
     for count in [0, 1, 2_047, 2_048, 2_049, 32_767, 32_768, 500_000] {
@@ -101,7 +102,7 @@ fn many_bytes_are_replaced_by_many(rt: HostRuntime) -> Result<(), Fail> {
     Ok(())
 }
 
-// One replacement after another leaves what a table made anew of the bytes has.
+// A series of replacements leaves what a table made anew of the bytes has.
 #[test]
 fn replacements_follow_each_other(rt: HostRuntime) -> Result<(), Fail> {
     let mut table = PieceTable::new(rt.alloc(), b"\xf0\x9f\x92\xa3a\xc3\xa9\xe2\x82\xac")?;

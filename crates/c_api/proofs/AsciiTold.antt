@@ -1,4 +1,4 @@
--- What ASCII characters are to a decoder, and the marks of characters.
+-- The decoder's result for ASCII characters, and the marks of characters.
 use Rattle.std.proofs.Common.{◌≡◌, ℕ, ◌<◌, ◌≤◌, get_or, map, refl, arith, ◌∙◌, ap}
 use Rattle.std.proofs.lemmas.List.FromFn.{get_or-map-range_with_len}
 use Rattle.std.specs.List.{range_with_len}

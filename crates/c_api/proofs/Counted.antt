@@ -1,4 +1,4 @@
--- How many faults a call replaced, and what the struct has counted then.
+-- The number of faults that a call replaced, and the count in the struct after it.
 use Rattle.std.proofs.Common.{◌≡◌, ℕ, ◌+◌, List, subst, sym}
 use Rattle.cuts.specs.Recoded.{Recoding}
 use Rattle.cuts.specs.Faults.{Replaces, ReplacesLast, saturated}
@@ -6,11 +6,11 @@ use Rattle.cuts.specs.Rooms.{FinishesInto}
 use Rattle.c_api.specs.declared.recodings.NodyRecoder.{NodyRecoder}
 use Rattle.c_api.specs.Api.{recoder_of, CountsPart, CountsEnd}
 
--- What ends into room does not depend on what was counted.
+-- Finishing into a buffer does not depend on the count.
 pub FinishesInto-counted : (r s t : Recoding) (old new : List ℕ) (wrote : ℕ) {n : ℕ} → FinishesInto r old new wrote s → t ≡ record s { replaced = n } → FinishesInto r old new wrote t
 FinishesInto-counted r s t old new wrote f e = rw e (record { leaves = f.leaves; from = f.from; to = f.to; few = f.few; fits = f.fits })
 
--- The struct was opened as a recoder, which a call changed and which was kept.
+-- The struct was opened as a recoder, which a call changed and which was stored back.
 module _ (r kept : NodyRecoder) (opened inner : Recoding) (n total : ℕ) (was : opened ≡ recoder_of r) (is : recoder_of kept ≡ record inner { replaced = 0 })
     (sum : total ≡ saturated (r.replaced + n)) where
   pub part_counted : (part : List ℕ) → Replaces opened part n inner → CountsPart r part (record kept { replaced = total })

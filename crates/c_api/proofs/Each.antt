@@ -7,13 +7,13 @@ use borrow.Rule.Slice.PartMut.{put_mid, same_len_mid}
 use Rattle.c_api.specs.Api.{GivesPiece, GivesEach, after}
 use Rattle.c_api.specs.declared.piece.NodyPiece.{NodyPiece}
 
--- pieces, and then those of what they leave
+-- pieces, and then the pieces of the rest
 pub each_join : (piece : List ℕ → NodyPiece) (xs ys zs : List ℕ) (ps qs : List NodyPiece) → GivesEach piece xs ps ys
     → GivesEach piece ys qs zs → GivesEach piece xs (ps ++ qs) zs
 each_join piece xs ys zs [] qs e more = subst (λ b. GivesEach piece b qs zs) e more
 each_join piece xs ys zs (p ∷ ps) qs (first, known, rest) more = (first, known, each_join piece (after xs p) ys zs ps qs rest more)
 
--- the same of one piece more
+-- pieces, and then one more
 pub each_append : (piece : List ℕ → NodyPiece) (xs ys : List ℕ) (ps : List NodyPiece) (x : NodyPiece) → GivesEach piece xs ps ys
     → 0 < length ys → x ≡ piece ys → GivesEach piece xs (ps ++ x ∷ []) (after ys x)
 each_append piece xs ys ps x before some is = each_join piece xs ys (after ys x) ps (x ∷ []) before (some, is, refl)
@@ -23,7 +23,7 @@ pub some_left : (piece : List ℕ → NodyPiece) (xs ys : List ℕ) (x : NodyPie
 some_left piece xs ys x g some =
     ⊎_elim (λ (lt : 0 < length xs). lt) (λ (le : length xs ≤ 0). let n = (g.none (omega arith)).0 in omega (arith, ap (λ p. p.len) n)) (cases_lt 0 (length xs))
 
--- what was put into a room so far, which had other pieces first
+-- the pieces that were put into an array so far, after other pieces
 abbrev pub Filled : (List ℕ → NodyPiece) → List ℕ → List ℕ → List NodyPiece → List NodyPiece → ℕ → Type 0
 Filled piece xs ys first room n = record {
   within : n ≤ length first;
@@ -32,7 +32,7 @@ Filled piece xs ys first room n = record {
   rest : drop n room ≡ drop n first;
 }
 
--- one piece more, in the next place of the room
+-- one more piece, at the next index of the array
 pub fills_on : (piece : List ℕ → NodyPiece) (xs ys : List ℕ) {zs : List ℕ} {x : NodyPiece} (first room : List NodyPiece) (n : ℕ)
     → Filled piece xs ys first room n → n < length room → 0 < length ys → x ≡ piece ys → zs ≡ after ys x → Filled piece xs zs first (set room n x) (n + 1)
 fills_on piece xs ys {x = x} first room n before lt some is leaves =
@@ -47,7 +47,7 @@ fills_on piece xs ys {x = x} first room n before lt some is leaves =
       rest = drop-set-lt (n + 1) room n x (omega arith) ∙ sym (drop-drop 1 n room) ∙ ap (drop 1) before.rest ∙ drop-drop 1 n first;
     }
 
--- more pieces, which a part of the room holds
+-- more pieces, as many as a part of the array holds
 pub fills_more : (piece : List ℕ → NodyPiece) (xs ys zs : List ℕ) (first room part : List NodyPiece) (n k : ℕ)
     → Filled piece xs ys first room n → n + k ≤ length first → length part ≡ k → GivesEach piece ys part zs
     → Filled piece xs zs first (put_mid n k room part) (n + k)

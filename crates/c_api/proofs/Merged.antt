@@ -1,4 +1,4 @@
--- The first answer of a merger, as a function of the bytes, and as a piece of the merged run.
+-- The first result of a merger, as a function of the bytes, and as a piece of the merged run.
 use Rattle.std.proofs.Common.{◌≡◌, ◌<◌, ℕ, List, length, drop, refl, ap, arith, sym, ◌∙◌, Some, Ok, Err, Result, get_or}
 use Rattle.std.proofs.lemmas.List.{get_or-map, length-map}
 use Rattle.utf_base.specs.declared.errors.Utf8ErrorKind.{Utf8ErrorKind}
@@ -11,11 +11,11 @@ use Rattle.encode_unicode.proofs.ForCallers.{stands_first}
 use Rattle.encode_unicode.specs.Mergers.{TakesFront}
 use Rattle.encode_unicode.specs.Window.{Item}
 use Rattle.cuts.specs.Items.{HasKind, piece_of}
-use Rattle.cuts.proofs.ShardEnds.{stands_in_rest}
+use Rattle.cuts.proofs.LastBoundaries.{stands_in_rest}
 use Rattle.c_api.specs.Api.{kind_number, first_merged, merger_answer, piece_for_c, IsMergedPiece}
 use Rattle.c_api.specs.declared.piece.NodyPiece.{NodyPiece}
 
--- where a code begins the bytes it is that scalar
+-- if a code begins the bytes it is that scalar
 merged_code : (w : List ℕ) (s : ℕ) → Stands utf8 w 0 s → merger_answer w ≡ (Ok s, length (utf8 s))
 merged_code w s h =
     let none = merger_none_where_code w s h in
@@ -23,11 +23,11 @@ merged_code w s h =
     let len : asked_by w ≡ length (utf8 s) = (code_where_no_fault w (no_fault_where_code w s h)).1 ∙ ap (λ x. length (utf8 x)) char in
     rw (none, char, len) refl
 
--- else it is the merger's kind
+-- otherwise it is the merger's kind
 merged_kind : (w : List ℕ) (k : Utf8ErrorKind) → merger_kind w ≡ Some k → merger_answer w ≡ (Err k, 1)
 merged_kind w k h = rw h refl
 
--- so a merger that has read nothing answers
+-- a merger that has read nothing returns this
 pub merged_char : (w old new : List ℕ) (s : ℕ) (r : Result ℕ Utf8ErrorKind) → old ≡ w → r ≡ Ok s → TakesFront utf8 merger_kind old (Some r) new → merger_answer w ≡ (Ok s, length (utf8 s))
 merged_char w old new s r all is h =
     let takes : TakesFront utf8 merger_kind w (Some (Ok s)) new = rw (is, all) at h in
@@ -38,7 +38,7 @@ merged_error w old new k r all is h =
     let takes : TakesFront utf8 merger_kind w (Some (Err k)) new = rw (is, all) at h in
     merged_kind w k takes.0
 
--- a piece of the merged run is what a merger answers that begins there
+-- a piece of the merged run is the result of a merger that begins there
 merged_item : (xs : List ℕ) (item : Item) → IsPiece utf8 xs (piece_of item) → HasKind merger_kind xs item → merger_answer (drop item.0 xs) ≡ (item.1, item.2)
 merged_item xs (place, Ok s, n) piece kind = merged_code (drop place xs) s (stands_in_rest utf8 xs place s piece.0) ∙ ap (λ m. (Ok s, m)) (sym piece.1)
 merged_item xs (place, Err k, n) piece kind = merged_kind (drop place xs) k kind ∙ ap (λ m. (Err k, m)) (sym piece.1)

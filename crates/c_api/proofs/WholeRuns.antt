@@ -1,4 +1,4 @@
--- Recoding of a whole input in one call, and in parts that are only counted.
+-- Transcoding of a whole input in one call, and in parts that are only counted.
 use Rattle.std.proofs.Common.{◌≡◌, ℕ, ◌+◌, ◌-◌, ◌<◌, ◌≤◌, ◌^◌, ⊎_elim, List, [], ◌++◌, length, take, drop, min, refl, ap, sym, subst, ◌∙◌, append_assoc, arith, length-append, length-take, length-drop, take-append-drop}
 use Rattle.std.proofs.lemmas.Bool.{cases_lt}
 use Rattle.std.proofs.lemmas.List.{append-nil, take_all, drop-drop}
@@ -18,9 +18,9 @@ use Rattle.recoding.proofs.BoundLemmas.{recoded_bound}
 use Rattle.recoding.proofs.Earliest.{read_are_scalars}
 use Rattle.recoding.proofs.EnoughRoom.{feeds_in_room, finishes_in_room, room_is_left, three_each}
 use Rattle.recoding.proofs.FedParts.{nothing_is_fed, part_is_fed, fed_is_recoded}
-use Rattle.recoding.proofs.Growing.{recoded_once, recoded_nothing}
+use Rattle.recoding.proofs.Growing.{recoded_once}
 
--- room for one output is room for all, since there is no other
+-- capacity for one output is capacity for all, since there is no other
 room_for_one : (from to : Form) (bytes out : List ℕ) (room : ℕ) → IsRecoded from to bytes out → length out ≤ room → HasRoom from to bytes room
 room_for_one from to bytes out room r le other h =
     let once = recoded_once from to bytes in
@@ -31,7 +31,7 @@ longer_where_no_room : (from to : Form) (bytes : List ℕ) (room : ℕ) → (Has
 longer_where_no_room from to bytes room none out r =
     ⊎_elim (λ (lt : room < length out). lt) (λ (le : length out ≤ room). absurd (none (room_for_one from to bytes out room r le))) (cases_lt room (length out))
 
--- A room that was full before all was read.
+-- An output that was full before all was read.
 module _ (from to : Form) (s : Recoding) (bytes old new : List ℕ) (read wrote : ℕ) (f : FeedsInto (fresh from to) bytes old new read wrote s) where
   pub longer_where_full : length new ≡ length old → IsFull s bytes read (length old - wrote) → IsLongerThan from to bytes (length old)
   longer_where_full same full = longer_where_no_room from to bytes (length old) (λ room. feeds_in_room (fresh from to) s bytes old new read wrote f same room full)
@@ -49,7 +49,7 @@ module _ (from to : Form) (s : Recoding) (bytes old new : List ℕ) (read wrote 
         same ∙ ap (λ xs. xs ++ tail.0) (sym once.grows.appended) ∙ ap (λ xs. take wrote new ++ xs) tail.1.2,
       )
 
-  -- And where all was read.
+  -- An output that was not full before all was read.
   module _ (t : Recoding) (rest after : List ℕ) (last : ℕ) (all : read ≡ length bytes) (g : FinishesInto s rest after last t) where
     fed_all : IsFed from to bytes (take wrote new) s
     fed_all = let whole : take read bytes ≡ bytes = take_all read bytes (omega arith) in record { once = rw whole at (f.feeds []) }
@@ -83,7 +83,7 @@ module _ (from to : Form) (s : Recoding) (bytes old new : List ℕ) (read wrote 
         same ∙ ap (λ xs. xs ++ (take last after ++ tail.0)) (sym once.grows.appended) ∙ sym (append_assoc (take wrote new) (take last after) tail.0) in
         (tail.1.0, read_are_scalars from t.held tail.1.0 tail.1.1, joined ∙ ap (λ xs. (take wrote new ++ take last after) ++ xs) tail.1.2)
 
--- Bytes that are fed in parts, of which only the number of bytes that come is kept.
+-- Bytes that are fed in parts, of which only the length of the output is kept.
 
 pub record CountsTo (from to : Form) (bytes : List ℕ) (place count : ℕ) (r : Recoding) : Type 0 where
   pub within : place ≤ length bytes
@@ -100,7 +100,7 @@ room_for_few from to bytes room le out r =
     let few = three_each from to (length bytes) in
     omega arith
 
--- ample room for what is held and fed is never full
+-- ample capacity for what is carried over and fed is never exhausted
 pub part_has_room : (r s : Recoding) (part room new : List ℕ) (read wrote : ℕ) → FeedsInto r part room new read wrote s → length new ≡ length room
     → IsAmpleFor (length room) r part → IsFull s part read (length room - wrote) → ⊥
 part_has_room r s part room new read wrote f same le full =
@@ -109,16 +109,6 @@ part_has_room r s part room new read wrote f same le full =
 pub end_has_room : (r s : Recoding) (room new : List ℕ) (wrote : ℕ) → FinishesInto r room new wrote s → length new ≡ length room
     → IsAmple (length room) (length r.held) → IsLastFull s (length room - wrote) → ⊥
 end_has_room r s room new wrote f same le full = finishes_in_room r s room new wrote f same (room_for_few r.from r.to r.held (length room) le) full
-
--- where nothing is held any more, all is finished
-pub finished : (r s : Recoding) (room new : List ℕ) (wrote : ℕ) → FinishesInto r room new wrote s → s.held ≡ [] → (out : List ℕ) → Finishes r out (out ++ take wrote new)
-finished r s room new wrote f none out =
-    let nothing : IsRecoded r.from r.to s.held [] = subst (λ xs. IsRecoded r.from r.to xs []) (sym none) (recoded_nothing r.from r.to) in
-    record {
-      grown = take wrote new;
-      appended = refl;
-      recoded = rw (append-nil (take wrote new)) at (f.leaves [] nothing);
-    }
 
 pub none_held : (r : NodyRecoder) → r.count ≡ 0 → take r.count r.held ≡ []
 none_held r e = ap (λ n. take n r.held) e
@@ -171,7 +161,7 @@ longer_front bytes place end le within =
 pub length_part : (bytes : List ℕ) (place end : ℕ) → end ≤ length bytes → length (slice_range bytes place end) ≡ end - place
 length_part bytes place end le = omega (arith, length-take (end - place) (drop place bytes), length-drop place bytes)
 
--- the room after its rest, from a place on, was written
+-- the output after its rest, from an offset on, was written
 module _ {X : Type 0} (room rest : List X) (place wrote : ℕ) (le : place ≤ length room) (same : length rest ≡ length room - place) where
   put_rest : put_mid place (length room - place) room rest ≡ take place room ++ rest
   put_rest =

@@ -1,4 +1,4 @@
--- Recoding of a whole input in one call, up to its first fault.
+-- Transcoding of a whole input in one call, up to its first fault.
 use Rattle.std.proofs.Common.{◌≡◌, ℕ, ◌+◌, ◌-◌, ◌<◌, ◌≤◌, List, ◌++◌, length, take, drop, refl, ap, ap₂, sym, subst, ◌∙◌, append_assoc, arith, length-append, length-drop, length-take}
 use Rattle.std.proofs.lemmas.List.{append-nil}
 use Rattle.std.proofs.Math.Seq.{drop-append_seam, take-append_seam}
@@ -16,7 +16,7 @@ use Rattle.recoding.proofs.StrictSteps.{EndsInFault-of, enough_room}
 use Rattle.recoding.proofs.RoomRuns.{few_written}
 use Rattle.recoding.proofs.TextRuns.{Transcodes-then}
 
--- What a call recoded, and why it ended.
+-- The bytes that a call transcoded, and why it ended.
 RecodesStrictly-of : (from to : Form) (bytes old new text left : List ℕ) (read wrote : ℕ) (o : Outcome) → bytes ≡ text ++ left → Transcodes from to text (take wrote new) → wrote ≤ length old → read ≡ length text
     → EndsWhole from to o left (length old - wrote) → RecodesStrictly from to bytes old new (record { read = read; written = wrote; outcome = o })
 RecodesStrictly-of from to bytes old new text left read wrote o parts made fits len ends =
@@ -58,7 +58,7 @@ module _ (from to : Form) (s : Recoding) (bytes old new : List ℕ) (p : StrictP
   pub fed_whole : (p.outcome ≡ AllRead → ⊥) → RecodesStrictly from to bytes old new (record { read = p.read - unrecoded p.outcome (length s.held); written = p.written; outcome = fault_unread p.outcome })
   fed_whole not = fed_by p.outcome not f.ends
 
-  -- All was read, and what was held then was finished in the room that was left.
+  -- All was read, and the carried-over bytes were finished in the rest of the buffer.
   module _ (all : p.outcome ≡ AllRead) (same : length new ≡ length old) (t : Recoding) (ended : List ℕ) (q : StrictProgress) (g : FinishesStrictly s (drop p.written new) ended q t)
       (len : length ended ≡ length new - p.written) where
     abbrev pub both : List ℕ
@@ -123,7 +123,7 @@ module _ (from to : Form) (s : Recoding) (bytes old new : List ℕ) (p : StrictP
     pub finished_whole : RecodesStrictly from to bytes old both (record { read = p.read - unrecoded q.outcome (length t.held); written = p.written + q.written; outcome = fault_unread q.outcome })
     finished_whole = finished_by q.outcome (rw (f.from, f.to, left_room) at g.ends)
 
--- What callers have of it.
+-- The result for callers.
 
 pub all_is_read : (from to : Form) (bytes old new : List ℕ) (p : StrictProgress) → RecodesStrictly from to bytes old new p → p.outcome ≡ AllRead → p.read ≡ length bytes
 all_is_read from to bytes old new p f e =

@@ -1,4 +1,4 @@
--- What C sees: numbers of kinds and forms, pieces, what is left, and recoders.
+-- What C sees: numbers of kinds and encodings, pieces, cursors, and recoders.
 use Rattle.std.specs.Option.{unwrap_or}
 use Rattle.std.specs.Prelude.{◌≡◌, ℕ, zero, suc, ◌+◌, ◌-◌, ◌<◌, ◌≤◌, List, [], ◌∷◌, length, take, drop, set, get_or, All, Result, Ok, Err, ◌++◌, codes, replicate, option_map, slice_get}
 use Rattle.utf_base.specs.declared.errors.Utf8ErrorKind.{Utf8ErrorKind}
@@ -51,7 +51,7 @@ abbrev pub piece_for_c : {E : Type 0} → (E → ℕ) → Result ℕ E × ℕ �
 piece_for_c number (Ok s, n) = record { len = n; scalar = s; kind = 0 }
 piece_for_c number (Err e, n) = record { len = n; scalar = 0; kind = number e }
 
--- that nothing is left
+-- the piece that says that nothing is left
 abbrev pub no_piece : NodyPiece
 no_piece = record { len = 0; scalar = 0; kind = 11 }
 
@@ -68,15 +68,15 @@ first_of_units xs = piece_for_c pair_number (as_piece (decoded_pairs xs))
 abbrev pub last_of_units : List ℕ → NodyPiece
 last_of_units xs = piece_for_c pair_number (as_piece (decoded_pairs_end xs))
 
--- what a reader of one byte at a time answers first: the scalar whose code begins the bytes, with the code's length, else
--- the kind that a merger names
+-- the first result of a reader of one byte at a time: the scalar whose code begins the bytes, with the code's
+-- length, otherwise the kind that a merger gives
 abbrev pub merger_answer : List ℕ → Result ℕ Utf8ErrorKind × ℕ
 merger_answer w = as_piece (unless_fault (merger_kind w) (value w, asked_by w))
 
 abbrev pub first_merged : List ℕ → NodyPiece
 first_merged w = piece_for_c kind_number (merger_answer w)
 
--- each piece of the merged run over the bytes that begins at the place is this one
+-- each piece of the merged run over the bytes that begins at the offset is this one
 abbrev pub IsMergedPiece : List ℕ → ℕ → NodyPiece → Type 0
 IsMergedPiece xs place x = (items : List Item) → IsRun utf8 merger_kind xs items → All (λ item. item.0 ≡ place → x ≡ piece_for_c kind_number (item.1, item.2)) items
 
@@ -94,14 +94,15 @@ after xs x = drop x.len xs
 abbrev pub before : List ℕ → NodyPiece → List ℕ
 before xs x = take (length xs - x.len) xs
 
--- One call on what is left: the piece at its end, which leaves it. Where nothing is left nothing changes.
+-- One call on a cursor: it returns the piece at an end of what is left, and removes it. If nothing is left
+-- nothing changes.
 pub record GivesPiece (piece : List ℕ → NodyPiece) (left : List ℕ → NodyPiece → List ℕ) (xs : List ℕ) (x : NodyPiece) (ys : List ℕ) : Type 0 where
   pub some : 0 < length xs → x ≡ piece xs
   pub leaves : 0 < length xs → ys ≡ left xs x
   pub least : 0 < length xs → (1 ≤ x.len) × (x.len ≤ length xs)
   pub none : length xs ≡ 0 → (x ≡ no_piece) × (ys ≡ xs)
 
--- These pieces begin what is left, one after another, and then that is left.
+-- Given pieces begin what was left of a cursor, one after another, and then the rest is left.
 abbrev pub GivesEach : (List ℕ → NodyPiece) → List ℕ → List NodyPiece → List ℕ → Type 0
 GivesEach piece xs [] ys = ys ≡ xs
 GivesEach piece xs (x ∷ ps) ys = (0 < length xs) × (x ≡ piece xs) × GivesEach piece (after xs x) ps ys
@@ -110,7 +111,8 @@ GivesEach piece xs (x ∷ ps) ys = (0 < length xs) × (x ≡ piece xs) × GivesE
 abbrev pub ascii_piece_of : ℕ → NodyPiece
 ascii_piece_of byte = record { len = 1; scalar = byte; kind = 0 }
 
--- The piece that begins the bytes was put in a place of the room, and is so long; of no bytes nothing was put.
+-- The piece that begins the bytes was written to an index of the array, and this is its length; for no bytes
+-- nothing was written.
 pub record IsPut (xs : List ℕ) (old : List NodyPiece) (place n : ℕ) (new : List NodyPiece) : Type 0 where
   pub some : 0 < length xs → new ≡ set old place (first_piece_of xs)
   pub leaves : 0 < length xs → drop n xs ≡ after xs (first_piece_of xs)
@@ -118,17 +120,17 @@ pub record IsPut (xs : List ℕ) (old : List NodyPiece) (place n : ℕ) (new : L
   pub most : n ≤ length xs
   pub none : length xs ≡ 0 → new ≡ old
 
--- the number is that of a form, of which there are three
+-- the number is that of an encoding, of which there are three
 abbrev pub IsForm : ℕ → Type 0
 IsForm number = number < 3
 
--- that form
+-- the encoding with that number
 abbrev pub form_of : ℕ → Form
 form_of zero = Utf8
 form_of (suc zero) = Utf16Le
 form_of (suc (suc n)) = Utf16Be
 
--- What holds of the form, or of both, where the numbers are those of forms.
+-- What holds for the encoding, or for both, if the numbers are those of encodings.
 abbrev pub IfForm : ℕ → (Form → Type 0) → Type 0
 IfForm number holds = IsForm number → holds (form_of number)
 
@@ -141,23 +143,23 @@ pub record IsRecoder (r : NodyRecoder) : Type 0 where
   pub to : IsForm r.to
   pub few : r.count ≤ most_held
 
--- the bytes that it holds
+-- the bytes that it carries over
 abbrev pub held_by : NodyRecoder → List ℕ
 held_by r = take r.count r.held
 
--- the recoder that it is; what it has replaced is counted in the struct alone
+-- the recoder that the struct is; what it has replaced is counted only in the struct
 abbrev pub recoder_of : NodyRecoder → Recoding
 recoder_of r = record { from = form_of r.from; to = form_of r.to; held = held_by r; replaced = 0 }
 
--- what holds of the recoders that the struct was and is, where it was one
+-- what holds for the recoders that the struct was and is, if it was one
 abbrev pub IfRecoder : NodyRecoder → NodyRecoder → (Recoding → Recoding → Type 0) → Type 0
 IfRecoder old new holds = IsRecoder old → holds (recoder_of old) (recoder_of new)
 
--- A part was fed and so many faults were replaced, which are added to those before.
+-- A part was fed, and the number of faults that were replaced is added to the count.
 abbrev pub CountsPart : NodyRecoder → List ℕ → NodyRecoder → Type 0
 CountsPart r part s = (n : ℕ) × Replaces (recoder_of r) part n (recoder_of s) × (s.replaced ≡ saturated (r.replaced + n))
 
--- The same of the end.
+-- The recoder was finished, and the number of faults that were replaced is added to the count.
 abbrev pub CountsEnd : NodyRecoder → NodyRecoder → Type 0
 CountsEnd r s = (n : ℕ) × ReplacesLast (recoder_of r) n (recoder_of s) × (s.replaced ≡ saturated (r.replaced + n))
 
@@ -173,7 +175,7 @@ told AllRead = (0, no_fault)
 told Full = (1, no_fault)
 told (Faulty f) = (3, fault_as f)
 
--- A strict call, as C sees it: what the call did, with the outcome that is told so.
+-- A strict call, as C sees it: what the call did, with the outcome that corresponds to status and fault.
 pub record TellsOutcome (run : StrictProgress → Type 0) (read wrote status : ℕ) (fault : NodyFault) : Type 0 where
   pub outcome : Outcome
   pub ran : run (record { read = read; written = wrote; outcome = outcome })
@@ -217,7 +219,7 @@ sentence_at =
 abbrev pub sentence_of : ℕ → List ℕ
 sentence_of kind = get_or sentence_at kind []
 
--- the place where the item with that number stands, or the length of all where there are no more
+-- the offset of the item with that number, or the length of all if there are no more
 abbrev pub IsOffsetOf : {E : Type 0} → List (Placed E) → ℕ → ℕ → ℕ → Type 0
 IsOffsetOf items len number n = n ≡ unwrap_or (option_map (λ x. x.0) (slice_get items number)) len
 

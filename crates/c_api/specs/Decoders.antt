@@ -10,7 +10,7 @@ use Rattle.c_api.specs.declared.decoders.NodyLocated.{NodyLocated}
 use Rattle.c_api.specs.declared.decoders.NodyMark.{NodyMark}
 use Rattle.c_api.specs.declared.decoders.NodyTold.{NodyTold}
 
--- the mark of a character of so many bytes
+-- the mark of a character of that length
 abbrev pub character_mark_of : ℕ → NodyMark
 character_mark_of n = record { len = n; kind = 0; rest = 0 }
 
@@ -26,7 +26,7 @@ mark_for_c (Err k) n = record { len = n; kind = fault_number k; rest = 0 }
 abbrev pub located_for_c : LocatedPiece → NodyLocated
 located_for_c p = record { offset = p.offset; scalar = scalar_for_c p.answer; mark = mark_for_c p.answer p.len }
 
--- what an ASCII character is
+-- the scalar and mark of an ASCII character
 abbrev pub ascii_told_of : ℕ → NodyTold
 ascii_told_of byte = record { scalar = byte; mark = character_mark_of 1 }
 
@@ -39,6 +39,6 @@ pub record IsDecoder (d : NodyDecoder) : Type 0 where
 abbrev pub decoder_of : NodyDecoder → Decoding
 decoder_of d = record { form = form_of d.form; held = take d.count d.held; offset = d.offset }
 
--- what holds of the decoders that the struct was and is, where it was one
+-- what holds for the decoders that the struct was and is, if it was one
 abbrev pub IfDecoder : NodyDecoder → NodyDecoder → (Decoding → Decoding → Type 0) → Type 0
 IfDecoder old new holds = IsDecoder old → holds (decoder_of old) (decoder_of new)

@@ -1,4 +1,4 @@
-//! The pieces of ASCII characters, each from a table: one load and one store, where to make it takes three stores.
+//! The pieces of ASCII characters, each from a table: one load and one store, instead of three stores to build it.
 ghost use Rattle.std.specs.Prelude.{◌≡◌, ◌<◌, ◌≤◌, length, map, take, drop, IsTrue, IsFalse};
 ghost use Rattle.utf_lanes.specs.AsciiTexts.{AreAscii};
 ghost use Rattle.c_api.specs.Api.{ascii_piece_of, first_piece_of, GivesEach};
@@ -6,7 +6,7 @@ ghost use Rattle.c_api.specs.Api.{ascii_piece_of, first_piece_of, GivesEach};
 use crate::piece::NodyPiece;
 use utf_lanes::ascii_texts::is_ascii;
 
-// How many are put at once.
+// The number of pieces that are written in one step.
 const BLOCK: usize = 8;
 
 macro_rules! pieces {
@@ -35,8 +35,8 @@ pub(crate) fn ascii_piece(byte: u8) -> NodyPiece
     PIECES[byte as usize]
 }
 
-// Puts the pieces of the ASCII characters that begin the bytes in the first places of the room, as far as these go in blocks, and
-// answers how many these are.
+// Writes the pieces of the ASCII characters that begin the bytes to the front of the array, as far as whole blocks
+// go, and returns how many there are.
 #[inline(always)]
 pub(crate) fn put_ascii_pieces(bytes: &[u8], room: &mut [NodyPiece]) -> usize
     ensures within { result ≤ length room.old }
@@ -59,7 +59,7 @@ pub(crate) fn put_ascii_pieces(bytes: &[u8], room: &mut [NodyPiece]) -> usize
     count
 }
 
-// Puts the pieces of a block, and answers whether all are ASCII; if not, nothing is put.
+// Writes the pieces of a block if all bytes are ASCII, otherwise nothing; returns whether they are.
 #[inline(always)]
 fn put_block(bytes: &[u8], room: &mut [NodyPiece]) -> bool
     requires bytes { length bytes.now ≡ 8 }

@@ -1,22 +1,22 @@
-//! Where pieces may change after an edit.
+//! The range in which pieces may change after an edit.
 ghost use Rattle.std.specs.Prelude.{◌≡◌, ◌-◌, ◌^◌, length, min};
 ghost use Rattle.cuts.specs.ChangedRanges.{IsChangedRange};
 ghost use Rattle.c_api.specs.Api.{IfForm, IsForm, range_of};
 
 use crate::recodings::form_of;
 
-/// A part of some bytes, as it crosses to C: those from `start` up to `end`, `end` not included.
+/// A range of bytes, as it is passed to C: those from `start` up to `end`, `end` not included.
 #[repr(C)]
 #[derive(Clone, Copy, Drop)]
 pub struct NodyRange {
-    /// Where it begins.
+    /// The offset of the first byte.
     pub start: usize,
-    /// Where it ends.
+    /// The offset after the last byte.
     pub end: usize,
 }
 
-/// The part outside of which no piece changes where the bytes from `start` up to `end` are replaced, or all ones where the form is
-/// none.
+/// The range outside of which no piece changes if the bytes from `start` up to `end` are replaced; `SIZE_MAX` twice
+/// if `form` is not valid.
 #[unsafe(no_mangle)]
 pub extern "C" fn nody_changed_range(form: u8, bytes: &[u8], start: usize, end: usize) -> NodyRange
     ensures range { IfForm form (λ f. IsChangedRange f bytes.now (min start (min end (length bytes.now)))

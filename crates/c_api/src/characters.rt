@@ -1,12 +1,12 @@
-//! The codes of single scalars.
+//! Encoding of single scalars.
 ghost use Rattle.std.specs.Prelude.{◌≡◌, ◌<◌, ◌≤◌, ◌++◌, length, drop};
 ghost use Rattle.utf_base.specs.Code.{utf8, utf16};
 ghost use Rattle.utf_base.specs.Scalar.{IsScalar};
 
 use encode_unicode::{CharExt, Utf8Char, Utf16Char};
 
-/// How many bytes the scalar's code has in UTF-8, 1 to 4, or 0 where the number is no scalar. The code is written where it
-/// fits.
+/// The length of the scalar in UTF-8, 1 to 4 bytes, or 0 if the number is not a scalar. The bytes are written if they
+/// fit.
 #[unsafe(no_mangle)]
 pub extern "C" fn nody_utf8_encode(scalar: u32, room: &mut [u8]) -> usize
     ensures len { IsScalar scalar → result ≡ length (utf8 scalar) }
@@ -27,8 +27,8 @@ pub extern "C" fn nody_utf8_encode(scalar: u32, room: &mut [u8]) -> usize
     c.len()
 }
 
-/// How many units the scalar's code has in UTF-16, 1 or 2, or 0 where the number is no scalar. The code is written where it
-/// fits.
+/// The length of the scalar in UTF-16, 1 or 2 units, or 0 if the number is not a scalar. The units are written if
+/// they fit.
 #[unsafe(no_mangle)]
 pub extern "C" fn nody_utf16_encode(scalar: u32, room: &mut [u16]) -> usize
     ensures len { IsScalar scalar → result ≡ length (utf16 scalar) }

@@ -1,4 +1,4 @@
-//! Single pieces, what is left of bytes and units, and runs of pieces into an array.
+//! Single pieces, cursors over bytes and units, and runs of pieces into an array.
 ghost use Rattle.std.specs.Prelude.{◌≡◌, ◌<◌, ◌≤◌, length, take, drop, IfSome, Ok};
 ghost use Rattle.utf_base.specs.Decoded.{decoded};
 ghost use Rattle.utf_base.specs.Front.{IsFrontLen};
@@ -11,7 +11,7 @@ use cuts::front_of_text;
 use encode_unicode::CharExt;
 use encode_unicode::iterator::{Utf8CharDecoder, Utf8CharMerger, Utf16CharDecoder};
 
-/// What is left of some bytes.
+/// A cursor over bytes: those that are left.
 #[repr(C)]
 #[derive(Clone, Copy, Drop)]
 pub struct NodyBytes<'a> {
@@ -19,7 +19,7 @@ pub struct NodyBytes<'a> {
     pub bytes: &'a [u8],
 }
 
-/// What is left of some units.
+/// A cursor over units: those that are left.
 #[repr(C)]
 #[derive(Clone, Copy, Drop)]
 pub struct NodyUnits<'a> {
@@ -34,7 +34,7 @@ fn none() -> NodyPiece
     fault_piece(0, 11)
 }
 
-// What is wrong with so many bytes or units.
+// The piece for a fault of that length.
 #[inline(always)]
 fn fault_piece(len: usize, kind: u8) -> NodyPiece
     ensures { result ≡ record { len = len; scalar = 0; kind = kind } }
@@ -46,7 +46,7 @@ fn fault_piece(len: usize, kind: u8) -> NodyPiece
     }
 }
 
-// A character that has so many bytes or units.
+// The piece for a character of that length.
 #[inline(always)]
 fn character_piece(c: char, len: usize) -> NodyPiece
     ensures { result ≡ record { len = len; scalar = c; kind = 0 } }
@@ -58,7 +58,7 @@ fn character_piece(c: char, len: usize) -> NodyPiece
     }
 }
 
-// The same piece, as one that no other function has written: so it crosses in registers.
+// A copy of the piece as a new value, which the compiler passes in registers.
 #[inline(always)]
 fn anew(piece: NodyPiece) -> NodyPiece
     ensures { result ≡ piece }
@@ -70,7 +70,7 @@ fn anew(piece: NodyPiece) -> NodyPiece
     }
 }
 
-// The piece that begins the bytes: that of text first, since most bytes are some.
+// The piece that begins the bytes: text is tried first, since most input is well-formed.
 #[inline(always)]
 #[tactic(auto, using(utf_base::proofs::DecodedLemmas::decoded_code, utf_base::proofs::DecodedLemmas::front_len_utf8))]
 fn first(bytes: &[u8]) -> NodyPiece
@@ -82,7 +82,7 @@ fn first(bytes: &[u8]) -> NodyPiece
     }
 }
 
-// The same of bytes that may be anything, copied whole to where the answer goes: so the compiler sees that all of that place is
+// The piece that begins any bytes, copied whole into the result: so the compiler sees that the whole result is
 // written, and no caller clears it before.
 #[cold]
 #[inline(never)]
@@ -92,7 +92,7 @@ fn first_copied(bytes: &[u8]) -> NodyPiece
     first_with_care(bytes)
 }
 
-// The same, written by parts.
+// The piece that begins any bytes, written field by field.
 #[cold]
 #[inline(never)]
 fn first_with_care(bytes: &[u8]) -> NodyPiece
@@ -143,7 +143,7 @@ fn last_unit(units: &[u16]) -> NodyPiece
     }
 }
 
-/// The piece that begins the bytes that are left, which then leaves them.
+/// Returns the piece that begins the bytes of the cursor, and removes it.
 #[unsafe(no_mangle)]
 #[tactic(auto, using(utf_base::proofs::DecodedLemmas::decoded_code, utf_base::proofs::DecodedLemmas::front_len_utf8))]
 pub extern "C" fn nody_utf8_next(left: &mut NodyBytes<'_>) -> NodyPiece
@@ -158,7 +158,7 @@ pub extern "C" fn nody_utf8_next(left: &mut NodyBytes<'_>) -> NodyPiece
     }
 }
 
-// The same of bytes that may be anything.
+// Returns the piece that begins any bytes of the cursor, and removes it.
 #[cold]
 #[inline(never)]
 fn next_with_care(left: &mut NodyBytes<'_>) -> NodyPiece
@@ -169,7 +169,7 @@ fn next_with_care(left: &mut NodyBytes<'_>) -> NodyPiece
     piece
 }
 
-/// The piece that ends the bytes that are left, which then leaves them.
+/// Returns the piece that ends the bytes of the cursor, and removes it.
 #[unsafe(no_mangle)]
 pub extern "C" fn nody_utf8_next_back(left: &mut NodyBytes<'_>) -> NodyPiece
     ensures { GivesPiece last_piece_of before left.old.bytes.now result left.new.bytes.now }
@@ -179,7 +179,7 @@ pub extern "C" fn nody_utf8_next_back(left: &mut NodyBytes<'_>) -> NodyPiece
     piece
 }
 
-/// The piece that begins the units that are left, which then leaves them.
+/// Returns the piece that begins the units of the cursor, and removes it.
 #[unsafe(no_mangle)]
 pub extern "C" fn nody_utf16_next(left: &mut NodyUnits<'_>) -> NodyPiece
     ensures { GivesPiece first_of_units after left.old.units.now result left.new.units.now }
@@ -189,7 +189,7 @@ pub extern "C" fn nody_utf16_next(left: &mut NodyUnits<'_>) -> NodyPiece
     piece
 }
 
-/// The piece that ends the units that are left, which then leaves them.
+/// Returns the piece that ends the units of the cursor, and removes it.
 #[unsafe(no_mangle)]
 pub extern "C" fn nody_utf16_next_back(left: &mut NodyUnits<'_>) -> NodyPiece
     ensures { GivesPiece last_of_units before left.old.units.now result left.new.units.now }
@@ -199,7 +199,7 @@ pub extern "C" fn nody_utf16_next_back(left: &mut NodyUnits<'_>) -> NodyPiece
     piece
 }
 
-// The first answer of a merger over the bytes.
+// The first result of a merger over the bytes.
 fn streaming_piece(bytes: &[u8]) -> NodyPiece
     requires { 0 < length bytes.now }
     ensures { result ≡ first_merged bytes.now }
@@ -215,7 +215,7 @@ fn streaming_piece(bytes: &[u8]) -> NodyPiece
     }
 }
 
-/// The piece of bytes that begins at a place, as a reader of one byte at a time names it.
+/// The piece of bytes that begins at an offset, as a reader of one byte at a time names it.
 #[unsafe(no_mangle)]
 pub extern "C" fn nody_utf8_streamed_at(bytes: &[u8], place: usize) -> NodyPiece
     ensures some { place < length bytes.now → result ≡ first_merged (drop place bytes.now) }
@@ -229,7 +229,7 @@ pub extern "C" fn nody_utf8_streamed_at(bytes: &[u8], place: usize) -> NodyPiece
     }
 }
 
-/// The character that begins some bytes, or what is wrong with the first of them.
+/// The character that begins some bytes, or the fault that their first byte is.
 #[unsafe(no_mangle)]
 pub extern "C" fn nody_utf8_first(bytes: &[u8]) -> NodyPiece
     ensures some { 0 < length bytes.now → result ≡ first_piece_of bytes.now }
@@ -238,7 +238,7 @@ pub extern "C" fn nody_utf8_first(bytes: &[u8]) -> NodyPiece
     first(bytes)
 }
 
-/// The character that ends some bytes, or what is wrong with the last of them.
+/// The character that ends some bytes, or the fault that their last byte is.
 #[unsafe(no_mangle)]
 pub extern "C" fn nody_utf8_last(bytes: &[u8]) -> NodyPiece
     ensures some { 0 < length bytes.now → result ≡ last_piece_of bytes.now }
@@ -247,7 +247,7 @@ pub extern "C" fn nody_utf8_last(bytes: &[u8]) -> NodyPiece
     last(bytes)
 }
 
-/// The character that begins some units, or what is wrong with the first of them.
+/// The character that begins some units, or the fault that their first unit is.
 #[unsafe(no_mangle)]
 pub extern "C" fn nody_utf16_first(units: &[u16]) -> NodyPiece
     ensures some { 0 < length units.now → result ≡ first_of_units units.now }
@@ -256,7 +256,7 @@ pub extern "C" fn nody_utf16_first(units: &[u16]) -> NodyPiece
     first_unit(units)
 }
 
-/// The character that ends some units, or what is wrong with the last of them.
+/// The character that ends some units, or the fault that their last unit is.
 #[unsafe(no_mangle)]
 pub extern "C" fn nody_utf16_last(units: &[u16]) -> NodyPiece
     ensures some { 0 < length units.now → result ≡ last_of_units units.now }
@@ -265,7 +265,8 @@ pub extern "C" fn nody_utf16_last(units: &[u16]) -> NodyPiece
     last_unit(units)
 }
 
-// Puts the piece that begins the bytes in a place of the room, and answers its length: 0 where there is none.
+// Writes the piece that begins the bytes to an index of the array, and returns its length: 0 if there is
+// none.
 #[inline(always)]
 #[tactic(auto, using(utf_base::proofs::DecodedLemmas::decoded_code, utf_base::proofs::DecodedLemmas::front_len_utf8))]
 fn put_first_piece(bytes: &[u8], room: &mut [NodyPiece], place: usize) -> usize
@@ -281,7 +282,8 @@ fn put_first_piece(bytes: &[u8], room: &mut [NodyPiece], place: usize) -> usize
     }
 }
 
-// The same of bytes that may be anything.
+// Writes the piece that begins any bytes to an index of the array, and returns its length: 0 if there is
+// none.
 #[cold]
 #[inline(never)]
 fn put_with_care(bytes: &[u8], room: &mut [NodyPiece], place: usize) -> usize
@@ -295,7 +297,7 @@ fn put_with_care(bytes: &[u8], room: &mut [NodyPiece], place: usize) -> usize
     piece.len
 }
 
-// The character that begins the bytes, by no more than four of them: so no length is tested.
+// The character that begins the bytes, decoded from at least four of them: so no length is tested.
 #[inline(always)]
 #[tactic(auto, using(utf_base::proofs::DecodedLemmas::decoded_code, utf_base::proofs::DecodedLemmas::front_len_utf8))]
 fn character_of_four(bytes: &[u8]) -> Option<(char, usize)>
@@ -306,8 +308,9 @@ fn character_of_four(bytes: &[u8]) -> Option<(char, usize)>
     front_of_text(&bytes[..4])
 }
 
-// Puts the characters that begin the bytes in the first places of the room, up to what is none, and answers how many these are
-// and where they end. There are no more than a character for each four bytes: so one count bounds the places and the bytes.
+// Writes the characters at the front of the bytes to the front of the array, up to the first fault, and returns how
+// many there are and the offset where they end. There is at most one character for each four bytes: so one count
+// bounds the indices and the bytes.
 #[inline(never)]
 fn put_characters(bytes: &[u8], room: &mut [NodyPiece]) -> (usize, usize)
     ensures within { result.0 ≤ length room.old }
@@ -331,8 +334,8 @@ fn put_characters(bytes: &[u8], room: &mut [NodyPiece]) -> (usize, usize)
     (count, place)
 }
 
-// Puts the characters that begin the bytes, as far as they go, and first those of ASCII in blocks. Answers how many these are and
-// where they end.
+// Writes the characters at the front of the bytes, ASCII first and in blocks. Returns how many there are and the
+// offset where they end.
 #[inline(always)]
 fn put_text_pieces(bytes: &[u8], room: &mut [NodyPiece]) -> (usize, usize)
     ensures within { result.0 ≤ length room.old }
@@ -345,8 +348,8 @@ fn put_text_pieces(bytes: &[u8], room: &mut [NodyPiece]) -> (usize, usize)
     (ascii + count, ascii + end)
 }
 
-/// Puts into the array the pieces that begin the bytes that are left, one after another, as many as there are or as there
-/// is room for, and answers how many. These then leave the bytes.
+/// Writes the pieces at the front of the cursor to the array, one after another, as many as there are or as fit, and
+/// returns how many. They are removed from the cursor.
 #[unsafe(no_mangle)]
 pub extern "C" fn nody_utf8_pieces(left: &mut NodyBytes<'_>, room: &mut [NodyPiece]) -> usize
     ensures within { result ≤ length room.old }
@@ -369,7 +372,8 @@ pub extern "C" fn nody_utf8_pieces(left: &mut NodyBytes<'_>, room: &mut [NodyPie
     count
 }
 
-/// The same of units.
+/// Writes the pieces at the front of a cursor over units to the array, as many as there are or as fit, and
+/// returns how many. They are removed from the cursor.
 #[unsafe(no_mangle)]
 pub extern "C" fn nody_utf16_pieces(left: &mut NodyUnits<'_>, room: &mut [NodyPiece]) -> usize
     ensures within { result ≤ length room.old }

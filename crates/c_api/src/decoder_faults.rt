@@ -1,36 +1,16 @@
-//! The faults alone of input that comes in parts, each with its offset.
+//! Only the faults of input that comes in parts, each with its offset.
 ghost use Rattle.std.specs.Prelude.{◌≡◌, [], ◌<◌, ◌≤◌, length};
-ghost use Rattle.cuts.specs.Located.{FeedsFaults, FinishesFaults, HasNoPlaceForFault, IsOpen};
+ghost use Rattle.cuts.specs.Located.{FeedsFaults, FinishesFaults, HasNoPlaceForFault, IsKept, IsOpen, faults_alone, first_told};
 ghost use Rattle.c_api.specs.Decoders.{IfDecoder, IsDecoder, decoder_of, located_for_c};
 
-use crate::decoders::{Asked, NodyDecoder, NodyLocated, feed_decoder, finish_decoder, is_decoder};
+use crate::decoders::{NodyDecoder, NodyLocated, feed_decoder, finish_decoder, is_decoder};
 use crate::recodings::REFUSED;
-use cuts::{Decoder, Fed};
+use text_parts::piece_runs::FaultsAlone;
 
-// The faults alone.
-struct FaultsAlone;
-
-impl Asked for FaultsAlone {
-    ghost use Rattle.cuts.specs.Located.{HasNoPlaceForFault, faults_alone};
-
-    ghost kept = { faults_alone };
-
-    ghost has_no_place = { HasNoPlaceForFault };
-
-    #[inline(always)]
-    fn feed(decoder: &mut Decoder, part: &[u8], room: &mut [NodyLocated]) -> Fed {
-        decoder.feed_faults(part, room)
-    }
-
-    #[inline(always)]
-    fn finish(decoder: &mut Decoder, room: &mut [NodyLocated]) -> Fed {
-        decoder.finish_faults(room)
-    }
-}
-
-/// Feeds a part, as far as there is room for its invalid bytes, and answers 0 where all of it was read, 1 where the room is full
-/// before an invalid byte that is known, and 2, with nothing changed, where the struct is no decoder.
+/// Feeds a part, as far as there is capacity for its invalid bytes. Returns 0 if all of it was read; 1 if the array
+/// is full before an invalid byte that is known; 2, with nothing changed, if the struct is not a decoder.
 #[unsafe(no_mangle)]
+#[tactic(auto, using(text_parts::proofs::KeptPieces::fault_where_kept))]
 pub extern "C" fn nody_decoder_feed_faults(
     decoder: &mut NodyDecoder,
     part: &[u8],
@@ -59,8 +39,9 @@ pub extern "C" fn nody_decoder_feed_faults(
     feed_decoder::<FaultsAlone>(decoder, part, room, read, written)
 }
 
-/// Gives the invalid bytes of what is held, which nothing follows, as far as there is room, and answers 0 where nothing is held any
-/// more, 1 where the room is full, and 2, with nothing changed, where the struct is no decoder.
+/// Returns the invalid bytes among the carried-over ones at the end of the input, as far as there is capacity. The
+/// status is 0 if nothing is carried over any more; 1 if the array is full before an invalid byte that is still
+/// carried over; 2, with nothing changed, if the struct is not a decoder.
 #[unsafe(no_mangle)]
 pub extern "C" fn nody_decoder_finish_faults(
     decoder: &mut NodyDecoder,
@@ -73,6 +54,8 @@ pub extern "C" fn nody_decoder_finish_faults(
     ensures all { IsDecoder decoder.old → result ≡ 0 → decoder.new.count ≡ 0 }
     ensures full { IsDecoder decoder.old → result ≡ 1 → written.new ≡ length room.old }
     ensures more { IsDecoder decoder.old → result ≡ 1 → 0 < decoder.new.count }
+    ensures fault { IfDecoder decoder.old decoder.new
+        (λ d e. result ≡ 1 → IsKept faults_alone (first_told e.form e.held)) }
     ensures status { IsDecoder decoder.old → result < 2 }
     ensures refused { result ≡ 2 → (decoder.new ≡ decoder.old) × (room.new ≡ room.old) }
     ensures none { result ≡ 2 → written.new ≡ 0 }

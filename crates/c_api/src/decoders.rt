@@ -1,36 +1,37 @@
 //! The pieces of input that comes in parts, each with its offset.
 ghost use Rattle.std.specs.Prelude.{◌≡◌, true, [], ◌∷◌, ◌<◌, ◌≤◌, length};
-ghost use Rattle.cuts.specs.Located.{FeedsKept, FeedsPieces, FinishesKept, FinishesPieces, HasNoPlace, IsOpen};
+ghost use Rattle.cuts.specs.Located.{FeedsKept, FeedsPieces, FinishesKept, FinishesPieces, HasNoPlace, HasNoPlaceFor, IsKept, IsOpen, first_told};
 ghost use Rattle.c_api.specs.Api.{form_of};
 ghost use Rattle.c_api.specs.Decoders.{IfDecoder, IsDecoder, ascii_told_of, character_mark_of, decoder_of, located_for_c};
 
 use crate::kinds::fault_number_of;
 use crate::recodings::{DONE, FULL, REFUSED, form_of};
-use cuts::{Decoder, FaultKind, Fed, FromPiece};
+use cuts::{Decoder, FaultKind, FromPiece};
+use text_parts::piece_runs::{AllPieces, Kept};
 
-/// A decoder, which the caller keeps.
+/// A decoder, in memory of the caller.
 #[repr(C)]
 #[derive(Clone, Copy, Drop)]
 pub struct NodyDecoder {
-    /// The form of the input: 0 for UTF-8, 1 and 2 for UTF-16 with the low and the high byte first.
+    /// The encoding of the input: 0 for UTF-8, 1 for UTF-16LE, 2 for UTF-16BE.
     pub form: u8,
-    /// How many bytes are held.
+    /// The number of carried-over bytes.
     pub count: u8,
-    /// The bytes that are held, and others after them.
+    /// The carried-over bytes, followed by unused ones.
     pub held: [u8; 3],
-    /// The offset of the first of them.
+    /// The offset of the first carried-over byte.
     pub offset: u64,
 }
 
-/// How many bytes a piece has, and whether it is a character.
+/// The length of a piece, and whether it is a character.
 #[repr(C)]
 #[derive(Clone, Copy, Drop)]
 pub struct NodyMark {
-    /// How many bytes it has.
+    /// The length in bytes.
     pub len: u8,
-    /// 0 for a character, else the number of the error.
+    /// 0 for a character, otherwise the number of the error.
     pub kind: u8,
-    /// 0, where C has nothing: so these four bytes are loaded and stored at once.
+    /// Always 0 (C has no such field): so these four bytes are loaded and stored as one word.
     pub rest: u16,
 }
 
@@ -42,11 +43,11 @@ pub struct NodyLocated {
     pub offset: u64,
     /// The scalar, or 0 for a fault.
     pub scalar: u32,
-    /// What else it is.
+    /// The length, and whether it is a character.
     pub mark: NodyMark,
 }
 
-// What an ASCII character is.
+// The scalar and mark of an ASCII character.
 #[repr(C)]
 #[derive(Clone, Copy, Drop)]
 struct NodyTold {
@@ -62,10 +63,10 @@ macro_rules! told {
     ($($byte:literal),* $(,)?) => { [$(NodyTold { scalar: $byte, mark: NodyMark { len: 1, kind: 0, rest: 0 } }),*] };
 }
 
-// The marks of characters, by how many bytes they have.
+// The marks of characters, by their length.
 static MARKS: [NodyMark; 5] = marks![0, 1, 2, 3, 4];
 
-// What each ASCII character is, sixteen a line.
+// The scalar and mark of each ASCII character, sixteen a line.
 #[rattlefmt::skip]
 static TOLD: [NodyTold; 128] = told![
     0x00, 0x01, 0x02, 0x03, 0x04, 0x05, 0x06, 0x07, 0x08, 0x09, 0x0a, 0x0b, 0x0c, 0x0d, 0x0e, 0x0f,
@@ -116,7 +117,7 @@ impl FromPiece for NodyLocated {
     }
 }
 
-// The mark of a character of so many bytes.
+// The mark of a character of that length.
 #[inline(always)]
 fn character_mark(len: usize) -> NodyMark
     requires { len ≤ 4 }
@@ -125,7 +126,7 @@ fn character_mark(len: usize) -> NodyMark
     MARKS[len]
 }
 
-// What an ASCII character is.
+// The scalar and mark of an ASCII character, from the table.
 #[inline(always)]
 fn ascii_told(byte: u8) -> NodyTold
     requires { byte < 0x80 }
@@ -134,7 +135,7 @@ fn ascii_told(byte: u8) -> NodyTold
     TOLD[byte as usize]
 }
 
-/// A decoder that holds nothing.
+/// A decoder that carries over nothing.
 #[unsafe(no_mangle)]
 pub extern "C" fn nody_decoder(form: u8) -> NodyDecoder
     ensures { result ≡ record { form = form; count = 0; held = 0 ∷ 0 ∷ 0 ∷ []; offset = 0 } }
@@ -147,7 +148,7 @@ pub extern "C" fn nody_decoder(form: u8) -> NodyDecoder
     }
 }
 
-// Whether the struct is a decoder.
+// Returns true if the struct is a decoder.
 pub(crate) fn is_decoder(decoder: &NodyDecoder) -> bool
     ensures yes { result ≡ true → IsDecoder decoder.now }
     ensures no { IsDecoder decoder.now → result ≡ true }
@@ -155,7 +156,7 @@ pub(crate) fn is_decoder(decoder: &NodyDecoder) -> bool
     decoder.form < 3 && decoder.count <= 3
 }
 
-// The decoder that the struct is.
+// The `Decoder` that the struct represents.
 #[inline(always)]
 fn decoder_in(decoder: &NodyDecoder) -> Decoder
     requires { IsDecoder decoder.now }
@@ -168,7 +169,7 @@ fn decoder_in(decoder: &NodyDecoder) -> Decoder
     )
 }
 
-// Puts into the struct what the decoder holds, and the offset of that.
+// Stores the decoder's carried-over bytes, and their offset, into the struct.
 #[inline(always)]
 fn keep_decoder(decoder: &mut NodyDecoder, inner: &Decoder)
     requires { inner.now.form ≡ form_of decoder.old.form }
@@ -184,56 +185,8 @@ fn keep_decoder(decoder: &mut NodyDecoder, inner: &Decoder)
     }
 }
 
-// Which pieces a call gives.
-pub(crate) trait Asked {
-    ghost use Rattle.std.specs.Prelude.{◌≡◌, ◌<◌, ℕ, List, [], length, IsTrue, IsFalse};
-    ghost use Rattle.cuts.specs.declared.LocatedPiece.{LocatedPiece};
-    ghost use Rattle.cuts.specs.Located.{Decoding, FeedsKept, FinishesKept, IsOpen};
-    ghost use Rattle.c_api.specs.Decoders.{located_for_c};
-
-    // Those of a list that it gives.
-    ghost kept: { List LocatedPiece → List LocatedPiece };
-
-    // That the room is full before one of them: of a decoder, a part, how much of it was read, how much was written, and the room.
-    ghost has_no_place: { Decoding → List ℕ → ℕ → ℕ → ℕ → Type 0 };
-
-    fn feed(decoder: &mut Decoder, part: &[u8], room: &mut [NodyLocated]) -> Fed
-        ensures feeds { FeedsKept kept located_for_c decoder.old part.now room.old room.new result.read result.written decoder.new }
-        ensures full { IsTrue result.is_full →
-            has_no_place decoder.new part.now result.read result.written (length room.old) }
-        ensures read { IsFalse result.is_full → result.read ≡ length part.now }
-        ensures waits { IsFalse result.is_full → 0 < length decoder.new.held → IsOpen decoder.new.form decoder.new.held };
-
-    fn finish(decoder: &mut Decoder, room: &mut [NodyLocated]) -> Fed
-        ensures finishes { FinishesKept kept located_for_c decoder.old room.old room.new result.written decoder.new }
-        ensures full { IsTrue result.is_full → result.written ≡ length room.old }
-        ensures more { IsTrue result.is_full → 0 < length decoder.new.held }
-        ensures all { IsFalse result.is_full → decoder.new.held ≡ [] };
-}
-
-// All of them.
-struct AllPieces;
-
-impl Asked for AllPieces {
-    ghost use Rattle.cuts.specs.Located.{HasNoPlace, all_pieces};
-
-    ghost kept = { all_pieces };
-
-    ghost has_no_place = { HasNoPlace };
-
-    #[inline(always)]
-    fn feed(decoder: &mut Decoder, part: &[u8], room: &mut [NodyLocated]) -> Fed {
-        decoder.feed(part, room)
-    }
-
-    #[inline(always)]
-    fn finish(decoder: &mut Decoder, room: &mut [NodyLocated]) -> Fed {
-        decoder.finish(room)
-    }
-}
-
-/// Feeds a part, as far as there is room for its pieces, and answers 0 where all of it was read, 1 where the room is full before a
-/// piece that is known, and 2, with nothing changed, where the struct is no decoder.
+/// Feeds a part, as far as there is capacity for its pieces. Returns 0 if all of it was read; 1 if the array is full
+/// before a piece that is known; 2, with nothing changed, if the struct is not a decoder.
 #[unsafe(no_mangle)]
 pub extern "C" fn nody_decoder_feed(
     decoder: &mut NodyDecoder,
@@ -263,9 +216,9 @@ pub extern "C" fn nody_decoder_feed(
     feed_decoder::<AllPieces>(decoder, part, room, read, written)
 }
 
-// The same of the decoder that the struct is, for the pieces that are asked for.
+// Feeds a part to the decoder in the struct, and writes the selected pieces.
 #[inline(always)]
-pub(crate) fn feed_decoder<A: Asked>(
+pub(crate) fn feed_decoder<K: Kept>(
     decoder: &mut NodyDecoder,
     part: &[u8],
     room: &mut [NodyLocated],
@@ -274,25 +227,25 @@ pub(crate) fn feed_decoder<A: Asked>(
 ) -> u8
     requires { IsDecoder decoder.old }
     ensures decoder { IsDecoder decoder.new }
-    ensures feeds { FeedsKept A.kept located_for_c (decoder_of decoder.old) part.now room.old room.new
+    ensures feeds { FeedsKept K.kept located_for_c (decoder_of decoder.old) part.now room.old room.new
         read.new written.new (decoder_of decoder.new) }
     ensures all { result ≡ 0 → read.new ≡ length part.now }
     ensures waits { result ≡ 0 → 0 < length (decoder_of decoder.new).held →
         IsOpen (decoder_of decoder.new).form (decoder_of decoder.new).held }
     ensures full { result ≡ 1 →
-        A.has_no_place (decoder_of decoder.new) part.now read.new written.new (length room.old) }
+        HasNoPlaceFor K.kept (decoder_of decoder.new) part.now read.new written.new (length room.old) }
     ensures status { result < 2 }
 {
     let mut inner = decoder_in(decoder);
-    let fed = A::feed(&mut inner, part, room);
+    let fed = inner.feed_kept::<K, NodyLocated>(part, room);
     keep_decoder(decoder, &inner);
     *read = fed.read;
     *written = fed.written;
     if fed.is_full { FULL } else { DONE }
 }
 
-/// Gives the pieces of what is held, which nothing follows, as far as there is room, and answers 0 where nothing is held any more, 1
-/// where the room is full, and 2, with nothing changed, where the struct is no decoder.
+/// Writes the pieces of the carried-over bytes at the end of the input, as far as there is capacity. Returns 0 if
+/// nothing is carried over any more; 1 if the array is full; 2, with nothing changed, if the struct is not a decoder.
 #[unsafe(no_mangle)]
 pub extern "C" fn nody_decoder_finish(
     decoder: &mut NodyDecoder,
@@ -317,24 +270,26 @@ pub extern "C" fn nody_decoder_finish(
     finish_decoder::<AllPieces>(decoder, room, written)
 }
 
-// The same of the decoder that the struct is, for the pieces that are asked for.
+// Finishes the decoder in the struct, and writes the selected pieces.
 #[inline(always)]
-pub(crate) fn finish_decoder<A: Asked>(
+pub(crate) fn finish_decoder<K: Kept>(
     decoder: &mut NodyDecoder,
     room: &mut [NodyLocated],
     written: &mut usize,
 ) -> u8
     requires { IsDecoder decoder.old }
     ensures decoder { IsDecoder decoder.new }
-    ensures finishes { FinishesKept A.kept located_for_c (decoder_of decoder.old) room.old room.new
+    ensures finishes { FinishesKept K.kept located_for_c (decoder_of decoder.old) room.old room.new
         written.new (decoder_of decoder.new) }
     ensures all { result ≡ 0 → decoder.new.count ≡ 0 }
     ensures full { result ≡ 1 → written.new ≡ length room.old }
     ensures more { result ≡ 1 → 0 < decoder.new.count }
+    ensures kept { result ≡ 1 →
+        IsKept K.kept (first_told (decoder_of decoder.new).form (decoder_of decoder.new).held) }
     ensures status { result < 2 }
 {
     let mut inner = decoder_in(decoder);
-    let fed = A::finish(&mut inner, room);
+    let fed = inner.finish_kept::<K, NodyLocated>(room);
     keep_decoder(decoder, &inner);
     *written = fed.written;
     if fed.is_full { FULL } else { DONE }

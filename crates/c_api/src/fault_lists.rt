@@ -1,4 +1,4 @@
-//! The faults of what is left of bytes and units, many at once.
+//! The faults of cursors over bytes and units, many in one call.
 ghost use Rattle.cuts.specs.FaultLists.{unit_faults};
 ghost use Rattle.cuts.specs.ShardRuns.{faults};
 ghost use Rattle.cuts.specs.declared.FaultKind.TheVariants as kind;
@@ -7,8 +7,8 @@ ghost use Rattle.c_api.specs.FaultCalls.{PassesFaults};
 use crate::cursors::{NodyBytes, NodyUnits};
 use crate::decoders::NodyLocated;
 
-/// Puts into the array the faults of the bytes that are left, as many as there is room for, and answers how many. What is left then
-/// begins with the next fault, or is nothing. The offset of the first byte goes on.
+/// Writes the faults of the cursor to the array, as many as fit, and returns how many. The cursor then begins with
+/// the next fault, or is empty, and the offset of its first byte moves along.
 #[unsafe(no_mangle)]
 pub extern "C" fn nody_utf8_faults(
     left: &mut NodyBytes<'_>,
@@ -24,7 +24,8 @@ pub extern "C" fn nody_utf8_faults(
     found.written
 }
 
-/// The same of units.
+/// Writes the faults of a cursor over units to the array, as many as fit, and returns how many. The cursor
+/// then begins with the next fault, or is empty, and the offset of its first unit moves along.
 #[unsafe(no_mangle)]
 pub extern "C" fn nody_utf16_faults(
     left: &mut NodyUnits<'_>,

@@ -85,8 +85,8 @@ static NAMES: [NodyName; 12] = [
     },
 ];
 
-/// Puts a pointer to the name of a kind, which lives for ever, in the place of another; of a number that is no kind the
-/// pointer stays.
+/// Stores a pointer to the name of a kind, which is static; for a number that is no kind the pointer is left
+/// unchanged.
 #[unsafe(no_mangle)]
 pub extern "C" fn nody_put_kind_name(kind: u8, name: &mut &'static NodyName)
     ensures name { kind < 12 → name.new.now.text ≡ name_of kind }
@@ -97,7 +97,7 @@ pub extern "C" fn nody_put_kind_name(kind: u8, name: &mut &'static NodyName)
     }
 }
 
-/// What a kind means, with zeros after it.
+/// The meaning of a kind, with zeros after it.
 #[repr(C)]
 pub struct NodySentence {
     /// In ASCII.
@@ -144,8 +144,8 @@ static SENTENCES: [NodySentence; 12] = [
     },
 ];
 
-/// Puts a pointer to a sentence that says what a kind means, which lives for ever, in the place of another; of a number that is
-/// no kind the pointer stays.
+/// Stores a pointer to a sentence on the meaning of a kind, which is static; for a number that is no kind the pointer
+/// is left unchanged.
 #[unsafe(no_mangle)]
 pub extern "C" fn nody_put_kind_sentence(kind: u8, sentence: &mut &'static NodySentence)
     ensures sentence { kind < 12 → sentence.new.now.text ≡ sentence_of kind }

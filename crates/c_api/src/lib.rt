@@ -1,7 +1,7 @@
 //! The calls of the library for C.
 //!
-//! Each export calls one proved function and hands its answer on. A slice crosses as a pointer and then a length; at the
-//! length 0 the pointer may be null. `c/noddychest.h` declares all of them.
+//! Each export calls one proved function and returns its result. A slice is passed as a pointer and then a length; at
+//! the length 0 the pointer may be null. `c/noddychest.h` declares all of them.
 #![tactic(auto)]
 
 mod ascii_pieces;

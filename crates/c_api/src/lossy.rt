@@ -1,4 +1,4 @@
-//! Recoding into room of the caller's, with one U+FFFD for each maximal subpart.
+//! Transcoding into a caller-supplied buffer, with one U+FFFD for each maximal subpart.
 ghost use Rattle.std.specs.Prelude.{◌≡◌, ◌+◌, ◌-◌, ◌<◌, length};
 ghost use Rattle.cuts.specs.Recoded.{Lacks};
 ghost use Rattle.cuts.specs.LossyBytes.{FeedsLossy, FinishesLossy, IsFullLossy, IsLastFullLossy};
@@ -6,7 +6,8 @@ ghost use Rattle.c_api.specs.Api.{IfRecoder, IsRecoder};
 
 use crate::recodings::{DONE, FULL, NodyRecoder, REFUSED, is_recoder, keep, opened};
 
-/// `nody_recoder_feed` that writes one U+FFFD for each maximal subpart, and counts none.
+/// Feeds a part as `nody_recoder_feed` does, but writes one U+FFFD for each maximal subpart, and does not
+/// count them.
 #[unsafe(no_mangle)]
 pub extern "C" fn nody_recoder_feed_lossy(
     recoder: &mut NodyRecoder,
@@ -42,7 +43,8 @@ pub extern "C" fn nody_recoder_feed_lossy(
     if progress.is_full { FULL } else { DONE }
 }
 
-/// `nody_recoder_finish` of a recoder that was fed lossily: the front of a character that is held becomes one U+FFFD.
+/// Finishes a recoder that was fed by `nody_recoder_feed_lossy`: a truncated character that is carried over becomes
+/// one U+FFFD.
 #[unsafe(no_mangle)]
 pub extern "C" fn nody_recoder_finish_lossy(
     recoder: &mut NodyRecoder,

@@ -7,7 +7,8 @@ ghost use Rattle.c_api.specs.Api.{IfForm, IsForm, IsOffsetOf};
 
 use crate::recodings::form_of;
 
-/// Where the piece of the bytes with this number begins, counted from 0, or how many bytes there are where there are no more pieces.
+/// The offset of the piece of the bytes with this number, counted from 0, or the length if there are no more
+/// pieces.
 #[unsafe(no_mangle)]
 pub extern "C" fn nody_utf8_offset_of(bytes: &[u8], number: usize) -> usize
     ensures { IsOffsetOf (pieces bytes.now) (length bytes.now) number result }
@@ -15,7 +16,8 @@ pub extern "C" fn nody_utf8_offset_of(bytes: &[u8], number: usize) -> usize
     cuts::offset_of(bytes, number).unwrap_or(bytes.len())
 }
 
-/// The same of units.
+/// The offset in units of the piece of the units with this number, counted from 0, or the length if there are
+/// no more pieces.
 #[unsafe(no_mangle)]
 pub extern "C" fn nody_utf16_offset_of(units: &[u16], number: usize) -> usize
     ensures { IsOffsetOf (unit_pieces units.now) (length units.now) number result }
@@ -23,7 +25,7 @@ pub extern "C" fn nody_utf16_offset_of(units: &[u16], number: usize) -> usize
     cuts::unit_offset_of(units, number).unwrap_or(units.len())
 }
 
-/// How many pieces of the bytes begin before this offset.
+/// The number of pieces of the bytes that begin before this offset.
 #[unsafe(no_mangle)]
 pub extern "C" fn nody_utf8_number_of(bytes: &[u8], offset: usize) -> usize
     ensures { IsSplitAt (pieces bytes.now) offset result }
@@ -31,7 +33,7 @@ pub extern "C" fn nody_utf8_number_of(bytes: &[u8], offset: usize) -> usize
     cuts::number_of(bytes, offset)
 }
 
-/// The same of units.
+/// The number of pieces of the units that begin before this offset in units.
 #[unsafe(no_mangle)]
 pub extern "C" fn nody_utf16_number_of(units: &[u16], offset: usize) -> usize
     ensures { IsSplitAt (unit_pieces units.now) offset result }
@@ -39,8 +41,8 @@ pub extern "C" fn nody_utf16_number_of(units: &[u16], offset: usize) -> usize
     cuts::unit_number_of(units, offset)
 }
 
-/// Where the piece of the bytes in that form with this number begins, or how many bytes there are where there are no more pieces; all
-/// ones where the form is none.
+/// The offset of the piece with this number in the bytes of an encoding, or the length if there are no more pieces;
+/// `SIZE_MAX` if `form` is not valid.
 #[unsafe(no_mangle)]
 pub extern "C" fn nody_offset_of(form: u8, bytes: &[u8], number: usize) -> usize
     ensures offset { IfForm form (λ f. IsOffsetOf (form_pieces f bytes.now) (length bytes.now) number result) }
@@ -52,7 +54,8 @@ pub extern "C" fn nody_offset_of(form: u8, bytes: &[u8], number: usize) -> usize
     cuts::forms::offset_of(form_of(form), bytes, number).unwrap_or(bytes.len())
 }
 
-/// How many pieces of the bytes in that form begin before this offset, or all ones where the form is none.
+/// The number of pieces that begin before this offset in the bytes of an encoding; `SIZE_MAX` if `form` is
+/// not valid.
 #[unsafe(no_mangle)]
 pub extern "C" fn nody_number_of(form: u8, bytes: &[u8], offset: usize) -> usize
     ensures number { IfForm form (λ f. IsSplitAt (form_pieces f bytes.now) offset result) }

@@ -1,4 +1,4 @@
-//! Recoding into room of the caller's.
+//! Transcoding into a caller-supplied buffer.
 ghost use Rattle.std.specs.Prelude.{◌≡◌, true, [], ◌∷◌, ◌+◌, ◌-◌, ◌<◌, ◌≤◌, ◌^◌, ◌++◌, length, take, drop};
 ghost use Rattle.cuts.specs.Faults.{saturated};
 ghost use Rattle.cuts.specs.Recoded.{Lacks};
@@ -7,30 +7,30 @@ ghost use Rattle.c_api.specs.Api.{CountsEnd, CountsPart, IfForms, IfRecoder, IsF
 
 use cuts::{Form, Recoder, room_for};
 
-/// A recoder, which the caller keeps.
+/// A recoder, in memory of the caller.
 #[repr(C)]
 #[derive(Clone, Copy, Drop)]
 pub struct NodyRecoder {
-    /// The form of the input: 0 for UTF-8, 1 and 2 for UTF-16 with the low and the high byte first.
+    /// The encoding of the input: 0 for UTF-8, 1 for UTF-16LE, 2 for UTF-16BE.
     pub from: u8,
-    /// The form of the output.
+    /// The encoding of the output.
     pub to: u8,
-    /// How many bytes are held.
+    /// The number of carried-over bytes.
     pub count: u8,
-    /// The bytes that are held, and others after them.
+    /// The carried-over bytes, followed by unused ones.
     pub held: [u8; 3],
-    /// How many invalid bytes, lone surrogates and odd last bytes have become U+FFFD.
+    /// The number of invalid bytes, lone surrogates and odd last bytes that have become U+FFFD.
     pub replaced: u64,
 }
 
-// What calls answer: all was done, there was no room for the next code, or the arguments are wrong.
+// The results of calls: all was done, the next character did not fit, or the arguments are invalid.
 pub(crate) const DONE: u8 = 0;
 
 pub(crate) const FULL: u8 = 1;
 
 pub(crate) const REFUSED: u8 = 2;
 
-// The form of a number.
+// The encoding of a number.
 pub(crate) fn form_of(number: u8) -> Form
     requires { IsForm number }
     ensures { result ≡ form_of number }
@@ -42,7 +42,7 @@ pub(crate) fn form_of(number: u8) -> Form
     }
 }
 
-// The number of a form.
+// The number of an encoding.
 pub(crate) fn number_of_form(form: Form) -> u8
     ensures is_form { IsForm result }
     ensures form { form_of result ≡ form }
@@ -54,7 +54,7 @@ pub(crate) fn number_of_form(form: Form) -> u8
     }
 }
 
-// Whether the struct is a recoder.
+// Returns true if the struct is a recoder.
 pub(crate) fn is_recoder(recoder: &NodyRecoder) -> bool
     ensures yes { result ≡ true → IsRecoder recoder.now }
     ensures no { IsRecoder recoder.now → result ≡ true }
@@ -62,7 +62,7 @@ pub(crate) fn is_recoder(recoder: &NodyRecoder) -> bool
     recoder.from < 3 && recoder.to < 3 && recoder.count <= 3
 }
 
-/// A recoder that holds nothing and has replaced nothing.
+/// A recoder that carries over nothing and has replaced nothing.
 #[unsafe(no_mangle)]
 pub extern "C" fn nody_recoder(from: u8, to: u8) -> NodyRecoder
     ensures { result ≡ record { from = from; to = to; count = 0; held = 0 ∷ 0 ∷ 0 ∷ []; replaced = 0 } }
@@ -76,7 +76,7 @@ pub extern "C" fn nody_recoder(from: u8, to: u8) -> NodyRecoder
     }
 }
 
-// The recoder that the struct is.
+// The `Recoder` that the struct represents.
 pub(crate) fn opened(recoder: &NodyRecoder) -> Recoder
     requires { IsRecoder recoder.now }
     ensures { result ≡ recoder_of recoder.now }
@@ -88,7 +88,7 @@ pub(crate) fn opened(recoder: &NodyRecoder) -> Recoder
     )
 }
 
-// Puts into the struct what the recoder holds. What it has replaced is not added.
+// Stores the recoder's carried-over bytes into the struct. Its count of replacements is not added.
 pub(crate) fn keep(recoder: &mut NodyRecoder, inner: &Recoder)
     requires from { inner.now.from ≡ form_of recoder.old.from }
     requires to { inner.now.to ≡ form_of recoder.old.to }
@@ -104,15 +104,16 @@ pub(crate) fn keep(recoder: &mut NodyRecoder, inner: &Recoder)
     }
 }
 
-// The count with so many more, as far as 64 bits count.
+// The count plus `more`, as far as 64 bits count.
 fn with_more(count: u64, more: usize) -> u64
     ensures { result ≡ saturated (count + more) }
 {
     count.saturating_add(more as u64)
 }
 
-/// Feeds a part, as far as there is room, and adds to `replaced` how many U+FFFD it wrote for what is invalid. Answers 0 where all of
-/// the part was read, 1 where the next character does not fit, and 2, with nothing changed, where the struct is no recoder.
+/// Feeds a part, as far as there is capacity, and adds to `replaced` the number of U+FFFD that it wrote for invalid
+/// input. Returns 0 if all of the part was read; 1 if the next character does not fit; 2, with nothing changed, if
+/// the struct is not a recoder.
 #[unsafe(no_mangle)]
 pub extern "C" fn nody_recoder_feed(
     recoder: &mut NodyRecoder,
@@ -147,7 +148,8 @@ pub extern "C" fn nody_recoder_feed(
     feed_with_held(recoder, part, room, read, written)
 }
 
-// The same where the recoder holds something, kept apart: so a compiler keeps in registers the one that holds nothing.
+// Feeds a part to a recoder that carries over bytes. Outlined, so that the compiler keeps in registers a recoder that
+// carries over none.
 #[inline(never)]
 fn feed_with_held(
     recoder: &mut NodyRecoder,
@@ -172,7 +174,7 @@ fn feed_with_held(
     feed_inner(recoder, start, part, room, read, written)
 }
 
-// The same of the recoder that the struct is.
+// Feeds a part to the recoder in the struct.
 #[inline(always)]
 fn feed_inner(
     recoder: &mut NodyRecoder,
@@ -204,8 +206,9 @@ fn feed_inner(
     if progress.is_full { FULL } else { DONE }
 }
 
-/// Puts out what is held, which nothing follows, and adds to `replaced` how many U+FFFD it wrote. Answers 0 where nothing is held any
-/// more, 1 where the next character does not fit, and 2, with nothing changed, where the struct is no recoder.
+/// Transcodes the carried-over bytes at the end of the input, and adds to `replaced` the number of U+FFFD that it
+/// wrote. Returns 0 if nothing is carried over any more; 1 if the next character does not fit; 2, with nothing
+/// changed, if the struct is not a recoder.
 #[unsafe(no_mangle)]
 pub extern "C" fn nody_recoder_finish(
     recoder: &mut NodyRecoder,
@@ -236,7 +239,7 @@ pub extern "C" fn nody_recoder_finish(
     finish_with_held(recoder, room, written)
 }
 
-// The same where the recoder holds something, kept apart as for feeding.
+// Finishes a recoder that carries over bytes. Outlined, as `feed_with_held` is.
 #[inline(never)]
 fn finish_with_held(recoder: &mut NodyRecoder, room: &mut [u8], written: &mut usize) -> u8
     requires { IsRecoder recoder.old }
@@ -253,7 +256,7 @@ fn finish_with_held(recoder: &mut NodyRecoder, room: &mut [u8], written: &mut us
     finish_inner(recoder, start, room, written)
 }
 
-// The same of the recoder that the struct is.
+// Finishes the recoder in the struct.
 #[inline(always)]
 fn finish_inner(
     recoder: &mut NodyRecoder,
@@ -280,7 +283,8 @@ fn finish_inner(
     if progress.is_full { FULL } else { DONE }
 }
 
-/// The most bytes that so many bytes are recoded as, or all ones where a `size_t` cannot count them, or a form is none.
+/// An upper bound, in bytes, of the output for `len` bytes of input; `SIZE_MAX` if a `size_t` cannot count
+/// it, or an encoding is not valid.
 #[unsafe(no_mangle)]
 pub extern "C" fn nody_recoded_len_max(from: u8, to: u8, len: usize) -> usize
     ensures most { IfForms from to (λ f t. most_bytes f t len < 2 ^ 64 → result ≡ most_bytes f t len) }
@@ -297,8 +301,8 @@ pub extern "C" fn nody_recoded_len_max(from: u8, to: u8, len: usize) -> usize
     }
 }
 
-/// How many bytes the recoder holds, at most three, or all ones where the struct is no recoder. They are written where the room
-/// has so many places.
+/// The number of bytes that the recoder carries over, at most three, or `SIZE_MAX` if the struct is not a recoder.
+/// They are written if the buffer is long enough.
 #[unsafe(no_mangle)]
 pub extern "C" fn nody_recoder_held(recoder: &NodyRecoder, room: &mut [u8]) -> usize
     ensures count { IsRecoder recoder.now → result ≡ recoder.now.count }

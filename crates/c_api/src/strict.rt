@@ -1,4 +1,4 @@
-//! Recoding into room of the caller's that stops at the first fault.
+//! Transcoding into a caller-supplied buffer, stopping at the first fault.
 ghost use Rattle.std.specs.Prelude.{◌≡◌, ◌≢◌, ◌+◌, ◌*◌, ◌<◌, length};
 ghost use Rattle.cuts.specs.Rooms.{ComesNearer, IsAmpleForText};
 ghost use Rattle.cuts.specs.Strict.{FeedsStrictly, FinishesStrictly};
@@ -12,15 +12,15 @@ use cuts::{Fault, Outcome};
 #[repr(C)]
 #[derive(Clone, Copy, Drop)]
 pub struct NodyFault {
-    /// How many bytes it has, or 0 where there is none.
+    /// The length of the fault in bytes, or 0 if there is none.
     pub len: usize,
-    /// How many bytes lie from its first one to the end of what was read.
+    /// The number of bytes from the first one of the fault to the end of what was read.
     pub back: usize,
-    /// The number of its kind, or 11 where there is none.
+    /// The number of its kind, or 11 if there is none.
     pub kind: u8,
 }
 
-// What a strict call answers where it stopped at a fault.
+// The status of a strict call that stopped at a fault.
 const FAULT: u8 = 3;
 
 pub(crate) const NO_FAULT: NodyFault = NodyFault {
@@ -51,9 +51,9 @@ pub(crate) fn told_of(outcome: Outcome) -> (u8, NodyFault)
     }
 }
 
-/// Feeds a part up to the first fault, as far as there is room, and answers 0 where all of it was read, 1 where the next code
-/// does not fit, 2, with nothing changed, where the struct is no recoder, and 3 at a fault, which is read and of which nothing
-/// is written.
+/// Feeds a part up to the first fault, as far as there is capacity. Returns 0 if all of it was read; 1 if the next
+/// character does not fit; 2, with nothing changed, if the struct is not a recoder; 3 at a fault, which is read and
+/// for which nothing is written.
 #[unsafe(no_mangle)]
 pub extern "C" fn nody_recoder_feed_strict(
     recoder: &mut NodyRecoder,
@@ -94,9 +94,9 @@ pub extern "C" fn nody_recoder_feed_strict(
     status
 }
 
-/// Puts out what is held, which nothing follows, up to the first fault and as far as there is room, and answers 0 where nothing
-/// is held any more, 1 where the next code does not fit, 2, with nothing changed, where the struct is no recoder, and 3 at a
-/// fault, which is not held any more.
+/// Transcodes the carried-over bytes at the end of the input, up to the first fault and as far as there is capacity.
+/// Returns 0 if nothing is carried over any more; 1 if the next character does not fit; 2, with nothing changed, if
+/// the struct is not a recoder; 3 at a fault, which is not carried over any more.
 #[unsafe(no_mangle)]
 pub extern "C" fn nody_recoder_finish_strict(
     recoder: &mut NodyRecoder,

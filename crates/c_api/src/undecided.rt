@@ -1,11 +1,11 @@
-//! The end of some bytes that later ones decide.
+//! The bytes at the end of a block that later ones decide.
 ghost use Rattle.std.specs.Prelude.{◌≡◌, ◌-◌, ◌^◌};
 ghost use Rattle.cuts.specs.UndecidedEnds.{IsLenOfHeld, IsUndecidedEnd};
 ghost use Rattle.c_api.specs.Api.{IfForm, IsForm};
 
 use crate::recodings::form_of;
 
-/// How many bytes at the end of these are undecided, 0 to 3, or all ones where the form is none.
+/// The number of undecided bytes at the end of these, 0 to 3, or `SIZE_MAX` if `form` is not valid.
 #[unsafe(no_mangle)]
 pub extern "C" fn nody_undecided_len(form: u8, bytes: &[u8]) -> usize
     ensures end { IfForm form (λ f. IsUndecidedEnd f bytes.now result) }

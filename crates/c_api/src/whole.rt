@@ -1,4 +1,4 @@
-//! Recoding of a whole input in one call.
+//! Transcoding of a whole input in one call.
 ghost use Rattle.std.specs.Prelude.{◌≡◌, ◌+◌, ◌-◌, ◌<◌, ◌≤◌, ◌^◌, length, take};
 ghost use Rattle.cuts.specs.Recoded.{IsRecoded};
 ghost use Rattle.c_api.specs.Whole.{IsLongerThan, IsFrontOfRecoded, IsRecodedLen};
@@ -6,13 +6,13 @@ ghost use Rattle.c_api.specs.Api.{IfForms, IsForm, form_of};
 
 use crate::recodings::{FULL, REFUSED, nody_recoder, nody_recoder_feed, nody_recoder_finish};
 
-// How many bytes are fed at once where only their number is asked for, and room for all that comes of them.
+// The size of a part, in bytes, and the capacity for its output, when only the output size is asked for.
 const PART: usize = 256;
 
 const ROOM: usize = 1024;
 
-/// Recodes all of the bytes into the room, and answers 0 where all of it fitted, 1 where the room is too small, and 2, with
-/// nothing changed, where a form is none.
+/// Transcodes all of the bytes into the buffer. Returns 0 if all of it fitted; 1 if the buffer is too small; 2, with
+/// nothing changed, if an encoding is not valid.
 #[unsafe(no_mangle)]
 pub extern "C" fn nody_recode(
     from: u8,
@@ -47,7 +47,8 @@ pub extern "C" fn nody_recode(
     status
 }
 
-/// How many bytes all of these are recoded as, or all ones where a `size_t` cannot count them, or a form is none.
+/// The exact output size for all of these bytes, or `SIZE_MAX` if a `size_t` cannot count it, or an encoding
+/// is not valid.
 #[unsafe(no_mangle)]
 pub extern "C" fn nody_recoded_len(from: u8, to: u8, bytes: &[u8]) -> usize
     ensures len { IfForms from to (λ f t. IsRecodedLen f t bytes.now result) }

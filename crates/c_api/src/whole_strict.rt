@@ -1,4 +1,4 @@
-//! Recoding of a whole input in one call, up to its first fault.
+//! Transcoding of a whole input in one call, up to its first fault.
 ghost use Rattle.std.specs.Prelude.{◌≡◌, ◌≢◌, ◌+◌, ◌-◌, ◌*◌, ◌<◌, ◌≤◌, length};
 ghost use Rattle.c_api.specs.Api.{IfForms, IsForm, TellsOutcome, no_fault};
 ghost use Rattle.cuts.specs.Rooms.{IsAmpleForText};
@@ -8,8 +8,8 @@ use crate::recodings::{REFUSED, form_of};
 use crate::strict::{NO_FAULT, NodyFault, told_of};
 use cuts::{Fault, Form, Outcome, Recoder, StrictProgress};
 
-/// Recodes the bytes up to the first fault, as far as there is room, and answers 0 where there is none, 1 where the room is too
-/// small, 2, with nothing changed, where a form is none, and 3 at a fault, which is not read.
+/// Transcodes the bytes up to the first fault, as far as there is capacity. Returns 0 if there is no fault; 1 if the
+/// buffer is too small; 2, with nothing changed, if an encoding is not valid; 3 at a fault, which is not read.
 #[unsafe(no_mangle)]
 pub extern "C" fn nody_recode_strict(
     from: u8,
@@ -46,7 +46,7 @@ pub extern "C" fn nody_recode_strict(
     status
 }
 
-// Recodes all of the bytes up to the first fault, as far as there is room.
+// Transcodes all of the bytes up to the first fault, as far as there is capacity.
 fn recode_strictly(from: Form, to: Form, bytes: &[u8], room: &mut [u8]) -> StrictProgress
     ensures recodes { RecodesStrictly from to bytes.now room.old room.new result }
     ensures all { result.outcome ≡ Outcome.AllRead → result.read ≡ length bytes.now }
@@ -67,7 +67,8 @@ fn recode_strictly(from: Form, to: Form, bytes: &[u8], room: &mut [u8]) -> Stric
     up_to_fault(both, recoder.held().len())
 }
 
-// The same where the fault at which it ended is not read, nor are so many bytes that are held.
+// The progress of a strict call, with the fault at which it ended, or the carried-over bytes, counted as
+// unread.
 fn up_to_fault(progress: StrictProgress, held: usize) -> StrictProgress
     requires { unrecoded progress.outcome held ≤ progress.read }
     ensures { result ≡ record {

@@ -1,11 +1,11 @@
-//! The callers in `uses` that ask a decoder again, that loop over one, and that look for ASCII bytes. Expected values as Python's
-//! `bytes` and `str` give them.
+//! The callers in `uses` that call a decoder again after its end, loop over one, or look for ASCII bytes. Expected
+//! values as Python's `bytes` and `str` give them.
 use encode_unicode::Utf8Char;
 use std::test::Fail;
 use uses::needles::find_ascii;
 use uses::{asked, damage, loops};
 
-// "a", "€", half of one, a quote, "b" and "🂠".
+// "a", "€", a truncated "€", a quote, "b" and "🂠".
 fn damaged() -> &'static [u8] {
     b"a\xe2\x82\xac\xe2\x82\"b\xf0\x9f\x82\xa0"
 }

@@ -1,4 +1,4 @@
-//! The callers in `uses`, over a damaged log, units with surrogates that stand alone, and a text of several scripts.
+//! The callers in `uses`, over a damaged log, units with lone surrogates, and a text of several scripts.
 use encode_unicode::error::{Utf8ErrorKind, Utf16PairError};
 use encode_unicode::{U16IterExt, Utf8Char};
 use std::test::Fail;
@@ -81,7 +81,7 @@ fn each_character_is_counted(rt: HostRuntime) -> Result<(), Fail> {
     let ordered = count_characters(rt.alloc(), text())?;
     let hashed = hash_characters(rt.alloc(), text())?;
     assert!(rt; ordered.len() == 28 && hashed.len() == 28);
-    // As Python's `Counter` counts them.
+    // Expected values as Python's `Counter` counts them.
     for (c, count) in " ,в你好🂠ςσx".chars().zip([5, 4, 2, 2, 1, 2, 1, 1, 0]) {
         let key = Utf8Char::from(c);
         assert!(rt; ordered.get(&key).copied().unwrap_or(0) == count);
@@ -100,7 +100,7 @@ fn the_text_comes_back(rt: HostRuntime) -> Result<(), Fail> {
 
 #[test]
 fn names_are_compared_without_case(rt: HostRuntime) {
-    // As Python's `bytes.lower` makes them equal or not.
+    // Expected values as Python's `bytes.lower` makes them equal or not.
     let table: [(&[u8], &[u8], bool); 7] = [
         (b"Content-Length", b"cONTENT-lENGTH", true),
         (b"Host\xff\xe2\x82", b"hOST\xff\xe2\x82", true),

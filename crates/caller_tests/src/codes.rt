@@ -1,4 +1,4 @@
-//! The callers in `uses` that speak of codes and of faults.
+//! The callers in `uses` that handle encoded characters and faults.
 use encode_unicode::{Utf8Char, Utf16Char};
 use std::test::Fail;
 use uses::tokens::{key_and_value, line, words};

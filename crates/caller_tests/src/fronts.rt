@@ -1,5 +1,5 @@
-//! The callers in `uses` that cut at the offset of a piece, of a character or of a fault, and that make texts of texts. Expected
-//! values as Python's `bytes`, `str` and decoders give them.
+//! The callers in `uses` that cut at the offset of a piece, of a character or of a fault, and that make texts of
+//! texts. Expected values as Python's `bytes`, `str` and decoders give them.
 use std::test::Fail;
 use uses::texts::{joined_units, raised, reversed, shortened};
 use uses::{asked, chains, merges, texts};
@@ -23,7 +23,7 @@ fn fronts_end_at_characters(rt: HostRuntime) {
     assert!(rt; texts::offset_of("é🂠b", 2) == 6 && texts::offset_of("é", 5) == 2);
 }
 
-// As `decode` with `errors="ignore"`.
+// Expected values as `decode` with `errors="ignore"`.
 #[test]
 fn characters_are_told(rt: HostRuntime) -> Result<(), Fail> {
     let text = merges::characters_alone(rt.alloc(), b"a\xff\xc3\xa9\xe2\x82")?;

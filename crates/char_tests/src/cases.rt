@@ -1,7 +1,7 @@
 //! Upper and lower case of ASCII letters.
 use encode_unicode::CharExt;
 
-// Whether each call gives these cases, in either form.
+// Returns true if each call gives these cases, in either encoding.
 pub(crate) fn has_cases(c: char, upper: char, lower: char) -> bool {
     let (bytes, units) = (c.to_utf8(), c.to_utf16());
     let (mut upper_bytes, mut lower_bytes) = (bytes, bytes);
@@ -20,7 +20,7 @@ pub(crate) fn has_cases(c: char, upper: char, lower: char) -> bool {
         && lower_units.to_char() == lower
 }
 
-// Whether the two are equal but for the case, by both forms.
+// Returns true if the two are equal but for the case, by both encodings.
 pub(crate) fn same_but_for_case(one: char, other: char) -> [bool; 2] {
     [
         one.to_utf8().eq_ignore_ascii_case(&other.to_utf8()),

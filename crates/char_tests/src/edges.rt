@@ -1,9 +1,9 @@
-//! What the tests share.
+//! The table of characters that the tests share.
 
 // A character, a longer text that it begins, and its codes in UTF-8 and in UTF-16.
 pub(crate) type Edge = (char, &'static str, &'static [u8], &'static [u16]);
 
-// Characters next to where the length of a code changes, letters of both cases, and some between, in their order.
+// Characters on both sides of each change in encoded length, letters of both cases, and some between, in order.
 pub(crate) fn edges() -> &'static [Edge] {
     &[
         ('\0', "\0\0?", &[0x00], &[0x0000]),
@@ -74,7 +74,7 @@ pub(crate) fn characters() -> [char; 21] {
     characters
 }
 
-// The code, and the filler in the places after it.
+// The encoded character, followed by filler.
 pub(crate) fn filled<T: Copy, const N: usize>(code: &[T], filler: T) -> [T; N] {
     let mut places = [filler; N];
     for (place, element) in places.iter_mut().zip(code) {

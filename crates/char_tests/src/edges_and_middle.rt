@@ -1,4 +1,4 @@
-//! What the Rust crate's test of that name asks of each character, by every call that it makes.
+//! The checks that the Rust crate's test of that name makes of each character, by every call it makes.
 use crate::cases::{has_cases, same_but_for_case};
 use crate::edges::{Edge, edges};
 use crate::forms::follow_the_table;
@@ -10,7 +10,7 @@ use encode_unicode::{CharExt, U8UtfExt, U16UtfExt, Utf8CharIterExt, Utf16CharIte
 use std::alloc::{AllocError, Global};
 use std::test::Fail;
 
-// Whether the first byte and the first unit tell how many follow.
+// Returns true if the first byte and the first unit give the number of elements that follow.
 fn first_elements_ask(edge: &Edge) -> bool {
     let (_, _, bytes, units) = *edge;
     let (Some(byte), Some(unit)) = (bytes.first(), units.first()) else {
@@ -24,7 +24,7 @@ fn first_elements_ask(edge: &Edge) -> bool {
         && unit.is_utf16_leading_surrogate() == pair
 }
 
-// Whether the character equals the low byte and the low unit of the other as its scalar does.
+// Returns true if the character equals the low byte and the low unit of the other as its scalar does.
 fn equals_elements(c: char, other: char) -> bool {
     let byte = (other as u32 & 0xff) as u8;
     let unit = (other as u32 & 0xffff) as u16;
@@ -33,7 +33,7 @@ fn equals_elements(c: char, other: char) -> bool {
         && c.to_utf16().eq_u16(unit) == (c as u32 == unit as u32)
 }
 
-// Whether the two compare as their scalars do, by each call.
+// Returns true if the two compare as their scalars do, by each call.
 fn compare_as_scalars(c: char, other: char) -> bool {
     let order = c.cmp(&other);
     forms_compare(c, other, order)
@@ -42,7 +42,7 @@ fn compare_as_scalars(c: char, other: char) -> bool {
         && same_but_for_case(c, other) == [c.eq_ignore_ascii_case(&other); 2]
 }
 
-// Whether the iterators show and give what is left of the bytes and units, and then nothing.
+// Returns true if the iterators show and give what is left of the bytes and units, and then nothing.
 fn gives_elements(alloc: Global, edge: &Edge) -> Result<bool, AllocError> {
     let (c, _, bytes, units) = *edge;
     let (by_bytes, by_units): (Utf8Iterator, Utf16Iterator) = (
@@ -57,7 +57,7 @@ fn gives_elements(alloc: Global, edge: &Edge) -> Result<bool, AllocError> {
     Ok(hints && given && shown == expected)
 }
 
-// Whether one character of either type is collected to its code.
+// Returns true if one character of either type is collected to its code.
 fn is_collected(alloc: Global, edge: &Edge) -> Result<bool, AllocError> {
     let (c, _, bytes, units) = *edge;
     let (utf8, utf16) = ([c.to_utf8()], [c.to_utf16()]);
@@ -73,7 +73,7 @@ fn is_collected(alloc: Global, edge: &Edge) -> Result<bool, AllocError> {
     )
 }
 
-// Whether the calls that take no other character answer by the row.
+// Returns true if the calls without a second operand return what the row says.
 fn answers_by_its_row(edge: &Edge) -> bool {
     let c = edge.0;
     char::from_u32(c as u32) == Some(c)

@@ -1,4 +1,4 @@
-//! The texts of the errors, and what they tell.
+//! The messages of the errors, and what they say.
 use encode_unicode::error::{
     CodepointError, EmptyStrError, FromStrError, NonAsciiError, NonBmpError, Utf8Error,
     Utf8ErrorKind, Utf16ArrayError, Utf16FirstUnitError, Utf16PairError, Utf16SliceError,
@@ -9,7 +9,7 @@ use std::fmt::Display;
 use std::process::Abort;
 use std::test::Fail;
 
-// Each way to read an error gives this text, bare under a width and a fill too.
+// Checks that each way to read an error gives this text, also unpadded under a width and a fill.
 fn reads<E: Display>(
     rt: &impl Abort,
     alloc: Global,

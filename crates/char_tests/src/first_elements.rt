@@ -3,17 +3,17 @@ use encode_unicode::error::{Utf8ErrorKind, Utf16FirstUnitError};
 use encode_unicode::{U8UtfExt, U16UtfExt};
 use utf_base::elements::{is_continuation, is_trailing_surrogate};
 
-// The answer, asked through the bound.
+// Calls `extra_utf8_bytes` through the trait bound.
 fn extra_bytes<T: U8UtfExt>(byte: T) -> Result<usize, Utf8ErrorKind> {
     byte.extra_utf8_bytes().map_err(|error| error.kind())
 }
 
-// The number that whatever byte tells, asked through the bound.
+// Calls `extra_utf8_bytes_unchecked` through the trait bound, for any byte.
 fn unchecked_extra_bytes<T: U8UtfExt>(byte: T) -> usize {
     byte.extra_utf8_bytes_unchecked()
 }
 
-// What a unit tells of a second one, by both calls of the bound.
+// What a unit says of a second one, by both calls of the trait.
 fn extra_unit<T: U16UtfExt + Copy>(unit: T) -> (Result<bool, Utf16FirstUnitError>, bool) {
     (
         unit.utf16_needs_extra_unit(),

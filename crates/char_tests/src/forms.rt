@@ -1,14 +1,14 @@
-//! What each form makes of a row of the table, and the row of it.
+//! Conversion of a row of the table to each encoding, and back.
 use crate::edges::{Edge, filled};
 use encode_unicode::{CharExt, Utf8Char, Utf16Char};
 
-// The code as a unit and the one after it, if any.
+// The encoded character as a unit and an optional second one.
 fn as_tuple(code: &[u16]) -> Option<(u16, Option<u16>)> {
     let first = code.first().copied()?;
     Some((first, code.get(1).copied()))
 }
 
-// Whether the calls of the bound give the codes of the row.
+// Returns true if the calls of the bound give the codes of the row.
 fn gives_codes<T: CharExt + Copy>(c: T, edge: &Edge) -> bool {
     let (_, _, bytes, units) = *edge;
     c.to_utf8_array() == (filled(bytes, 0), bytes.len())
@@ -18,7 +18,7 @@ fn gives_codes<T: CharExt + Copy>(c: T, edge: &Edge) -> bool {
         && c.to_utf16().as_units() == units
 }
 
-// Whether the calls of the bound make the character of the row from its number and from its bytes.
+// Returns true if the calls of the bound make the character of the row from its number and from its bytes.
 fn is_made_of_bytes<T: CharExt + Copy + PartialEq>(c: T, edge: &Edge) -> bool {
     let (scalar, _, bytes, _) = *edge;
     let longer: [u8; 5] = filled(bytes, 0xff);
@@ -29,7 +29,7 @@ fn is_made_of_bytes<T: CharExt + Copy + PartialEq>(c: T, edge: &Edge) -> bool {
         && T::from_utf8_array(filled(bytes, 0)).ok() == Some(c)
 }
 
-// Whether the calls of the bound make the character of the row from its units.
+// Returns true if the calls of the bound make the character of the row from its units.
 fn is_made_of_units<T: CharExt + Copy + PartialEq>(c: T, edge: &Edge) -> bool {
     let (_, _, _, units) = *edge;
     let Some((first, second)) = as_tuple(units) else {
@@ -53,7 +53,7 @@ fn kept_bytes(bytes: [u8; 4]) -> Option<([u8; 4], usize)> {
     Some(Utf8Char::from_array(bytes).ok()?.to_array())
 }
 
-// Whether each call that makes a `Utf8Char` of the row makes the same, with nothing of what follows.
+// Returns true if each call that makes a `Utf8Char` of the row makes the same, with nothing of what follows.
 fn is_made_in_utf8(edge: &Edge) -> bool {
     let (c, _, bytes, _) = *edge;
     let kept = Utf8Char::new(c);
@@ -68,7 +68,7 @@ fn is_made_in_utf8(edge: &Edge) -> bool {
         && Utf8Char::from_array(filled(bytes, 0)).ok() == Some(kept)
 }
 
-// Whether the `Utf8Char` gives back the row.
+// Returns true if the `Utf8Char` converts back to the row.
 fn gives_utf8(edge: &Edge) -> bool {
     let (c, text, bytes, units) = *edge;
     let kept = Utf8Char::new(c);
@@ -89,7 +89,7 @@ fn kept_units(units: [u16; 2]) -> Option<[u16; 2]> {
     Some(Utf16Char::from_array(units).ok()?.to_array())
 }
 
-// Whether each call that makes a `Utf16Char` of the row makes the same, with nothing of what follows.
+// Returns true if each call that makes a `Utf16Char` of the row makes the same, with nothing of what follows.
 fn is_made_in_utf16(edge: &Edge) -> bool {
     let (c, _, _, units) = *edge;
     let kept = Utf16Char::new(c);
@@ -111,7 +111,7 @@ fn is_made_in_utf16(edge: &Edge) -> bool {
         && as_tuple(units).map(Utf16Char::from_tuple) == Some(Ok(kept))
 }
 
-// Whether the `Utf16Char` gives back the row.
+// Returns true if the `Utf16Char` converts back to the row.
 fn gives_utf16(edge: &Edge) -> bool {
     let (c, _, bytes, units) = *edge;
     let kept = Utf16Char::new(c);
@@ -127,7 +127,7 @@ fn gives_utf16(edge: &Edge) -> bool {
         && kept.as_units() == units
 }
 
-// The places that a `Utf8Char` is written to, and how many it says that it took.
+// The buffer that a `Utf8Char` is written to, and the length that the call returns.
 fn written_utf8(c: char) -> ([u8; 6], usize) {
     let kept = Utf8Char::new(c);
     let mut places = [0x45; 6];
@@ -138,7 +138,7 @@ fn written_utf8(c: char) -> ([u8; 6], usize) {
     (places, len)
 }
 
-// The places that a `Utf16Char` is written to, and how many it says that it took.
+// The buffer that a `Utf16Char` is written to, and the length that the call returns.
 fn written_utf16(c: char) -> ([u16; 4], usize) {
     let kept = Utf16Char::new(c);
     let mut places = [0x45; 4];
@@ -149,7 +149,7 @@ fn written_utf16(c: char) -> ([u16; 4], usize) {
     (places, len)
 }
 
-// Whether each call gives the row, and makes a character of it.
+// Returns true if each call returns what the row says, and makes a character of it.
 pub(crate) fn follow_the_table(edge: &Edge) -> bool {
     gives_codes(edge.0, edge)
         && is_made_of_bytes(edge.0, edge)

@@ -25,7 +25,7 @@ fn kept_front_of(src: &[u8]) -> Result<(char, usize), Utf8Error> {
     Ok((c.to_char(), len))
 }
 
-// Whether each call answers so at the front of a slice.
+// Returns true if each call returns this result at the front of a slice.
 fn begins(src: &[u8], answer: Result<(char, usize), Utf8ErrorKind>) -> bool {
     by_kind(char::from_utf8_slice_start(src)) == answer
         && by_kind(front_of(src)) == answer
@@ -36,13 +36,13 @@ fn kept_array_of(bytes: [u8; 4]) -> Result<char, Utf8Error> {
     Ok(Utf8Char::from_array(bytes)?.to_char())
 }
 
-// Whether each call answers so at the front of four bytes.
+// Returns true if each call returns this result at the front of four bytes.
 fn begins_four(bytes: [u8; 4], answer: Result<char, Utf8ErrorKind>) -> bool {
     by_kind(char::from_utf8_array(bytes)) == answer && by_kind(kept_array_of(bytes)) == answer
 }
 
-// Whether the first two bytes show the fault, before bytes that continue and to slices of each length
-// from the one that decides.
+// Returns true if the first two bytes give the fault, in an array with continuation bytes after them, and in
+// slices of each length from the deciding one.
 fn shows(first: u8, second: u8, deciding: usize, fault: Utf8ErrorKind) -> bool {
     for last in [0x80, 0x99, 0xbf] {
         if !begins_four([first, second, last, last], Err(fault)) {
@@ -58,8 +58,7 @@ fn shows(first: u8, second: u8, deciding: usize, fault: Utf8ErrorKind) -> bool {
     true
 }
 
-// Each row: the lowest and the highest first byte, the same of the second, how many bytes decide, and
-// what they are.
+// Each row: the range of the first byte, the range of the second, how many bytes decide, and the fault.
 #[test]
 fn the_first_two_bytes_show_faults(rt: HostRuntime) {
     let table: [(u8, u8, u8, u8, usize, Utf8ErrorKind); 7] = [
@@ -83,7 +82,8 @@ fn the_first_two_bytes_show_faults(rt: HostRuntime) {
     }
 }
 
-// Whether a byte that does not continue is told at the place, in a code of as many bytes.
+// Returns true if a byte that does not continue a sequence is reported at its offset, in a sequence of that
+// length.
 fn is_interrupted(first: u8, place: usize, len: usize) -> bool
     requires { place < 4 }
 {

@@ -2,12 +2,12 @@
 use encode_unicode::error::{Utf16ArrayError, Utf16SliceError, Utf16TupleError};
 use encode_unicode::{CharExt, Utf16Char};
 
-// Units at both ends of what stands by itself, of what begins a pair and of what ends one.
+// The first and last units of each class: no surrogate, leading surrogate, trailing surrogate.
 const ENDS: [u16; 8] = [
     0x0000, 0xd7ff, 0xd800, 0xdbff, 0xdc00, 0xdfff, 0xe000, 0xffff,
 ];
 
-// What two units are, asked through the bound.
+// Decodes an array of two units through the trait bound.
 fn of_array<T: CharExt>(units: [u16; 2]) -> Result<T, Utf16ArrayError> {
     T::from_utf16_array(units)
 }
@@ -16,14 +16,14 @@ fn kept_array_of(units: [u16; 2]) -> Result<char, Utf16ArrayError> {
     Ok(Utf16Char::from_array(units)?.to_char())
 }
 
-// Whether each call answers so for two units.
+// Returns true if each call returns this result for two units.
 fn are(units: [u16; 2], answer: Result<char, Utf16ArrayError>) -> bool {
     char::from_utf16_array(units) == answer
         && of_array(units) == answer
         && kept_array_of(units) == answer
 }
 
-// What one or two units are, asked through the bound.
+// Decodes one or two units through the trait bound.
 fn of_tuple<T: CharExt>(units: (u16, Option<u16>)) -> Result<T, Utf16TupleError> {
     T::from_utf16_tuple(units)
 }
@@ -32,14 +32,14 @@ fn kept_tuple_of(units: (u16, Option<u16>)) -> Result<char, Utf16TupleError> {
     Ok(Utf16Char::from_tuple(units)?.to_char())
 }
 
-// Whether each call answers so for one or two units.
+// Returns true if each call returns this result for one or two units.
 fn are_exactly(units: (u16, Option<u16>), answer: Result<char, Utf16TupleError>) -> bool {
     char::from_utf16_tuple(units) == answer
         && of_tuple(units) == answer
         && kept_tuple_of(units) == answer
 }
 
-// What begins a slice, asked through the bound.
+// Decodes the front of a slice through the trait bound.
 fn front_of<T: CharExt>(src: &[u16]) -> Result<(T, usize), Utf16SliceError> {
     T::from_utf16_slice_start(src)
 }
@@ -49,14 +49,15 @@ fn kept_front_of(src: &[u16]) -> Result<(char, usize), Utf16SliceError> {
     Ok((c.to_char(), len))
 }
 
-// Whether each call answers so at the front of a slice.
+// Returns true if each call returns this result at the front of a slice.
 fn begin(src: &[u16], answer: Result<(char, usize), Utf16SliceError>) -> bool {
     char::from_utf16_slice_start(src) == answer
         && front_of(src) == answer
         && kept_front_of(src) == answer
 }
 
-// Whether each call answers so at the front of every slice of two to six units that begins with these two.
+// Returns true if each call returns so at the front of every slice of two to six units that begins with these
+// two.
 fn begin_longer(units: [u16; 2], answer: Result<(char, usize), Utf16SliceError>) -> bool {
     let [first, second] = units;
     let six = [first, second, 0x0041, 0xdc00, first, second];
@@ -78,7 +79,7 @@ fn two_units_are_decoded_unchecked(rt: HostRuntime) {
     }
 }
 
-// Whether each call refuses the two units so.
+// Returns true if each call rejects the two units with this error.
 fn are_refused(
     units: [u16; 2],
     tuple: Utf16TupleError,

@@ -1,4 +1,4 @@
-//! Tests of the three forms of a character, `char`, `Utf8Char` and `Utf16Char`, of decoding one, of single bytes and
+//! Tests of the three types of a character, `char`, `Utf8Char` and `Utf16Char`, of decoding one, of single bytes and
 //! units, of the errors, and of the table of classes and states.
 #![tactic(auto)]
 

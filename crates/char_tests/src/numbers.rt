@@ -2,7 +2,7 @@
 use encode_unicode::CharExt;
 use encode_unicode::error::CodepointError::{self, TooHigh, Utf16Reserved};
 
-// The character of a number, asked through the bound.
+// Converts a number to a character through the trait bound.
 fn of_number<T: CharExt>(number: u32) -> Result<T, CodepointError> {
     T::from_u32_detailed(number)
 }

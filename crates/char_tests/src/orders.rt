@@ -1,4 +1,4 @@
-//! Equality, order and hashes of the three forms, in each and across them.
+//! Equality, order and hashes of the three character types, in each and across them.
 use crate::edges::characters;
 use encode_unicode::{CharExt, Utf8Char, Utf16Char};
 use std::alloc::{AllocError, Global};
@@ -7,7 +7,7 @@ use std::collections::{BTreeMap, HashMap};
 use std::hash::{BuildHasher, BuildHasherDefault, FoldHasher, Hash};
 use std::test::Fail;
 
-// Whether each call that compares two of one form answers by the order.
+// Returns true if each comparison of two values of one type agrees with the order.
 fn compares<T: Ord>(one: &T, other: &T, order: Ordering) -> bool {
     one.cmp(other) == order
         && one.partial_cmp(other) == Some(order)
@@ -15,14 +15,14 @@ fn compares<T: Ord>(one: &T, other: &T, order: Ordering) -> bool {
         && (one < other) == order.is_lt()
 }
 
-// Whether each form compares by the order.
+// Returns true if each character type compares by this order.
 pub(crate) fn forms_compare(one: char, other: char, order: Ordering) -> bool {
     compares(&one, &other, order)
         && compares(&one.to_utf8(), &other.to_utf8(), order)
         && compares(&one.to_utf16(), &other.to_utf16(), order)
 }
 
-// Whether two forms compare by the order.
+// Returns true if values of two character types compare by this order.
 pub(crate) fn forms_mix(one: char, other: char, order: Ordering) -> bool {
     let same = order.is_eq();
     let (bytes, other_bytes) = (one.to_utf8(), other.to_utf8());
@@ -50,7 +50,7 @@ fn characters_go_by_their_scalars(rt: HostRuntime) {
             }
         }
     }
-    // The lesser has the greater unit.
+    // The lesser scalar has the greater first unit.
     for (one, other) in [('\u{e000}', '\u{10000}'), ('\u{ffff}', '\u{10000}')] {
         assert!(rt; forms_compare(one, other, Ordering::Less));
         assert!(rt; forms_mix(one, other, Ordering::Less));
@@ -63,13 +63,13 @@ fn hash_of<T: Hash + Drop>(value: T) -> u64 {
     BuildHasherDefault::<FoldHasher>::new().hash_one(value)
 }
 
-// Whether the three forms hash alike.
+// Returns true if the three character types have equal hashes.
 pub(crate) fn hash_alike(c: char) -> bool {
     let hash = hash_of(c);
     hash_of(c.to_utf8()) == hash && hash_of(c.to_utf16()) == hash
 }
 
-// Characters beside those of the table.
+// Characters that are not in the table.
 fn strangers() -> [char; 10] {
     [
         '\u{1}',
@@ -85,7 +85,8 @@ fn strangers() -> [char; 10] {
     ]
 }
 
-// Whether an ordered map with the characters of the table as keys finds each at its place, and no other.
+// Returns true if an ordered map with the characters of the table as keys finds each at its index, and no
+// other.
 fn ordered_map_finds<T: From<char> + Ord + Copy + Drop>(alloc: Global) -> Result<bool, AllocError> {
     let mut map = BTreeMap::new(alloc);
     for (row, c) in characters().into_iter().enumerate() {
@@ -103,7 +104,7 @@ fn ordered_map_finds<T: From<char> + Ord + Copy + Drop>(alloc: Global) -> Result
     )
 }
 
-// The same of a map by hashes.
+// Returns true if a hash map with the characters of the table as keys finds each at its index, and no other.
 fn hashed_map_finds<T: From<char> + Eq + Hash + Copy + Drop>(
     alloc: Global,
 ) -> Result<bool, AllocError> {

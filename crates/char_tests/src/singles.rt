@@ -1,4 +1,4 @@
-//! Single bytes and units as characters, and beside characters.
+//! Single bytes and units as characters, and compared with characters.
 use crate::edges::edges;
 use encode_unicode::error::{NonAsciiError, NonBmpError};
 use encode_unicode::{CharExt, Utf8Char, Utf16Char};
@@ -27,7 +27,7 @@ fn single_bytes_and_units_are_characters_or_none(rt: HostRuntime) {
     assert!(rt; Utf16Char::from_bmp(0xdddd) == Err(NonBmpError));
 }
 
-// Whether each of the units equals the character, or none does.
+// Returns true if each of the units equals the character, or none does.
 fn equals_units(c: char, units: &[u16], expected: bool) -> bool {
     for unit in units {
         if c.to_utf16().eq_u16(*unit) != expected {

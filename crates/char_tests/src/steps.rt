@@ -30,7 +30,8 @@ fn each_byte_has_its_class(rt: HostRuntime) {
     }
 }
 
-// Whether bytes from 80, from 90 and from a0 on lead to these states, and a byte of each other class interrupts.
+// Returns true if bytes from 0x80, from 0x90 and from 0xa0 on lead to these states, and a byte of each other
+// class interrupts.
 fn leads(state: State, to: [State; 3]) -> bool
     requires { is_running state ≡ true }
 {
@@ -45,7 +46,7 @@ fn leads(state: State, to: [State; 3]) -> bool
         && step(state, class_of(0xa0)) == high
 }
 
-// By the syntax of byte sequences (RFC 3629, section 4).
+// Expected values: the syntax of byte sequences (RFC 3629, section 4).
 #[test]
 fn first_bytes_lead_to_what_they_ask_for(rt: HostRuntime) {
     for (byte, to) in [

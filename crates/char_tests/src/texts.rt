@@ -24,12 +24,12 @@ fn utf16_whole(text: &str) -> Result<char, FromStrError> {
     Ok(Utf16Char::from_str(text)?.to_char())
 }
 
-// The text as a character, asked through the bound.
+// Parses the text as a character through the trait bound.
 fn parsed<T: FromStr>(text: &str) -> Result<T, T::Err> {
     text.parse()
 }
 
-// Whether the text begins so, and is so as a whole, by each call.
+// Returns true if each call finds this at the front of the text, and in the whole text.
 fn reads(
     text: &str,
     start: Result<(char, usize), EmptyStrError>,
@@ -57,7 +57,8 @@ fn texts_are_characters_or_faults(rt: HostRuntime) {
     }
 }
 
-// Whether a longer text begins with the character of the row, and its own text is it.
+// Returns true if a longer text begins with the character of the row, and its own text is exactly that
+// character.
 pub(crate) fn begins_its_texts(edge: &Edge) -> bool {
     let (c, text, bytes, _) = *edge;
     let start = Ok((c, bytes.len()));
@@ -65,7 +66,7 @@ pub(crate) fn begins_its_texts(edge: &Edge) -> bool {
     reads(text, start, Err(FromStrError::MultipleCodepoints)) && reads(alone, start, Ok(c))
 }
 
-// Whether both forms are shown and written as the `char` is, whatever width is asked for.
+// Returns true if both types are formatted and written as the `char` is, whatever the width.
 pub(crate) fn is_shown(alloc: Global, c: char) -> Result<bool, AllocError> {
     let (bytes, units) = (c.to_utf8(), c.to_utf16());
     let shown = format!(in alloc; "{bytes:?}{units:?}")? == format!(in alloc; "{c:?}{c:?}")?;
@@ -75,7 +76,7 @@ pub(crate) fn is_shown(alloc: Global, c: char) -> Result<bool, AllocError> {
     Ok(shown && written && wide)
 }
 
-// Whether both forms are shown so.
+// Returns true if both types are formatted like this.
 fn shows(alloc: Global, c: char, text: &str) -> Result<bool, AllocError> {
     let bytes = format!(in alloc; "{:?}", c.to_utf8())?;
     let units = format!(in alloc; "{:?}", c.to_utf16())?;

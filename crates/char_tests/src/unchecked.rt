@@ -1,17 +1,17 @@
-//! The calls that ask their caller, called on codes that are known.
+//! The calls that have a condition, called with encoded characters that are known to be valid.
 ghost use Rattle.encode_unicode.specs.Decoded.{DecodesWhole};
 
 use crate::edges::Edge;
 use encode_unicode::{CharExt, Utf8Char, Utf16Char};
 
-// The character of the bytes, taken through the bound for the code of one.
+// Decodes one encoded character by the unchecked call of the trait.
 fn of_one_code<T: CharExt>(bytes: &[u8]) -> T
     requires { DecodesWhole bytes.now }
 {
     T::from_utf8_exact_slice_unchecked(bytes)
 }
 
-// The character of the code of that character.
+// Encodes the character and decodes it again, unchecked.
 fn of_own_code(c: char) -> char {
     let kept = Utf8Char::new(c);
     of_one_code(kept.as_bytes())
@@ -29,19 +29,19 @@ fn of_own_units(c: char) -> Utf16Char {
     Utf16Char::from_array_unchecked(units)
 }
 
-// The character that begins the bytes, where one does, and the length of its code.
+// The character that begins the bytes, if one does, and the length of its code.
 fn at_front_of_bytes(src: &[u8]) -> Option<(Utf8Char, usize)> {
     let _front = Utf8Char::from_slice_start(src).ok()?;
     Some(Utf8Char::from_slice_start_unchecked(src))
 }
 
-// The character that begins the units, where one does, and the length of its code.
+// The character that begins the units, if one does, and the length of its code.
 fn at_front_of_units(src: &[u16]) -> Option<(Utf16Char, usize)> {
     let _front = Utf16Char::from_slice_start(src).ok()?;
     Some(Utf16Char::from_slice_start_unchecked(src))
 }
 
-// The character of its own units, the second even where there is none.
+// The character of its own units; without a second unit the tuple has `None`.
 fn of_own_tuple(c: char) -> [Utf16Char; 2] {
     let [first, second] = c.to_utf16_array();
     let padded = Utf16Char::from_tuple_unchecked((first, Some(second)));
@@ -51,7 +51,7 @@ fn of_own_tuple(c: char) -> [Utf16Char; 2] {
     [padded, Utf16Char::from_tuple_unchecked((first, None))]
 }
 
-// Whether each call that asks its caller gives the character of the row.
+// Returns true if each unchecked call gives the character of the row.
 pub(crate) fn answer_unchecked(edge: &Edge) -> bool {
     let (c, _, bytes, units) = *edge;
     let (in_bytes, in_units) = (c.to_utf8(), c.to_utf16());

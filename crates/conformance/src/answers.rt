@@ -1,14 +1,14 @@
-//! What answers the calls of a row.
+//! The calls of a row, and the traits of what they are called on.
 
 use std::alloc::{AllocError, Global};
 
-/// What answers calls that are named.
+/// A value on which calls are made by their names.
 pub(crate) trait Asked {
-    /// The answer to the next call, as `Debug` writes it.
+    /// The result of the next call, as `Debug` writes it.
     fn answer(&mut self, alloc: Global, call: &str) -> Result<String, AllocError>;
 }
 
-/// What stands in the place of an answer where there is no such call, and in no row.
+/// The result if there is no such call; no row has it.
 pub(crate) fn no_call(alloc: Global, call: &str) -> Result<String, AllocError> {
     format!(in alloc; "no call {call}")
 }

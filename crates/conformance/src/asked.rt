@@ -1,4 +1,4 @@
-//! Rows of calls: what is asked, by which calls, and what each has to answer.
+//! Rows of calls: what they are made on, which calls, and what each has to return.
 
 use crate::answers::Asked;
 use crate::characters::{Number, TextOfOne};
@@ -11,10 +11,10 @@ use fakes::rows::{bytes_of, units_of, wrong_row};
 use std::alloc::{AllocError, Global};
 use std::io;
 
-/// What a row says: what is asked, its input, the calls and their answers.
+/// The contents of a row: a kind of value, its input, the calls and their results.
 #[derive(Drop)]
 pub(crate) struct CallRow<'a> {
-    /// The line as it stands in the file.
+    /// The line as it is in the file.
     pub(crate) text: &'a str,
     asked: &'a str,
     input: &'a str,
@@ -22,8 +22,8 @@ pub(crate) struct CallRow<'a> {
     answers: &'a str,
 }
 
-/// The rows of the file. A line that begins with `#` is none, and any other has four columns with ` | `
-/// between them: what is asked, its input, the calls with spaces between them, and the answers with ` ; `
+/// The rows of the file. A line that begins with `#` is a comment; any other has four columns with ` | `
+/// between them: the kind of value, its input, the calls with spaces between them, and the results with ` ; `
 /// between them.
 pub(crate) fn parse(alloc: Global, file: &str) -> io::Result<Vec<CallRow<'_>>> {
     let mut rows = Vec::new(alloc);
@@ -53,7 +53,7 @@ fn parse_row(line: &str) -> io::Result<CallRow<'_>> {
 }
 
 impl<'a> CallRow<'a> {
-    /// Whether each call answers what the row says.
+    /// Returns true if each call returns what the row says.
     pub(crate) fn agrees(&self, alloc: Global) -> io::Result<bool> {
         match self.asked {
             "bytes" | "decoder" | "merger" => self.bytes_agree(alloc),
@@ -112,7 +112,7 @@ impl<'a> CallRow<'a> {
         })
     }
 
-    // Whether what is asked gives the row's answers.
+    // Returns true if the calls on the value return the row's results.
     fn holds<A: Asked + Drop>(&self, alloc: Global, asked: A) -> Result<bool, AllocError> {
         let mut asked = asked;
         let mut answers = self.answers.split(" ; ");

@@ -100,7 +100,7 @@ impl<'a> Asked for Utf16CharDecoder<'a> {
     }
 }
 
-// What stands before the source in what a merger shows.
+// What precedes the source in what a merger shows.
 fn without_source(alloc: Global, shown: &str) -> Result<String, AllocError> {
     String::from_str(alloc, shown.split(", inner: ").next().unwrap_or(""))
 }

@@ -1,4 +1,4 @@
-//! Holds the codec against vectors that another program computed, and prints how many agree.
+//! Compares the codec with vectors that another program computed, and prints how many agree.
 //!
 //! A row that differs is printed too, and the status is then 1.
 #![tactic(auto)]
@@ -29,7 +29,7 @@ fn main(rt: HostRuntime) -> io::Result<ExitCode> {
     Ok(ExitCode::from(u8::from(!(bytes && units && recoded && calls))))
 }
 
-// Holds each kind of run against the rows of bytes. Answers whether all agree.
+// Compares each kind of run with the rows of bytes. Returns whether all agree.
 fn bytes_agree(rt: &HostRuntime) -> io::Result<bool> {
     let text = fs::read_to_string(rt, "bytes.txt")?;
     let rows = rows::parse(rt.alloc(), &text)?;
@@ -72,7 +72,7 @@ fn calls_agree(rt: &HostRuntime) -> io::Result<bool> {
     report_calls(rt, rows.as_slice())
 }
 
-// Prints how many of the rows agree under one kind of run, and each that does not. Answers whether all do.
+// Prints how many of the rows agree under one kind of run, and each that does not. Returns whether all do.
 fn report_bytes(rt: &HostRuntime, run: Run, rows: &[Row<'_>]) -> io::Result<bool> {
     let mut differing = Vec::new(rt.alloc());
     for row in rows {

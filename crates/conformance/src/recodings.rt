@@ -1,14 +1,14 @@
-//! The rows of recoded bytes, and the ways of feeding them that are held against the rows.
+//! The rows of transcoded bytes, and the ways of feeding them that are compared with the rows.
 
 use cuts::{Form, Recoder};
 use fakes::rows::{bytes_of, wrong_row};
 use std::alloc::{AllocError, Global};
 use std::io;
 
-/// What a row says: two forms, some bytes in the first, and what they are in the second.
+/// The contents of a row: two encodings, some bytes in the first, and these bytes transcoded to the second.
 #[derive(Drop)]
 pub(crate) struct RecodedRow<'a> {
-    /// The line as it stands in the file.
+    /// The line as it is in the file.
     pub(crate) text: &'a str,
     from: Form,
     to: Form,
@@ -16,8 +16,9 @@ pub(crate) struct RecodedRow<'a> {
     recoded: Vec<u8>,
 }
 
-/// The rows of the file. A line that begins with `#` is none, and any other has three columns with `|`
-/// between them: the names of both forms, with a space between them, the bytes, and what they are recoded as.
+/// The rows of the file. A line that begins with `#` is a comment; any other has three columns with `|`
+/// between them: the names of both encodings, with a space between them, the bytes, and what they are
+/// transcoded to.
 pub(crate) fn parse(alloc: Global, file: &str) -> io::Result<Vec<RecodedRow<'_>>> {
     let mut rows = Vec::new(alloc);
     for line in file.lines() {
@@ -59,9 +60,9 @@ fn form_of(name: &str) -> io::Result<Form> {
 /// A way of feeding the bytes.
 #[derive(Clone, Copy)]
 pub(crate) enum Feeding {
-    /// All at once.
+    /// The whole input in one call.
     Whole,
-    /// One by one.
+    /// One byte a call.
     ByteByByte,
 }
 
@@ -73,7 +74,7 @@ impl Feeding {
         }
     }
 
-    /// Whether the recoder then makes of the row's bytes what the row says.
+    /// Returns true if a recoder that is fed in this way writes what the row says.
     pub(crate) fn agrees(self, alloc: Global, row: &RecodedRow<'_>) -> Result<bool, AllocError> {
         let most = match self {
             Feeding::Whole => usize::MAX,

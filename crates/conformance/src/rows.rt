@@ -5,24 +5,24 @@ use fakes::rows::{bytes_of, wrong_row};
 use std::alloc::Global;
 use std::io;
 
-/// What a row says: some bytes, and what runs over them have to give, as text with `;` between the
-/// answers.
+/// The contents of a row: some bytes, and the results that runs over them have to give, with `;` between
+/// them.
 #[derive(Drop)]
 pub(crate) struct Row<'a> {
-    /// The bytes as they stand in the file, in hexadecimal.
+    /// The bytes as they are in the file, in hexadecimal.
     pub(crate) text: &'a str,
     pub(crate) bytes: Vec<u8>,
-    /// The pieces from the front, each an offset, a length and an answer.
+    /// The pieces from the front, each an offset, a length and a result.
     pub(crate) pieces: &'a str,
-    /// The answers of a merger.
+    /// The results of a merger.
     pub(crate) merged: &'a str,
-    /// A word, and the walk by it: for each letter a piece as above, or `none`.
+    /// A word, and the walk that it describes: for each letter the piece at that end, or `none`.
     pub(crate) word: Vec<End>,
     pub(crate) walk: &'a str,
 }
 
-/// The rows of the file. A line that begins with `#` is none, and any other has five columns with `|`
-/// between them: the bytes, the pieces, what a merger gives, a word, and the walk by it.
+/// The rows of the file. A line that begins with `#` is a comment; any other has five columns with `|`
+/// between them: the bytes, the pieces, what a merger gives, a word, and the walk that it describes.
 pub(crate) fn parse(alloc: Global, file: &str) -> io::Result<Vec<Row<'_>>> {
     let mut rows = Vec::new(alloc);
     for line in file.lines() {

@@ -1,4 +1,4 @@
-//! The kinds of run that are held against the vectors.
+//! The kinds of run that are compared with the vectors.
 
 use crate::rows::Row;
 use cuts::{Counted, walk_utf8, write_listing};
@@ -10,7 +10,7 @@ use std::io;
 /// A kind of run over some bytes.
 #[derive(Clone, Copy)]
 pub(crate) enum Run {
-    /// The first piece alone, by the calls that decode the front of a slice.
+    /// The first piece only, by the calls that decode the front of a slice.
     Front,
     /// Each piece in turn, by the decoder.
     Decoder,
@@ -18,7 +18,7 @@ pub(crate) enum Run {
     Listing,
     /// The pieces from both ends, as the letters of the row's word ask for them.
     Walk,
-    /// Each answer in turn, by the merger.
+    /// Each result in turn, by the merger.
     Merger,
 }
 
@@ -33,7 +33,7 @@ impl Run {
         }
     }
 
-    /// Whether the run gives what the row says of it.
+    /// Returns true if the run gives what the row says of it.
     pub(crate) fn agrees(self, alloc: Global, row: &Row<'_>) -> io::Result<bool> {
         match self {
             Run::Front => Ok(front_agrees(alloc, row)?),
@@ -116,7 +116,7 @@ fn merger_agrees(alloc: Global, row: &Row<'_>) -> Result<bool, AllocError> {
     Ok(run.as_str() == row.merged)
 }
 
-// Whether the piece names an error: its answer begins with a capital letter, which no digit here is.
+// Returns true if the piece names an error: only then it has a capital letter.
 fn is_error(piece: &str) -> bool {
     piece.bytes().any(|byte| byte.is_ascii_uppercase())
 }
@@ -132,7 +132,7 @@ fn piece_text(
     format!(in alloc; "{place} {len} {answer}")
 }
 
-// An answer alone.
+// A result without offset and length.
 fn answer_text(alloc: Global, answer: Result<char, Utf8Error>) -> Result<String, AllocError> {
     match answer {
         Ok(c) => format!(in alloc; "{:06x}", c as u32),

@@ -11,7 +11,7 @@ use std::io::Read;
 use std::iter::Copied;
 use std::slice::Iter;
 
-/// The four iterators of a text, which answer each call in turn.
+/// The four iterators of a text: each call goes to all of them.
 #[derive(Drop)]
 pub(crate) struct CharactersOf<'a> {
     indices: Utf8CharIndices<'a>,
@@ -110,7 +110,7 @@ impl Asked for CodeOfOne {
     }
 }
 
-// The places that a call `read-N` is given: the first N.
+// The buffer that a call `read-N` is given: the first N bytes.
 fn room_of<'a>(call: &str, places: &'a mut [u8; 9]) -> Option<&'a mut [u8]> {
     let digits = call.strip_prefix("read-")?;
     places.get_mut(..digits.parse().ok()?)

@@ -1,4 +1,4 @@
-//! The rows of units, and the kinds of run that are held against them.
+//! The rows of units, and the kinds of run that are compared with them.
 
 use crate::rows::parse_word;
 use cuts::{End, walk_utf16};
@@ -8,22 +8,22 @@ use fakes::rows::{units_of, wrong_row};
 use std::alloc::{AllocError, Global};
 use std::io;
 
-/// What a row says: some units, and what runs over them have to give, as text with `;` between the
-/// answers.
+/// The contents of a row: some units, and the results that runs over them have to give, with `;` between
+/// them.
 #[derive(Drop)]
 pub(crate) struct UnitRow<'a> {
-    /// The units as they stand in the file, each in four hexadecimal digits.
+    /// The units as they are in the file, each in four hexadecimal digits.
     pub(crate) text: &'a str,
     pub(crate) units: Vec<u16>,
-    /// The pieces from the front, each an offset, a length and an answer.
+    /// The pieces from the front, each an offset, a length and a result.
     pub(crate) pieces: &'a str,
-    /// A word, and the walk by it: for each letter a piece as above, or `none`.
+    /// A word, and the walk that it describes: for each letter the piece at that end, or `none`.
     pub(crate) word: Vec<End>,
     pub(crate) walk: &'a str,
 }
 
-/// The rows of the file. A line that begins with `#` is none, and any other has four columns with `|`
-/// between them: the units, the pieces, a word, and the walk by it.
+/// The rows of the file. A line that begins with `#` is a comment; any other has four columns with `|`
+/// between them: the units, the pieces, a word, and the walk that it describes.
 pub(crate) fn parse(alloc: Global, file: &str) -> io::Result<Vec<UnitRow<'_>>> {
     let mut rows = Vec::new(alloc);
     for line in file.lines() {
@@ -56,7 +56,8 @@ fn parse_row(alloc: Global, line: &str) -> io::Result<UnitRow<'_>> {
 pub(crate) enum UnitRun {
     /// Each piece in turn, by the decoder.
     Decoder,
-    /// Each answer in turn, by the merger. The rows have no column of its own: it answers the same.
+    /// Each result in turn, by the merger. It has no column of its own, since it returns the decoder's
+    /// results.
     Merger,
     /// The pieces from both ends, as the letters of the row's word ask for them.
     Walk,
@@ -71,7 +72,7 @@ impl UnitRun {
         }
     }
 
-    /// Whether the run gives the pieces of the row.
+    /// Returns true if the run gives the pieces of the row.
     pub(crate) fn agrees(self, alloc: Global, row: &UnitRow<'_>) -> io::Result<bool> {
         match self {
             UnitRun::Decoder => Ok(decoder_agrees(alloc, row)?),
@@ -108,7 +109,7 @@ fn walk_agrees(alloc: Global, row: &UnitRow<'_>) -> Result<bool, AllocError> {
     Ok(walk.as_str() == row.walk)
 }
 
-// The answers alone: what stands after the last space of each piece.
+// Compares only results: what follows the last space of each piece.
 fn merger_agrees(alloc: Global, row: &UnitRow<'_>) -> Result<bool, AllocError> {
     let mut pieces = row.pieces.split_terminator(';');
     for answer in row.units.iter().copied().to_utf16chars() {
@@ -132,7 +133,7 @@ fn piece_text(
     format!(in alloc; "{place} {len} {answer}")
 }
 
-// An answer alone.
+// A result without offset and length.
 fn answer_text(alloc: Global, answer: Result<char, Utf16PairError>) -> Result<String, AllocError> {
     match answer {
         Ok(c) => format!(in alloc; "{:06x}", c as u32),

@@ -22,7 +22,7 @@ filter_all : {X : Type 0} (p : X → Bool) (xs : List X) → All (λ x. p x ≡ 
 filter_all p [] all = refl
 filter_all p (x ∷ xs) all = rw (all 0 x (omega arith)) (ap (λ ys. x ∷ ys) (filter_all p xs (λ k d lt. all (suc k) d (omega arith))))
 
--- A count of items that goes by their pieces.
+-- A count of items that uses their pieces.
 module _ {E : Type 0} (f : List (Placed E) → ℕ) (adds : (items others : List (Placed E)) → f (items ++ others) ≡ f items + f others) (moves : (i : ℕ) (items : List (Placed E)) → f (map (moved i) items) ≡ f items)
     (code : ℕ → List ℕ) (kind : List ℕ → Option E) (run : List ℕ → List (Placed E)) (is : (w : List ℕ) → IsRun code kind w (run w)) where
   count_of_shard : (xs : List ℕ) (i n : ℕ) → i ≤ n → n ≤ length xs → f (shard_items run 0 xs i n) ≡ f (run (slice_range xs i n))
@@ -79,7 +79,7 @@ faults_add =
     counts_add faulty_item_count (λ items others. sum_by-append (λ y. cond (is_fault y) 1 0) items others) moved_faults utf8 fault_kind pieces pieces_are_the_run utf8_is_code
     (λ items others e. sym (faults_by_pieces items) ∙ ap (count_by (λ p. is_none p.char)) e ∙ faults_by_pieces others)
 
--- Line feeds, which any places part.
+-- Line feeds, which any offsets part.
 
 line_feeds_from : (xs : List ℕ) (i : ℕ) (places : List ℕ) → AreOutside utf8 xs i places → sum_of_shards line_feed_count xs i places ≡ line_feed_count (drop i xs)
 line_feeds_from xs i [] h = refl

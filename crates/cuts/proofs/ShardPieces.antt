@@ -1,4 +1,5 @@
--- The cut of a shard is that part of the whole cut that lies in it, and so is its run where it is given with some elements after it.
+-- The cut of a shard is that part of the whole cut that lies in it, and so is its run if it is given with
+-- some elements after it.
 use Rattle.std.proofs.Common.{◌≡◌, ℕ, zero, suc, ◌+◌, ◌-◌, ◌<◌, ◌≤◌, Bool, true, false, cond, ltb, List, [], ◌∷◌, ◌++◌, length, length-drop, get_or, map, take, take_all, drop, arith, refl, ap, ap₂, sym, subst, ◌∙◌, inl, inr, Option, Some, None, Result, Ok, Err, ltb-true, lt-ltb}
 use Rattle.std.proofs.lemmas.Bool.{cases_lt, cond_both}
 use Rattle.std.proofs.lemmas.Grind.{common_steps}
@@ -68,7 +69,7 @@ pieces_moved : {E : Type 0} (i : ℕ) (items : List (Placed E)) → map piece_of
 pieces_moved i [] = refl
 pieces_moved i (x ∷ items) = ap (λ ps. piece_moved i (piece_of x) ∷ ps) (pieces_moved i items)
 
--- A shard from i to n, with what stands after it to the place e.
+-- A shard from i to n, with what follows it to the offset e.
 module _ (code : ℕ → List ℕ) (xs : List ℕ) (i n e : ℕ) (lo : i ≤ n) (le : n ≤ e) (within : e ≤ length xs) (first : Inside code xs i → ⊥) (last : Inside code xs n → ⊥) where
   abbrev shard : List ℕ
   shard = slice_range xs i e
@@ -76,7 +77,7 @@ module _ (code : ℕ → List ℕ) (xs : List ℕ) (i n e : ℕ) (lo : i ≤ n) 
   shard_len : length shard ≡ e - i
   shard_len = grind (arith, common_steps)
 
-  -- a code that covers a place of the shard lies in it
+  -- a code that covers an offset of the shard lies in it
   lies_in : (p : ℕ) → i ≤ p → p < n → (v : Covered code xs p) → (i ≤ v.from) × (v.from + length (code v.char) ≤ n)
   lies_in p ge lt v =
       let begins = v.begins in
@@ -127,7 +128,7 @@ module _ (code : ℕ → List ℕ) (xs : List ℕ) (i n e : ℕ) (lo : i ≤ n) 
         rw (get_or-map (piece_moved i) ps j d d (omega arith), get_or-map (piece_moved i) ps k d d less) (omega arith);
   }
 
-  -- what follows a place of the shard decides of its kind, where enough elements do
+  -- what follows an offset of the shard decides its kind, if enough elements do
   module _ {E : Type 0} (kind : List ℕ → Option E) (m : ℕ) (decides : (w : List ℕ) → kind (take m w) ≡ kind w) (ahead : e < length xs → n + m ≤ e + 1) where
     take_few : (a b : ℕ) (w : List ℕ) → a ≤ b → take a (take b w) ≡ take a w
     take_few a b w le = grind (arith, common_steps)
@@ -153,7 +154,7 @@ module _ (code : ℕ → List ℕ) (xs : List ℕ) (i n e : ℕ) (lo : i ≤ n) 
     pub kinds_of_shard : (items : List (Placed E)) → All (λ x. x.0 < n - i) items → All (HasKind kind shard) items → All (HasKind kind xs) (map (moved i) items)
     kinds_of_shard items few has = all_map (HasKind kind xs) (moved i) items (λ k d lt. let x = get_or items k d in kind_moved x.0 x.2 x.1 (few k d lt) (has k d lt))
 
--- How far a shard goes with so many elements after it.
+-- The extent of a shard with `more` elements after it.
 record Reach (xs : List ℕ) (i n more : ℕ) : Type 0 where
   end : ℕ
   ordered : n ≤ end
@@ -224,7 +225,7 @@ module _ {E : Type 0} (code : ℕ → List ℕ) (c : IsCode code) (kind : List �
       run_unique code kind c xs (joined_items run more xs 0 places) (run xs)
       (record { cut = joined_cut xs 0 places (outside_front code xs) h; kinds = joined_kinds m decides enough xs 0 places (outside_front code xs) h }) (is xs)
 
--- Items that pass a test that asks for no place.
+-- Items that pass a test that does not depend on the offset.
 module _ {E : Type 0} (q : Result ℕ E → Bool) (run : List ℕ → List (Placed E)) (more : ℕ) where
   abbrev kept : List ℕ → List (Placed E)
   kept w = filter (λ x. q x.1) (run w)

@@ -1,4 +1,5 @@
--- What a decoder gives from the back is what it gives from the front, in turned order: the pieces of both are the one cut.
+-- A decoder gives from the end what it gives from the front, in reverse order: the pieces of both are the one
+-- cut.
 use Rattle.std.proofs.Common.{◌≡◌, ℕ, zero, suc, ◌+◌, ◌-◌, ◌<◌, ◌≤◌, ⊎_elim, ◌⊎◌, inl, inr, List, [], ◌∷◌, ◌++◌, length, map, arith, refl, ap, sym, subst, ◌∙◌, Ok, Err, Result}
 use Rattle.std.proofs.lemmas.Bool.{cases_lt}
 use Rattle.std.proofs.lemmas.Grind.{reverse_onto}
@@ -33,7 +34,7 @@ record Last (code : ℕ → List ℕ) (xs : List ℕ) (i j : ℕ) (x : Piece) : 
   pub outside : Inside code xs x.start → ⊥
 
 module _ {E : Type 0} (code : ℕ → List ℕ) (c : IsCode code) where
-  -- an answer is the code that ends some elements, or a fault where none does
+  -- a result is the character that ends some elements, or a fault if none does
   abbrev pub TellsEnd : List ℕ → Result ℕ E → ℕ → Type 0
   TellsEnd w (Ok s) n = EndsWith code w s n
   TellsEnd w (Err k) n = NoCodeEnds code w × (n ≡ 1)
@@ -50,7 +51,7 @@ module _ {E : Type 0} (code : ℕ → List ℕ) (c : IsCode code) where
       let b = back_fault code xs i j lo hi lt le none in
       rw one (record { piece = b.0; ends = omega arith; within = omega arith; some = omega arith; outside = b.1 })
 
-  -- the pieces from the back, turned about, are the cut
+  -- the pieces from the end, turned about, are the cut
   back_cut : (answer : List ℕ → Result (ℕ × ℕ) E) → ((w : List ℕ) → 1 ≤ (as_piece (answer w)).1) → (xs : List ℕ)
       → ((i j : ℕ) → i < j → j ≤ length xs → TellsEnd (slice_range xs i j) (as_piece (answer (slice_range xs i j))).0 (as_piece (answer (slice_range xs i j))).1)
       → (n i j : ℕ) → j ≤ i + n → i ≤ j → j ≤ length xs → (Inside code xs i → ⊥) → (Inside code xs j → ⊥)
@@ -76,16 +77,16 @@ module _ {E : Type 0} (code : ℕ → List ℕ) (c : IsCode code) where
       rw (back_none answer some xs (suc n) i j ge, same) (cut_none code xs i))
       (cases_lt i j)
 
--- A code ends some elements, or none does.
+-- A character ends some elements, or none does.
 module _ (code : ℕ → List ℕ) (c : IsCode code) (find : Finds code) (w : List ℕ) where
-  -- no code that begins at the place p or after it ends them
+  -- no character that begins at the offset p or after it ends them
   abbrev NoneFrom : ℕ → Type 0
   NoneFrom p = (q s : ℕ) → p ≤ q → Stands code w q s → q + length (code s) ≡ length w → ⊥
 
   abbrev Found : Type 0
   Found = (s : ℕ) × (n : ℕ) × EndsWith code w s n
 
-  -- what a code that begins at a place tells of those that end there
+  -- what a character at an offset implies for those that end there
   from_code : (p s : ℕ) → Stands code w p s → NoneFrom (p + 1) → Found ⊎ NoneFrom p
   from_code p s h none =
       let within = h.within in

@@ -1,2 +1,2 @@
-//! A reader or writer whose failures are counted, for contracts alone.
+//! A reader or writer whose failures are counted, only for contracts.
 pub use text_runs::counted::Counted;

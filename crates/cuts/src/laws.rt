@@ -1,4 +1,4 @@
-//! The laws of whole runs over bytes, and those of recoding.
+//! The laws of whole runs over bytes, and the laws of transcoding.
 //!
 //! Each function does nothing: its contract is the law.
 ghost use Rattle.std.specs.Prelude.{◌≡◌, ◌↔◌, is_ok, length};
@@ -31,28 +31,29 @@ pub fn runs_are_unique()
     ensures merged_units { OneMergedRun utf16 unit_fault_kind }
 {}
 
-/// What a decoder gives of some bytes, one piece after another, is the forward run over them, of which there is one.
+/// The items of a decoder of some bytes are the forward run over them, of which there is one.
 pub fn pieces_are_the_run()
     ensures { PiecesAreTheRun }
 {}
 
-/// Bytes have no fault exactly where they are UTF-8.
+/// Bytes have no fault if and only if they are UTF-8.
 pub fn text_has_no_fault()
     ensures { TextHasNoFault }
 {}
 
-/// Bytes are UTF-8 exactly where each of their pieces is a character. Said of the bytes that are given, which stay as they are.
+/// Bytes are UTF-8 if and only if each of their pieces is a character. States it for the bytes that are
+/// given, which stay as they are.
 pub fn text_is_all_characters(bytes: &[u8])
     ensures { IsTrue (list_all (λ x. is_ok x.1) (pieces bytes.now)) ↔ IsUtf8 bytes.now }
 {}
 
-/// The same of a merger: bytes are UTF-8 exactly where each of its answers for them is a character.
+/// Bytes are UTF-8 if and only if each result of a merger for them is a character.
 pub fn merged_is_all_characters(bytes: &[u8])
     ensures { IsTrue (list_all (λ r. is_ok r) (merged bytes.now)) ↔ IsUtf8 bytes.now }
 {}
 
-/// From the back a decoder gives the same pieces as from the front, in turned order: characters and invalid bytes, with their
-/// offsets and lengths. The kind of an error may be another.
+/// From the end a decoder gives the same pieces as from the front, in reverse order: characters and invalid bytes,
+/// with their offsets and lengths. The kind of an error may differ.
 #[tactic(auto, using(crate::proofs::TurnedPieces::turned, crate::proofs::TurnedPieces::faults_turned))]
 pub fn pieces_back_are_the_pieces(bytes: &[u8])
     ensures turned { AreTurned (pieces_back bytes.now) (pieces bytes.now) }
@@ -65,10 +66,10 @@ pub fn split_is_unique()
     ensures { OneSplit }
 {}
 
-/// Bytes may be cut into shards where no character lies over the place, as `shard_end` finds one. What decoders give of the
-/// shards, one after another and with offsets in the whole, has the pieces that one gives of the whole. Where each shard is
-/// given with the three bytes after it, and what begins in those is left out, errors have the same kinds too. So the invalid
-/// bytes of the shards, with their offsets and kinds, are those of the whole.
+/// Bytes may be cut into shards at an offset inside no character, as `boundary_before` and `shard_end` find one. The
+/// pieces of the shards, one after another and with offsets in the whole, are the pieces of the whole. If each shard
+/// is given with the three bytes after it, and pieces that begin in those are left out, errors have the same kinds
+/// too. So the invalid bytes of the shards, with their offsets and kinds, are those of the whole.
 #[tactic(auto, using(crate::proofs::ShardPieces::bytes_join, crate::proofs::ShardPieces::faults_join, crate::proofs::ShardPieces::pieces_join))]
 pub fn shard_pieces_join()
     ensures alone { ShardPiecesJoin utf8 pieces }
@@ -76,7 +77,7 @@ pub fn shard_pieces_join()
     ensures faults { ShardItemsJoin utf8 faults 3 }
 {}
 
-/// How many pieces such shards have, how many invalid bytes, and how many line feeds, adds up to how many the whole has.
+/// The numbers of pieces, of invalid bytes and of line feeds in such shards add up to those of the whole.
 #[tactic(auto, using(crate::proofs::ShardCounts::pieces_add, crate::proofs::ShardCounts::faults_add, crate::proofs::ShardCounts::line_feeds_add))]
 pub fn shard_counts_add()
     ensures pieces { ShardCountsAdd utf8 (λ w. length (pieces w)) }
@@ -84,9 +85,9 @@ pub fn shard_counts_add()
     ensures lines { ShardCountsAdd utf8 line_feed_count }
 {}
 
-/// The pieces that a `Decoder` gives. Of UTF-8 they are what a merger answers for the whole input. However the input is cut into
-/// parts, they are those of the parts, joined. What a decoder holds is not decided: none that is right whatever follows gives a
-/// piece more.
+/// The pieces that a `Decoder` gives. Of UTF-8 they are what a merger returns for the whole input. However the input
+/// is cut into parts, they are the pieces of the joined parts. The bytes that a decoder carries over are undecided:
+/// no decoder that is right whatever follows gives one piece more.
 pub fn pieces_of_parts()
     ensures merged { LocatedAreMerged }
     ensures parts { PartsAreLocated }

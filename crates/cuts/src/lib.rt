@@ -1,17 +1,19 @@
-//! Whole runs over bytes and units, recoding, and what the programs do, over the calls of `encode_unicode`.
+//! Whole runs over bytes and units, transcoding, and the programs, built on the calls of `encode_unicode`.
 //!
-//! - Runs: `walk_utf8` and `walk_utf16` ask from both ends, `forward_utf16` from the front; `merge_utf8` and
-//!   `merge_utf16` collect what a merger answers; `valid_up_to` and `units_valid_up_to` find the first fault, and
-//!   `unit_bytes_valid_up_to` that of units in bytes; `faults_into` and `unit_faults_into` give the faults, with their offsets;
-//!   `forms` has the calls that take bytes in any form.
-//! - Boundaries: `boundaries` finds the character boundaries next to any byte, and `changed_range` where pieces may change in an edit.
+//! - Runs: `walk_utf8` and `walk_utf16` take pieces from both ends, `forward_utf16` from the front; `merge_utf8` and
+//!   `merge_utf16` collect what a merger returns; `valid_up_to` and `units_valid_up_to` find the first fault, and
+//!   `unit_bytes_valid_up_to` the first of units in bytes; `faults_into` and `unit_faults_into` give the faults, with their offsets;
+//!   `forms` has the calls that take bytes in any encoding.
+//! - Boundaries: `boundaries` finds the character boundaries next to any byte, `boundary_before` and `boundary_after` those of
+//!   bytes in any encoding, and `changed_range` the range in which an edit may change pieces.
 //! - Parts: `split_ascii` gives the parts between ASCII separators, `lines` the lines, each with its offset; `fault_count` and
 //!   `char_count` count.
 //! - Input in parts: `Decoder` gives the pieces of all of it, each with its offset; `undecided_len` says how many bytes at the end of
-//!   a block later ones decide, and `form_of_bom` what form a byte order mark tells.
-//! - Tables: `PieceTable` keeps the pieces of bytes that are edited, and `TextBuffer` a long text, which a `TextCursor` goes through.
-//! - Recoding: `Recoder` takes text in parts, `recode` from a reader to a writer, and `recode_strict` to the first fault; `room_for` says how much comes of some
-//!   bytes at most, `shard_end` and `boundary_after` where a large input may be cut; `front_of_text` gives one character.
+//!   a block later ones decide, and `form_of_bom` the encoding that a byte order mark indicates.
+//! - Tables: `PieceTable` keeps the pieces of bytes that are edited, and `TextBuffer` a long text, which a `TextCursor` iterates over.
+//! - Transcoding: `Recoder` takes text in parts, `recode` from a reader to a writer, and `recode_strict` to the first fault;
+//!   `room_for` returns an upper bound of the output size, `shard_end` an offset where a large input may be cut; `front_of_text`
+//!   gives one character.
 //! - Programs: `write_listing`, `write_merged` and `write_walk` write lines, and `run_pieces` and `run_recode` are one
 //!   run each. Their `main`s are in `programs::mains`.
 //! - `Counted` counts the failures of a reader or writer, and `laws` has what holds of all runs.
@@ -29,7 +31,9 @@ pub use programs::pieces_program::run_pieces;
 pub use programs::recode_program::run_recode;
 pub use programs::recode_stream::{RecodeFault, recode};
 pub use programs::strict::{FaultAt, StrictError, recode_strict};
-pub use recoding::boundaries::{boundary_after, unit_boundary_after, unit_boundary_before};
+pub use recoding::boundaries::{
+    boundary_after, boundary_before, unit_boundary_after, unit_boundary_before,
+};
 pub use recoding::faults::{Fault, FaultKind, Outcome, StrictProgress};
 pub use recoding::form::Form;
 pub use recoding::recoder::{Recoder, Unfinished};

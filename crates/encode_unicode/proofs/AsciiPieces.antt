@@ -1,4 +1,4 @@
--- An ASCII byte is a piece of its own wherever it stands: so it is among the pieces, and counts as often as its character.
+-- An ASCII byte is always a piece of its own: so it is among the pieces, and occurs as often as its character.
 use Rattle.std.proofs.Common.{◌≡◌, ℕ, zero, suc, ◌+◌, ◌-◌, ◌<◌, ◌≤◌, List, [], ◌∷◌, ◌++◌, length, get_or, drop, take, cond, false, get_or-drop, map, Option, Some, None, Ok, Err, Result, refl, ap, sym, subst, ◌∙◌, arith, ⊎_elim, length-drop, take-append-drop}
 use Rattle.std.proofs.lemmas.Bool.{cases_lt}
 use Rattle.std.proofs.lemmas.Bool.Decides.{nat_tests}
@@ -26,7 +26,7 @@ use Rattle.encode_unicode.specs.Window.{Item, as_piece}
 use Rattle.encode_unicode.proofs.MergedLists.{fault_by_merger, same_code}
 use Rattle.encode_unicode.proofs.PieceRuns.{whole_text}
 
--- how many elements are this one
+-- the number of elements that equal this one
 abbrev ones : ℕ → List ℕ → ℕ
 ones b xs = count_by (λ c. nat_eq c b) xs
 
@@ -41,7 +41,7 @@ ones-append b (x ∷ xs) ys =
     let both = ones-cons b x (xs ++ ys) in
     omega arith
 
--- the code of a character has an ASCII byte only where it is that byte
+-- the code of a character has an ASCII byte only if it is that byte
 ones_of_code : (b s : ℕ) → b < 128 → ones b (utf8 s) ≡ cond (nat_eq s b) 1 0
 unfolding utf8
 ones_of_code b s ascii = grind (arith, nat_tests)
@@ -60,11 +60,11 @@ code_then xs s h =
     let len : 0 + length (utf8 s) - 0 ≡ length (utf8 s) = omega arith in
     sym (take-append-drop (length (utf8 s)) xs) ∙ ap (λ ys. ys ++ drop (length (utf8 s)) xs) (ap (λ n. take n xs) (sym len) ∙ h.equal)
 
--- the characters of the pieces from a place on
+-- the characters of the pieces from an offset on
 abbrev characters_by : ℕ → ℕ → List ℕ → List ℕ
 characters_by n place xs = filter_map (λ (x : Item). result_ok x.1) (pieces_by decoded n place xs)
 
--- one piece, and then the others
+-- one piece, and then the rest
 characters_more : (n place x : ℕ) (xs : List ℕ) (r : Result ℕ Utf8ErrorKind) (k : ℕ) → as_piece (decoded (x ∷ xs)) ≡ (r, k)
     → pieces_by decoded (suc n) place (x ∷ xs) ≡ (place, r, k) ∷ pieces_by decoded n (place + k) (drop k (x ∷ xs))
 unfolding pieces_by
@@ -100,13 +100,13 @@ counted b (suc n) place [] ascii h = refl
 counted b (suc n) place (x ∷ xs) ascii h =
     first_counted b n place x xs ascii (λ k some. let less = length-drop k (x ∷ xs) in counted b n (place + k) (drop k (x ∷ xs)) ascii (omega arith))
 
--- an ASCII byte stands as often in the bytes as its character among their pieces
+-- an ASCII byte occurs as often in the bytes as its character among their pieces
 pub ascii_counted : (b : ℕ) (xs : List ℕ) → b < 128 → count_by (λ c. nat_eq c b) (characters xs) ≡ count_by (λ c. nat_eq c b) xs
 ascii_counted b xs ascii =
     let whole = whole_text xs in
     counted b _ 0 _ ascii (omega arith) ∙ ap (ones b) whole
 
--- Where an ASCII byte stands, the item there is its character.
+-- At the offset of an ASCII byte, the item is its character.
 
 here : {A : Type 0} (x : A) (xs : List A) → Contains (x ∷ xs) x
 here x xs = (0, omega arith, refl)
@@ -123,7 +123,7 @@ low_code s low = (grind (arith, common_steps), grind (arith, common_steps))
 in_code : (xs : List ℕ) (s k : ℕ) → Stands utf8 xs 0 s → k < length (utf8 s) → get_or xs k 0 ≡ get_or (utf8 s) k 0
 in_code xs s k h lt = ap (λ ys. get_or ys k 0) (code_then xs s h) ∙ get_or_append_left (utf8 s) (drop (length (utf8 s)) xs) 0 k lt
 
--- the piece of the ASCII byte at the place q of some bytes that begin at the place p
+-- the piece of the ASCII byte at the offset q of some bytes that begin at the offset p
 abbrev IsItem : ℕ → ℕ → List ℕ → ℕ → Type 0
 IsItem n p xs q = Contains (pieces_by decoded n p xs) (p + q, Ok (get_or xs q 0), 1)
 
@@ -180,7 +180,7 @@ ascii_is_an_item xs p within low =
     let zero : 0 + p ≡ p = omega arith in
     rw (whole_text xs) (subst (λ k. Contains (pieces_by decoded (length xs) 0 xs) (k, Ok (get_or xs p 0), 1)) zero (item_at (length xs) 0 xs p (omega arith) within low))
 
--- It is a piece, and no code lies over its ends.
+-- An ASCII byte is a piece, and no code covers its ends.
 
 pub ascii_is_a_piece : (xs : List ℕ) (p : ℕ) → IsAsciiAt xs p → IsPiece utf8 xs (ascii_piece xs p)
 ascii_is_a_piece xs p h = ascii_stands_alone xs p h.0 h.1
@@ -205,7 +205,7 @@ ascii_after xs p h inside =
     absurd (omega arith))
     (cases_lt inside.from p)
 
--- Mergers answer with a character where decoders do.
+-- A merger returns a character if and only if a decoder does.
 
 faulty_by_both : (xs : List ℕ) (k : Utf8ErrorKind) → merger_kind xs ≡ Some k → (is_ok (as_piece (decoded_by_merger xs)).0 ≡ false) × (is_ok (as_piece (decoded xs)).0 ≡ false)
 faulty_by_both xs k e = (rw (fault_by_merger xs k e) refl, by_kind (fault_kind xs) refl)

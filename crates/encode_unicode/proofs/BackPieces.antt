@@ -1,4 +1,4 @@
--- A run of a decoder from the back gives the list of its pieces, the last first.
+-- A run of a decoder from the end gives the list of its pieces in reverse order.
 use Rattle.std.proofs.Common.{◌≡◌, ℕ, zero, suc, ◌+◌, ◌-◌, ◌<◌, ◌≤◌, List, [], ◌∷◌, false, true, Some, None, Ok, Err, Result, refl, ap, sym, ◌∙◌, arith, if◌then◌else◌, ⊎_elim}
 use Rattle.std.proofs.lemmas.Bool.{cases_lt}
 use Rattle.std.proofs.lemmas.Grind.{common_steps}
@@ -25,7 +25,7 @@ unfolding decoded_pairs_end unit_end
 some_end_units w = grind (arith, common_steps)
 
 module _ {E : Type 0} (answer : List ℕ → Result (ℕ × ℕ) E) (some : (w : List ℕ) → 1 ≤ (as_piece (answer w)).1) (xs : List ℕ) where
-  -- how many elements the last piece has
+  -- the number of elements of the last piece
   abbrev taken : ℕ → ℕ → ℕ
   taken i j = (as_piece (answer (slice_range xs i j))).1
 
@@ -38,7 +38,7 @@ module _ {E : Type 0} (answer : List ℕ → Result (ℕ × ℕ) E) (some : (w :
   unfolding pieces_back_by
   back_more n i j lt = let no : nat_le j i ≡ false = grind (arith, common_steps) in rw no refl
 
-  -- the number does not matter where it is no less than there are elements
+  -- the bound does not matter if it is no less than the number of elements
   back_enough : (n m i j : ℕ) → j ≤ i + n → j ≤ i + m → pieces_back_by answer n xs i j ≡ pieces_back_by answer m xs i j
   back_enough zero m i j a b = back_none zero i j (omega arith) ∙ sym (back_none m i j (omega arith))
   back_enough (suc n) zero i j a b = back_none (suc n) i j (omega arith) ∙ sym (back_none zero i j (omega arith))
@@ -72,7 +72,7 @@ module _ {E : Type 0} (code : ℕ → List ℕ) (most : ℕ) (kind : ℕ → E) 
   none_left : (w v : Window) → GivesNone w v → left w ≡ []
   none_left w v g = back_none answer some w.whole (w.back - w.front) w.front w.back (omega (arith, g.none))
 
--- what a decoder of bytes still gives from the back, and one of units
+-- the remaining pieces of a decoder of bytes from the end, and of a decoder of units
 pub decoder_listed_back : IsListed NextBackGives pieces_back_left
 decoder_listed_back w None v h = let none = none_left utf8 4 back_kind decoded_end some_end_bytes w v h in (none, rw h.left none)
 decoder_listed_back w (Some x) v h = last_taken utf8 4 back_kind decoded_end some_end_bytes w v x h

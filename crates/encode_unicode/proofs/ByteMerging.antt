@@ -1,4 +1,4 @@
--- What a merger of bytes answers for the byte that has left it.
+-- The result of a merger of bytes for the byte that was taken from it.
 use Rattle.std.proofs.Common.{◌≡◌, ℕ, suc, ◌<◌, ◌≤◌, List, [], ◌∷◌, ◌++◌, length, get_or, Some, None, Ok, Err, Bool, true, false, refl, ap, sym, ◌∙◌, arith, ⊎_elim, append-nil, length-append, lit<, ◌⊎◌}
 use Rattle.std.proofs.lemmas.Bool.{cases_lt}
 use Rattle.std.proofs.lemmas.Grind.{common_steps}
@@ -18,7 +18,7 @@ use Rattle.encode_unicode.specs.Mergers.{IsHeldBytes}
 use Rattle.encode_unicode.specs.Reading.{Answers, Completes, CompletesAfter, JudgesBytes, ReadsElements}
 use Rattle.encode_unicode.proofs.MergerSteps.{reads_none, reads_more, value_of_answer}
 
--- What is held.
+-- The bytes that are buffered.
 
 pub held_none : IsHeldBytes []
 held_none = record { few = omega arith; continuing = λ k lt. absurd (omega arith) }
@@ -36,7 +36,7 @@ held_three b c d first second = record {
       ⊎_elim (λ (h : k < 1). let zero : k ≡ 0 = omega arith in rw zero first) (λ (h : 1 ≤ k). let one : k ≡ 1 = omega arith in rw one second) (cases_lt k 1);
 }
 
--- what is left of it
+-- the remaining bytes of the merger
 pub held_rest : (old new : List ℕ) (r : Option ℕ) → YieldsFirst (λ (xs : List ℕ). xs) old r new → IsHeldBytes old → IsHeldBytes new
 held_rest old new None h held = rw h.1 held_none
 held_rest old new (Some x) h held =
@@ -47,7 +47,7 @@ held_rest old new (Some x) h held =
       continuing = λ k lt. ap (λ xs. is_continuation (get_or xs (suc k) 0)) (sym h) ∙ held.continuing (suc k) (omega arith);
     }
 
--- A byte that stands alone.
+-- A byte that is a character of its own.
 
 no_continuation : (b s : ℕ) → IsScalar s → b ∷ [] ≡ utf8 s → is_continuation b ≡ false
 no_continuation b s scalar e =
@@ -75,7 +75,7 @@ byte_alone can_next remaining steps first old s e (Err k) can few alone j = reco
   clear = tt;
 }
 
--- An answer, as it completes the first byte.
+-- A result, as it completes the first byte.
 
 completes_ok : {S : Type 0} (can_next : S → Type 0) (remaining : S → Count) (steps : S → Option ℕ → S → Type 0) (first : ℕ) (old bytes : List ℕ) (c : ℕ) (s t : S) (e f : Bool) (new : List ℕ)
     → IsScalar c → bytes ≡ padded 4 (utf8 c) → Answers utf8 merger_kind can_next remaining steps first old s e (Ok c) new t f
@@ -98,9 +98,9 @@ pub alone_fails : {S : Type 0} {can_next : S → Type 0} {remaining : S → Coun
     → Completes can_next remaining steps first (record { held = old; ended = e }) s (Err k) (record { held = old; ended = e }) s
 alone_fails {S} {can_next} {remaining} {steps} {first} {k} {old} {s} {e} can few alone held j = record { answers = byte_alone can_next remaining steps first old s e (Err k) can few alone j; held = held }
 
--- After what was read before.
+-- The result after the bytes that were read before.
 
--- a code, whose last byte is b
+-- a complete code, whose last byte is b
 pub code_after : {S : Type 0} {can_next : S → Type 0} {remaining : S → Count} {steps : S → Option ℕ → S → Type 0} (first : ℕ) (before : List ℕ) (b c : ℕ) {bytes : List ℕ} {u t : S} {new : List ℕ} {f : Bool}
     → ReadsElements can_next remaining steps u false (b ∷ []) t false → IsScalar c → first ∷ before ++ b ∷ [] ≡ utf8 c → bytes ≡ padded 4 (utf8 c) → new ≡ [] → f ≡ false
     → CompletesAfter can_next remaining steps first before u (Ok bytes) (record { held = new; ended = f }) t
@@ -114,7 +114,7 @@ code_after {S} {can_next} {remaining} {steps} first before b c {bytes} {u} {t} {
       clear = none;
     })
 
--- no code, as the byte b shows, which is held after the others
+-- no code, as the byte b shows, which is buffered after the others
 pub fault_after : {S : Type 0} {can_next : S → Type 0} {remaining : S → Count} {steps : S → Option ℕ → S → Type 0} (first : ℕ) (before : List ℕ) (b : ℕ) {k : Utf8ErrorKind} {u t : S} {new : List ℕ} {f : Bool}
     → ReadsElements can_next remaining steps u false (b ∷ []) t false → ((later : List ℕ) → merger_kind (first ∷ (before ++ b ∷ []) ++ later) ≡ Some k) → IsHeldBytes (before ++ b ∷ []) → new ≡ before ++ b ∷ [] → f ≡ false
     → CompletesAfter can_next remaining steps first before u (Err k) (record { held = new; ended = f }) t
@@ -151,7 +151,7 @@ end_after first before {k} {u} {t} {new} reads kind held same mark s so_far =
       held = rw same held;
     }
 
--- of a first byte that is after the end itself
+-- no code, for a first byte after which the source has ended
 pub end_at_once : {S : Type 0} {can_next : S → Type 0} {remaining : S → Count} {steps : S → Option ℕ → S → Type 0} {first : ℕ} {old : List ℕ} {s : S} {e : Bool}
     → e ≡ true → 1 < asked first → old ≡ []
     → Completes can_next remaining steps first (record { held = old; ended = e }) s (Err TooFewBytes) (record { held = old; ended = e }) s
@@ -182,7 +182,7 @@ pub four_padded : (a b d g c : ℕ) → a ∷ b ∷ d ∷ g ∷ [] ≡ utf8 c �
 unfolding padded
 four_padded a b d g c e = rw (← e) refl
 
--- The character of four bytes that are its own.
+-- The character of four bytes that are its code.
 
 pub known_bytes : {S : Type 0} {can_next : S → Type 0} {remaining : S → Count} {steps : S → Option ℕ → S → Type 0} {first : ℕ} {bytes old : List ℕ} {c : ℕ} {s t : S} {e f : Bool} {new : List ℕ}
     → Completes can_next remaining steps first (record { held = old; ended = e }) s (Ok bytes) (record { held = new; ended = f }) t → decoded_bytes bytes ≡ Ok c

@@ -1,4 +1,4 @@
--- The lemmas that callers cite, passed on from the crate that proves them.
+-- The lemmas that callers cite, re-exported from the crate that proves them.
 pub use Rattle.utf_base.proofs.StdText.{encodes_are_codes, utf8_is_std, utf8_is_text, scalar_for_std, scalar_from_std}
 pub use Rattle.utf_base.proofs.TextScalars.{all_scalar, joined_from_text}
 pub use Rattle.utf_base.proofs.Utf8Code.{utf8_is_code, length_utf8}

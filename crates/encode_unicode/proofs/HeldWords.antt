@@ -1,27 +1,15 @@
--- Bytes and their number in one word.
+-- Bytes and their number, in one word.
 use Rattle.std.proofs.Common.{◌≡◌, ℕ, ◌+◌, ◌-◌, ◌*◌, ◌/◌, ◌%◌, ◌<◌, ◌≤◌, [], ◌∷◌, length, take, ⊎_elim, refl, arith, ap, sym, ◌∙◌}
 use Rattle.std.proofs.lemmas.Bool.{cases_lt}
 use Rattle.encode_unicode.specs.HeldWord.{held_bytes_of, count_of}
 
--- what the word holds, by the number of bytes
+-- the bytes of the word, by their number
 pub holds : (w n : ℕ) → count_of w ≡ n → held_bytes_of w ≡ take n (w % 256 ∷ w / 256 % 256 ∷ w / 0x1_0000 % 256 ∷ [])
 unfolding held_bytes_of
 holds w n count = rw count refl
 
-pub holds_nothing : (w : ℕ) → count_of w < 1 → held_bytes_of w ≡ []
-holds_nothing w h = holds w 0 (omega arith)
-
 pub holds_none : (w : ℕ) → w < 0x100_0000 → held_bytes_of w ≡ []
 holds_none w h = holds w 0 (omega arith)
-
--- the mark that the source has ended leaves the bytes as they are
-pub marked_bytes : (w v : ℕ) → count_of w ≤ 3 → v ≡ w % 0x8000_0000 + 0x8000_0000 → held_bytes_of v ≡ held_bytes_of w
-marked_bytes w v le e =
-    let count : count_of v ≡ count_of w = omega arith in
-    let first : v % 256 ≡ w % 256 = omega arith in
-    let second : v / 256 % 256 ≡ w / 256 % 256 = omega arith in
-    let third : v / 0x1_0000 % 256 ≡ w / 0x1_0000 % 256 = omega arith in
-    holds v (count_of w) count ∙ rw (first, second, third) (sym (holds w (count_of w) refl))
 
 -- a word of known bytes
 pub one_byte : (w a : ℕ) → a < 256 → w ≡ 0x100_0000 + a → held_bytes_of w ≡ a ∷ []
@@ -52,9 +40,9 @@ length_bytes w le =
     by_count (λ n. length (held_bytes_of w) ≡ n) (count_of w) le
     (λ n. ap length (holds w 0 n) ∙ sym n) (λ n. ap length (holds w 1 n) ∙ sym n) (λ n. ap length (holds w 2 n) ∙ sym n) (λ n. ap length (holds w 3 n) ∙ sym n)
 
--- a word that is not idle and holds nothing says that the source has ended
-pub holds_some : (w : ℕ) → w < 0x1_0000_0000 → count_of w ≤ 3 → 0x100_0000 ≤ w → held_bytes_of w ≡ [] → 0x8000_0000 ≤ w
-holds_some w fits le ge none =
+-- a word that holds nothing is below the first that holds some
+pub holds_some : (w : ℕ) → count_of w ≤ 3 → held_bytes_of w ≡ [] → w < 0x100_0000
+holds_some w le none =
     let len = length_bytes w le in
     let zero : length (held_bytes_of w) ≡ 0 = ap length none in
     omega arith

@@ -11,7 +11,7 @@ use Rattle.utf_base.proofs.Utf8Code.{utf8_is_code, length_utf8}
 use Rattle.utf_base.proofs.Utf16Code.{utf16_is_code, length_utf16}
 use Rattle.encode_unicode.specs.Hints.{BoundsPieces, BoundsUnitPieces}
 
--- as many pieces of a part of a list as its length tells
+-- the number of pieces of a part of a list is bounded by its length
 counts : (code : ℕ → List ℕ) → IsCode code → Finds code → (m : ℕ) → ((s : ℕ) → length (code s) ≤ m) → 0 < m → (xs : List ℕ) (i j : ℕ) → i ≤ j → j ≤ length xs → (ps : List Piece) → IsCut code (slice_range xs i j) ps
     → (length ps ≤ j - i) × (j - i ≤ m * length ps)
 counts code is finds m short some xs i j lo hi ps h =

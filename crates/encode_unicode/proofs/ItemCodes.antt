@@ -17,7 +17,7 @@ module _ (code : ℕ → List ℕ) where
       sym (ap (λ k. take k (drop (length w - n) w)) e ∙ take_all _ (drop (length w - n) w) (omega arith)) ∙ h.0.equal
 
   module _ (whole : List ℕ) (i j : ℕ) where
-    -- it stands at the item's place in the whole list
+    -- the code is at the item's offset in the whole list
     pub ends_there : (s n : ℕ) → i < j → j ≤ length whole → n ≤ length (slice_range whole i j) → EndsWith code (slice_range whole i j) s n → slice_range whole (j - n) (j - n + n) ≡ code s
     ends_there s n some fits short h =
         let len : length (slice_range whole i j) ≡ j - i = grind (arith, common_steps) in
@@ -26,7 +26,7 @@ module _ (code : ℕ → List ℕ) where
         let after = range_after whole i j (length (slice_range whole i j) - n) (omega arith) in
         ap (λ k. slice_range whole (j - n) k) to ∙ ap (λ k. slice_range whole k j) (sym from) ∙ after ∙ ends_taken (slice_range whole i j) s n h
 
--- the item that a call from the back answers
+-- the item that a call from the end returns
 pub back_item : {E : Type 0} (code : ℕ → List ℕ) (most : ℕ) (kind : ℕ → E) (answer : List ℕ → Result (ℕ × ℕ) E) {whole : List ℕ} {i j : ℕ} (r : Result ℕ E) {n : ℕ} → i < j → j ≤ length whole
     → IsBackOf code kind (slice_range whole i j) r n → (r, n) ≡ as_piece (answer (slice_range whole i j)) → IsFrontLen most (slice_range whole i j) n
     → GivesBackOf code most kind answer (record { whole = whole; front = i; back = j }) (j - n, r, n) (record { whole = whole; front = i; back = j - n })

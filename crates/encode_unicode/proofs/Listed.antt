@@ -39,8 +39,8 @@ copied_listed s r t h = rw h.2 (at_item s t h.0 h.1)
 pub splitter_listed : {S : Type 0} (code : ℕ → List ℕ) (steps : S → Option ℕ → S → Type 0) (rest : S → List ℕ) → IsListed steps rest → IsListed (SplitterNext code steps) (unsent code rest)
 splitter_listed code steps rest listed s r t h = h.takes rest listed
 
--- What a function makes of each item of a source, where calls leave the closure as it was and `h` tells what they answer by
--- what the closure has captured. `view` reads an item of the source, as `λ x. x.now` reads a reference.
+-- `map` of a function over a source, if calls leave the closure as it was and `h` gives their result from what the
+-- closure has captured. `view` reads an item of the source, as `λ x. x.now` reads a reference.
 mapped_listed : {S A B C F : Type 0} (steps : S → Option A → S → Type 0) (view : A → C) (rest : S → List C) (g : Mut F (A × Unit {0}) B) (h : F → C → B)
     → ((s : S) (r : Option A) (t : S) → steps s r t → YieldsFirstBy view rest s r t)
     → ((f : F) (x : A) (y : B) (q : F) → Called g f (x, tt) y q → (q ≡ f) × (y ≡ h f (view x)))
@@ -68,7 +68,7 @@ map_iter_listed {A} g h = mapped_listed iter_steps (λ (x : Bor A). x.now) iter_
     at_reference s None t h = let none = nil_from_length (iter_rest s) h.0 in (none, ap iter_rest h.1 ∙ none)
     at_reference s (Some x) t h = h
 
--- `filter` over a source that is listed, where `test` tells what the closure answers
+-- `filter` over a source that is listed, if `test` gives the closure's result
 module _ {S A F : Type 0} (steps : S → Option A → S → Type 0) (rest : S → List A) (g : Mut F (Bor A × Unit {0}) Bool) (test : F → A → Bool) (listed : IsListed steps rest)
     (acts : (f : F) (x : A) (b : Bool) (q : F) → CalledAt g f x b q → (q ≡ f) × (b ≡ test f x)) where
   skipped : (xs : List A) (s j : S) (f q : F) → Yields steps s xs j → FoldsTo (λ p x q. CalledAt g p x false q) f xs q → (q ≡ f) × (filter (test f) (rest s) ≡ filter (test f) (rest j))
@@ -102,14 +102,14 @@ pub array_listed : {A : Type 0} {n : ℕ} → IsListed (array_steps {A = A} {n =
 array_listed s None t h = let none = nil_from_length (array_into_iter_items s) h.0 in (none, ap array_into_iter_items h.1 ∙ none)
 array_listed s (Some x) t h = h
 
--- what the two sides of a chain still give: nothing where a side has ended
+-- the remaining items of the two sides of a chain: none if a side has ended
 abbrev first_left : {S T A : Type 0} → (S → List A) → Chain S T → List A
 first_left first c = cond (chain_first_done c) [] (first (chain_first c))
 
 abbrev second_left : {S T A : Type 0} → (T → List A) → Chain S T → List A
 second_left second c = cond (chain_second_done c) [] (second (chain_second c))
 
--- a chain gives what its first side still gives, and then its second
+-- a chain gives what its first side still gives, and then what its second side does
 abbrev pub chain_rest : {S T A : Type 0} → (S → List A) → (T → List A) → Chain S T → List A
 chain_rest first second c = first_left first c ++ second_left second c
 
@@ -122,7 +122,7 @@ module _ {S T A : Type 0} (steps : S → Option A → S → Type 0) (others : T 
   second_gives false s t None e f h = rw (e, f) (second_listed (chain_second s) None (chain_second t) h)
   second_gives false s t (Some x) e f h = rw (e, f) (second_listed (chain_second s) (Some x) (chain_second t) h)
 
-  -- where the first side gives nothing
+  -- a chain whose first side gives nothing
   only_second : (s t : Chain S T) (r : Option A) → first_left first s ≡ [] → first_left first t ≡ [] → YieldsFirst (second_left second) s r t → YieldsFirst (chain_rest first second) s r t
   only_second s t None a b h = rw (a, b) h
   only_second s t (Some x) a b h = rw (a, b) h
@@ -146,7 +146,7 @@ module _ {S T A : Type 0} (steps : S → Option A → S → Type 0) (others : T 
   pub chain_listed : IsListed (chain_steps steps others) (chain_rest first second)
   chain_listed s r t h = asked (chain_first_done s) s t r refl h.0 h.1
 
--- `rev` of a source whose other end is listed: `back` is what its `next_back` does
+-- `rev` of a source whose other end is listed: `back` describes its `next_back`
 pub rev_listed : {S A : Type 0} (back : S → Option A → S → Type 0) (rest : S → List A) → ((s : S) (r : Option A) (t : S) → back s r t → YieldsLast rest s r t)
     → IsListed (rev_steps back) (λ s. reverse (rest (rev_source s)))
 rev_listed back rest listed s None t h = let none = listed (rev_source s) None (rev_source t) h in (ap reverse none.0, ap reverse none.1)
@@ -181,7 +181,7 @@ copied_rev_listed {A} = rev_listed (copied_steps iter_steps_back) (λ s. iter_re
     at_item s t None k = k
     at_item s t (Some x) k = k
 
--- the characters of a text from the back, and with their offsets
+-- the characters of a text from the end, and with their offsets
 pub scalars_rev_listed : IsListed (rev_steps BackScalar) (λ s. reverse (chars_left (rev_source s)))
 scalars_rev_listed = rev_listed BackScalar chars_left scalars_last
 

@@ -1,4 +1,4 @@
--- A merger answers the characters that a decoder gives of the same elements.
+-- A merger returns the characters that a decoder gives of the same elements.
 use Rattle.std.proofs.Common.{◌≡◌, ℕ, zero, suc, ◌+◌, List, [], ◌∷◌, length, map, drop, Option, Some, None, Result, Err, refl, ap, sym, ◌∙◌}
 use Rattle.std.specs.List.{cons_option, filter_map}
 use Rattle.std.specs.Result.{result_ok}
@@ -14,7 +14,7 @@ use Rattle.encode_unicode.specs.Window.{as_piece}
 use Rattle.encode_unicode.proofs.MergedLists.{fault_by_merger, same_code}
 use Rattle.encode_unicode.proofs.PieceRuns.{whole_text}
 
--- what two decodings share: the length of the first piece, and its character, if it is one
+-- the properties that two decodings share: the length of the first piece, and its character, if it is one
 abbrev AreAlike : {E F : Type 0} → Result (ℕ × ℕ) E → Result (ℕ × ℕ) F → Type 0
 AreAlike a b = ((as_piece a).1 ≡ (as_piece b).1) × (result_ok (as_piece a).0 ≡ result_ok (as_piece b).0)
 

@@ -1,4 +1,4 @@
--- What a merger answers for some bytes, and for some units, one answer after another.
+-- The results of a merger for some bytes, and for some units, one after another.
 use Rattle.std.proofs.Common.{◌≡◌, ℕ, zero, suc, ◌+◌, ◌≤◌, List, [], ◌∷◌, length, map, drop, Option, Some, None, Result, Ok, Err, refl, ap, sym, ◌∙◌, arith, length-append}
 use Rattle.std.specs.Iterator.Runs.{EachRunFrom, SomeRun}
 use Rattle.std.proofs.lemmas.List.{drop_at}
@@ -20,7 +20,7 @@ use Rattle.encode_unicode.specs.Window.{as_piece}
 use Rattle.encode_unicode.proofs.MergerRuns.{listed_merger_runs, merger_runs}
 use Rattle.encode_unicode.proofs.PieceRuns.{first_piece, some_bytes, some_units}
 
--- where the merger's kind is none, its decoding is that of a slice
+-- if the merger's kind is none, its decoding is that of a slice
 pub same_code : (w : List ℕ) → merger_kind w ≡ None → decoded_by_merger w ≡ decoded w
 unfolding decoded_by_merger decoded
 same_code w none = rw (none, merger_none w none) refl
@@ -36,7 +36,7 @@ some_by_merger xs = by_kind (merger_kind xs) refl
     by_kind None e = rw (same_code xs e) (some_bytes xs)
     by_kind (Some k) e = rw (fault_by_merger xs k e) (omega arith)
 
--- where the pieces begin does not matter to what they are
+-- the results do not depend on the offset where the pieces begin
 answers_anywhere : {E : Type 0} (answer : List ℕ → Result (ℕ × ℕ) E) (n i j : ℕ) (xs : List ℕ) → map (λ x. x.1) (pieces_by answer n i xs) ≡ map (λ x. x.1) (pieces_by answer n j xs)
 unfolding pieces_by
 answers_anywhere answer zero i j xs = refl
@@ -44,7 +44,7 @@ answers_anywhere answer (suc n) i j [] = refl
 answers_anywhere answer (suc n) i j (x ∷ xs) =
     ap (λ rs. (as_piece (answer (x ∷ xs))).0 ∷ rs) (answers_anywhere answer n (i + (as_piece (answer (x ∷ xs))).1) (j + (as_piece (answer (x ∷ xs))).1) (drop (as_piece (answer (x ∷ xs))).1 (x ∷ xs)))
 
--- one answer, and then those for what it leaves
+-- one result, and then the results for the rest
 module _ {E : Type 0} (code : ℕ → List ℕ) (kind : List ℕ → Option E) (answer : List ℕ → Result (ℕ × ℕ) E) (some : (xs : List ℕ) → 1 ≤ (as_piece (answer xs)).1) where
   answer_then : (xs ys : List ℕ) (r : Result ℕ E) (n : ℕ) → 1 ≤ length xs → (r, n) ≡ as_piece (answer xs) → ys ≡ drop n xs
       → map (λ x. x.1) (pieces_by answer (length xs) 0 xs) ≡ r ∷ map (λ x. x.1) (pieces_by answer (length ys) 0 ys)

@@ -1,4 +1,4 @@
--- The hint of a merger.
+-- The size hint of a merger.
 use Rattle.std.proofs.Common.{◌≡◌, ℕ, ◌+◌, ◌*◌, ◌/◌, ◌<◌, ◌≤◌, List, length, Some, None, Bool, true, false, refl, ap, ◌∙◌, arith, length-append}
 use Rattle.std.specs.Iterator.{Count}
 use Rattle.std.specs.Prelude.{Option, IfSome}
@@ -19,12 +19,12 @@ still_fewer : {S : Type 0} (rest : S → List ℕ) (s : S) (e : Bool) → length
 still_fewer rest s true = omega arith
 still_fewer rest s false = omega arith
 
--- and no less than its hint says, once that is 0
+-- a source that has ended gives no less than its hint, once that is 0
 lower_until : {S : Type 0} (rest : S → List ℕ) (s : S) (e : Bool) (hint : ℕ × Option ℕ) → hint.0 ≤ length (rest s) → (hint_until e hint).0 ≤ length (still rest s e)
 lower_until rest s true hint le = omega arith
 lower_until rest s false hint le = le
 
--- the hint of a source that has ended is 0 already, where it bounds what the source gives
+-- the hint of a source that has ended is already 0, if it bounds what the source gives
 until_plain : (e : Bool) (hint : ℕ × Option ℕ) (n : ℕ) → (e ≡ true → n ≡ 0) → hint.0 ≤ n → hint_until e hint ≡ hint
 until_plain true hint n none le = let known = none refl in let zero : 0 ≡ hint.0 = omega arith in ap (λ low. (low, hint.1)) zero
 until_plain false hint n none le = refl

@@ -1,4 +1,4 @@
--- A run of a merger, by the run of its source.
+-- A run of a merger, derived from the run of its source.
 use Rattle.std.proofs.Common.{◌≡◌, ℕ, suc, ◌+◌, ◌<◌, ◌≤◌, Bool, true, false, cond, List, [], ◌∷◌, ◌++◌, length, drop, get_or, Option, Some, None, Result, Ok, Err, refl, ap, sym, subst, ◌∙◌, arith, length-append, length-drop, append_assoc, append-nil}
 use Rattle.std.specs.Iterator.{Yields, DrainsIf}
 use Rattle.std.specs.Iterator.Runs.{Run, EachRunFrom, ItemsAre, SomeRun}
@@ -15,12 +15,12 @@ use Rattle.encode_unicode.proofs.PieceRuns.{listed_run}
 use Rattle.encode_unicode.proofs.RunTests.{first_of}
 use Rattle.encode_unicode.proofs.SplitterRuns.{gives_front}
 
--- nothing is read where the source had ended
+-- nothing is read if the source had ended
 gave_ended : {S A : Type 0} (steps : S → Option A → S → Type 0) (s t : S) (e f : Bool) (xs : List A) → e ≡ true → Gave steps s e xs t f → (xs ≡ []) × (t ≡ s) × (f ≡ true)
 gave_ended steps s t true f xs ends g = g
 gave_ended steps s t false f xs ends g = absurd (cc ends)
 
--- calls from s gave xs and, where the source has ended or a last call ends it, then `None`
+-- calls from s gave xs and, if the source has ended or a last call ends it, then `None`
 drained : {S A : Type 0} (steps : S → Option A → S → Type 0) (s t : S) (w e : Bool) (xs : List A) → Gave steps s false xs t e → (w ≡ true → (u : S) × Gave steps t e [] u true)
     → DrainsIf steps (cond w true e ≡ true) s xs
 drained steps s t w true xs g last = (g.0, g.1, λ _. (t, g.2))
@@ -43,12 +43,12 @@ front_of q xs places short =
 
 module _ {S E : Type 0} (code : ℕ → List ℕ) (kind : List ℕ → Option E) (Held : List ℕ → Type 0) (steps : S → Option ℕ → S → Type 0) (answers : List ℕ → List (Result ℕ E))
     (some : (s : ℕ) → IsScalar s → 0 < length (code s)) (none_left : answers [] ≡ []) (one_more : (xs ys : List ℕ) (r : Result ℕ E) → TakesFront code kind xs (Some r) ys → answers xs ≡ r ∷ answers ys) where
-  -- an answer takes an element at least
+  -- a result takes at least one element
   shorter : (xs ys : List ℕ) (r : Result ℕ E) → TakesFront code kind xs (Some r) ys → suc (length ys) ≤ length xs
   shorter xs ys (Ok s) h = omega (arith, some s h.0, ap length h.1, length-append (code s) ys)
   shorter xs ys (Err k) h = omega (arith, ap length h.1)
 
-  -- what calls of a merger answered, and what its source gave to them
+  -- the results of calls of a merger, and the items that its source gave to them
   record Answered (m : Merging S) (rs : List (Result ℕ E)) (n : Merging S) : Type 0 where
     ys : List ℕ
     gave : Gave steps m.source m.ended ys n.source n.ended
@@ -74,7 +74,7 @@ module _ {S E : Type 0} (code : ℕ → List ℕ) (kind : List ℕ → Option E)
         short = omega (arith, rest.short, less, length-append m.held (one.given ++ []), length-append one.given [], length-append mid.held [], length-append one.given rest.ys);
       }
 
-  -- the last call of a whole run: nothing was held, and the source gave nothing more
+  -- the last call of a whole run: nothing was buffered, and the source gave nothing more
   record Ended (n : Merging S) : Type 0 where
     held : n.held ≡ []
     after : S
@@ -123,7 +123,7 @@ module _ {S E : Type 0} (code : ℕ → List ℕ) (kind : List ℕ → Option E)
       either true e h = refl
       either false e h = absurd (cc h)
 
-  -- over a source whose list is known
+  -- a merger over a source whose list is known
   pub listed_merger_runs : (s : S) (m : Merging S) → m ≡ unasked s → (rest : S → List ℕ) → IsListed steps rest → EachRunFrom (MergerNext code kind Held steps) m (λ p. Gives p (answers (rest s)))
   listed_merger_runs s m e rest listed p seen from =
       let ran = merger_runs s m e p seen from in

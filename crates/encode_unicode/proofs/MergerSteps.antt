@@ -1,4 +1,4 @@
--- What one call of a merger reads and answers. All of it is generic in the code.
+-- The elements that one call of a merger reads, and its result. All of it is generic in the code.
 use Rattle.std.proofs.Common.{◌≡◌, ℕ, suc, subst, List, [], ◌∷◌, ◌++◌, Some, None, Ok, Bool, true, false, length, refl, ap, sym, ◌∙◌, arith, length-append, append_assoc, append-nil}
 use Rattle.std.specs.Iterator.{Count, MakesProgress, Yields}
 use Rattle.std.specs.Prelude.{Option, Result, MatchOption}
@@ -53,7 +53,8 @@ reads_more {S} {A} {can_next} {remaining} {steps} {s} {t} {u} {e} {f} {g} {xs} {
 nothing_still : {S A : Type 0} (rest : S → List A) (s : S) (e : Bool) → e ≡ true → still rest s e ≡ []
 nothing_still rest s e ends = rw ends refl
 
--- One call of `next`: the elements `held` and then those that are read at first, xs, begin with the one that is answered for.
+-- One call of `next`: the elements `held` and those that are read first, xs, begin with the one that the
+-- result is for.
 pub merger_next : {S E : Type 0} (code : ℕ → List ℕ) (kind : List ℕ → Option E) (Held : List ℕ → Type 0) {can_next : S → Type 0} {remaining : S → Count} {steps : S → Option ℕ → S → Type 0}
     {held xs : List ℕ} {s u t : S} {e d f : Bool} {first : ℕ} {old : List ℕ} {r : Result ℕ E} {new : List ℕ}
     → ReadsElements can_next remaining steps s e xs u d → held ++ xs ≡ first ∷ old → Answers code kind can_next remaining steps first old u d r new t f → Held new
@@ -82,7 +83,7 @@ merger_next code kind Held {can_next} {remaining} {steps} {held} {xs} {s} {u} {t
   spent = λ rest listed spent. a.reads.spent rest listed (reads.spent rest listed spent);
 }
 
--- the merger comes nearer to its end
+-- the merger has fewer elements left
 pub merger_nearer : {S E : Type 0} (code : ℕ → List ℕ) (kind : List ℕ → Option E) {can_next : S → Type 0} {remaining : S → Count} {steps : S → Option ℕ → S → Type 0}
     {held xs : List ℕ} {s u t : S} {e d f : Bool} {first : ℕ} {old : List ℕ} {r : Result ℕ E} {new : List ℕ}
     → ReadsElements can_next remaining steps s e xs u d → held ++ xs ≡ first ∷ old → Answers code kind can_next remaining steps first old u d r new t f
@@ -98,7 +99,7 @@ merger_nearer code kind {can_next} {remaining} {steps} {held} {xs} {s} {u} {t} {
   rests = λ finite. tt;
 }
 
--- the first of the unread elements is one that is held
+-- the first of the unread elements is one that is buffered
 
 pub takes_held : {S : Type 0} (Held : List ℕ → Type 0) (can_next : S → Type 0) (remaining : S → Count) (steps : S → Option ℕ → S → Type 0) {old : List ℕ} {s : S} {e : Bool} (r : Option ℕ) {new : List ℕ} {f : Bool}
     → (e ≡ false → can_next s) → (old ≡ [] → e ≡ true) → f ≡ e → MatchOption r ((old ≡ []) × (new ≡ [])) (λ x. old ≡ x ∷ new) → Held new
@@ -111,7 +112,7 @@ takes_held Held can_next remaining steps {old} (Some x) can busy same h keeps = 
   held = keeps;
 }
 
--- once it has left, there is less to come
+-- once it was taken, fewer are left
 pub first_nearer : {S : Type 0} (Held : List ℕ → Type 0) (can_next : S → Type 0) (remaining : S → Count) (steps : S → Option ℕ → S → Type 0) (k : Kept) (s : S) (r : Option ℕ) (l : Kept) (t : S)
     → TakesFirst Held can_next remaining steps k s r l t
     → MakesProgress (λ (m : Merging S). m.ended ≡ false → can_next m.source) (unread_count remaining) (record { held = k.held; source = s; ended = k.ended }) r (record { held = l.held; source = t; ended = l.ended })
@@ -130,7 +131,7 @@ first_nearer Held can_next remaining steps k s (Some x) l t h = record {
   rests = λ finite. tt;
 }
 
--- the value of what is no fault
+-- the value if there is no fault
 pub value_of_answer : {A E : Type 0} (fault : Option E) (x c : A) → unless_fault fault x ≡ Ok c → x ≡ c
 value_of_answer None x c h = cc
 value_of_answer (Some e) x c h = cc

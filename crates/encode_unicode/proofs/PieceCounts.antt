@@ -1,4 +1,4 @@
--- How many pieces a decoder gives of some elements.
+-- The number of pieces that a decoder gives of some elements.
 use Rattle.std.proofs.Common.{ℕ, zero, suc, ◌+◌, ◌*◌, ◌≤◌, List, [], ◌∷◌, length, drop, Result, arith, length-drop, mul-suc, ◌≡◌}
 use Rattle.std.proofs.lemmas.Grind.{common_steps}
 use Rattle.std.specs.Prelude.{slice_range}
@@ -8,7 +8,7 @@ use Rattle.encode_unicode.specs.Pieces.{pieces, unit_pieces, pieces_by}
 use Rattle.encode_unicode.specs.Window.{as_piece}
 use Rattle.encode_unicode.proofs.PieceRuns.{len_of_bytes, len_of_units}
 
--- where no piece is empty, and none longer than `most`
+-- if no piece is empty, and none longer than `most`
 pieces_count : {E : Type 0} (answer : List ℕ → Result (ℕ × ℕ) E) (most : ℕ) → ((xs : List ℕ) → 1 ≤ (as_piece (answer xs)).1) → ((xs : List ℕ) → (as_piece (answer xs)).1 ≤ most)
     → (n place : ℕ) (xs : List ℕ) → length xs ≤ n → (length (pieces_by answer n place xs) ≤ length xs) × (length xs ≤ most * length (pieces_by answer n place xs))
 unfolding pieces_by

@@ -32,14 +32,14 @@ use Rattle.encode_unicode.specs.Sources.{IsListed, IsListedBack}
 use Rattle.encode_unicode.specs.TextWindow.{NextScalar, NextPlaced, BackScalar, BackPlaced, GivesFirstChar, GivesLastChar}
 use Rattle.encode_unicode.specs.Window.{Window, Placed, elements, whole_window, without_front, as_piece, GivesNone, GivesFrontOf, GivesBackOf, HasCode, NextGives, NextGivesUnits, NextBackGives, NextBackGivesUnits}
 
--- A list that tells what each state still gives is what each run gives.
+-- A list of the remaining items of each state is the list that each run gives.
 pub listed_run : {S A : Type 0} (steps : S → Option A → S → Type 0) (rest : S → List A) → IsListed steps rest → EveryRun steps (λ p. Gives p (rest p.from))
 listed_run {S} {A} steps rest listed p seen =
     let mapped = from_front steps (λ (x : A). x) rest (λ s t h. ap length (listed s None t h).0) (λ s x t h. listed s (Some x) t h) p seen in
     let items = as_is p (rest p.from) mapped in
     (items, mapped, tells p (rest p.from) items)
 
--- The same from the back.
+-- A list of the remaining items of each state, last first, is the list that each run from the end gives.
 pub listed_run_back : {S A : Type 0} (back : S → Option A → S → Type 0) (rest : S → List A) → ((s : S) (r : Option A) (t : S) → back s r t → YieldsLast rest s r t)
     → EveryRun back (λ p. GivesReversed p (rest p.from))
 listed_run_back {S} {A} back rest listed p seen =
@@ -55,7 +55,7 @@ pieces_none answer zero place xs h = refl
 pieces_none answer (suc n) place [] h = refl
 pieces_none answer (suc n) place (x ∷ xs) h = absurd (omega arith)
 
--- the number does not matter where it is no less than there are elements
+-- the bound does not matter if it is no less than the number of elements
 pieces_enough : {E : Type 0} (answer : List ℕ → Result (ℕ × ℕ) E) → ((xs : List ℕ) → 1 ≤ (as_piece (answer xs)).1) → (n m place : ℕ) (xs : List ℕ) → length xs ≤ n → length xs ≤ m
     → pieces_by answer n place xs ≡ pieces_by answer m place xs
 unfolding pieces_by
@@ -67,7 +67,7 @@ pieces_enough answer some (suc n) (suc m) place (x ∷ xs) a b =
     let less = length-drop (as_piece (answer (x ∷ xs))).1 (x ∷ xs) in
     ap (λ rest. (place, (as_piece (answer (x ∷ xs))).0, (as_piece (answer (x ∷ xs))).1) ∷ rest) (pieces_enough answer some n m (place + (as_piece (answer (x ∷ xs))).1) (drop (as_piece (answer (x ∷ xs))).1 (x ∷ xs)) (omega arith) (omega arith))
 
--- each piece has an element, and no more than a code
+-- each piece has at least one element, and at most as many as a code
 
 pub len_of_bytes : (xs : List ℕ) → (1 ≤ (as_piece (decoded xs)).1) × ((as_piece (decoded xs)).1 ≤ 4)
 len_of_bytes xs = by_kind (fault_kind xs) refl
@@ -126,7 +126,7 @@ module _ {E : Type 0} (code : ℕ → List ℕ) (most : ℕ) (kind : List ℕ �
       let zero : length (elements w) ≤ 0 = grind (arith, common_steps) in
       pieces_none answer (length (elements w)) w.front (elements w) zero
 
--- what a decoder of bytes still gives, and one of units
+-- the remaining pieces of a decoder of bytes, and of a decoder of units
 pub decoder_listed : IsListed NextGives pieces_left
 decoder_listed w None v h = (no_piece utf8 4 fault_kind decoded some_bytes w v h, rw h.left (no_piece utf8 4 fault_kind decoded some_bytes w v h))
 decoder_listed w (Some x) v h = piece_taken utf8 4 fault_kind decoded some_bytes w v x h
@@ -147,12 +147,12 @@ first_char w v place s h =
     chars_past_char (elements w) (elements v) s (rw h.code (IsUtf8-append (utf8 s) (elements v) (utf8_is_text s h.scalar) h.between.text))
     (h.code ∙ ap (λ code. code ++ elements v) (sym (utf8_is_std s)))
 
--- an iterator over the characters of a text gives those of the window
+-- an iterator over the characters of a text gives the characters of the window
 pub scalars_listed : IsListed NextScalar chars_left
 scalars_listed w None v h = (no_chars w v h, ap chars_left h.left ∙ no_chars w v h)
 scalars_listed w (Some s) v h = first_char w v w.front s h
 
--- and one that gives their offsets too
+-- an iterator with offsets gives the characters of the window with their offsets
 pub placed_listed : IsListed NextPlaced placed_chars_left
 placed_listed w None v h =
     let none = ap (placed_chars w.front) (no_chars w v h) in
@@ -162,7 +162,7 @@ placed_listed w (Some x) v h =
     ap (placed_chars w.front) (first_char w v x.0 x.1 h) ∙ ap (λ p. (p, x.1) ∷ placed_chars (w.front + length (utf8 x.1)) (chars_left v)) (sym h.at_front)
     ∙ ap (λ p. x ∷ placed_chars p (chars_left v)) (sym front)
 
--- The same from the back.
+-- An iterator from the end gives the characters of the window, last first.
 
 no_chars_back : (w v : Window) → GivesNone w v → (chars_left w ≡ []) × (chars_left v ≡ [])
 no_chars_back w v h = let none = no_chars w v h in (none, ap chars_left h.left ∙ none)
@@ -176,8 +176,7 @@ pub scalars_last : (w : Window) (r : Option ℕ) (v : Window) → BackScalar w r
 scalars_last w None v h = no_chars_back w v h
 scalars_last w (Some s) v h = last_char w v v.back s h
 
--- what std encodes are the codes
--- the codes of the characters of a text are the text
+-- std's encoding agrees with the codes; the codes of the characters of a text are the text
 pub codes_of_text : (text : List ℕ) → IsUtf8 text → flat_map utf8 (chars text) ≡ text
 codes_of_text text h = sym (encodes_are_codes (chars text)) ∙ encodes-chars text h
 
@@ -208,7 +207,7 @@ last_push : {A : Type 0} (o : Option A) (xs : List A) (x : A) → last_or o (xs 
 last_push o [] x = refl
 last_push o (y ∷ ys) x = last_push (Some y) ys x
 
--- a call that takes the last item answers it
+-- a call that takes the last item returns it
 listed_back : {S A : Type 0} (rest : S → List A) (s : S) (r : Option A) (t : S) → YieldsLast rest s r t → YieldsLast rest s r t × (r ≡ last_or None (rest s))
 listed_back rest s None t h = (h, ap (last_or None) (sym h.0))
 listed_back rest s (Some x) t h = (h, sym (ap (last_or None) h ∙ last_push None (rest t) x))
@@ -219,7 +218,7 @@ scalars_listed_back w r v h = listed_back chars_left w r v (scalars_last w r v h
 pub placed_listed_back : IsListedBack BackPlaced placed_chars_left
 placed_listed_back w r v h = listed_back placed_chars_left w r v (placed_last w r v h)
 
--- What a window of the whole text gives.
+-- The characters of a window of the whole text.
 
 pub whole_text : (text : List ℕ) → elements (whole_window text) ≡ text
 whole_text text = take_all _ text (omega arith)
@@ -227,7 +226,7 @@ whole_text text = take_all _ text (omega arith)
 pub chars_of_text : (text : List ℕ) (w : Window) → w ≡ whole_window text → (chars_left w ≡ chars text) × (placed_chars_left w ≡ placed_chars 0 (chars text))
 chars_of_text text w e = let left = ap chars_left e ∙ ap chars (whole_text text) in (left, ap placed_chars_left e ∙ ap (λ xs. placed_chars 0 (chars xs)) (whole_text text))
 
--- Where their items lie.
+-- The offsets at which their items lie.
 
 at_cons : {A : Type 0} (P : A → Type 0) (x : A) (xs : List A) → P x → Everywhere xs P → Everywhere (x ∷ xs) P
 at_cons P x xs h rest zero = h
@@ -259,7 +258,7 @@ unit_decoder_places xs s e p seen from =
     all_items NextGivesUnits (λ w. w.back ≡ length xs) (LiesWithin 2 (length xs)) (λ w x v k g. place_kept utf16 2 unit_fault_kind decoded_pairs (length xs) w v x k g) p
     (ap (λ (u : Window). u.back) (from ∙ e))
 
--- The same of a decoder that was asked already.
+-- The items of a decoder after earlier calls lie in its window.
 window_kept : {E : Type 0} (code : ℕ → List ℕ) (most : ℕ) (kind : List ℕ → Option E) (answer : List ℕ → Result (ℕ × ℕ) E) (u w v : Window) (x : Placed E)
     → (w.back ≡ u.back) × (u.front ≤ w.front) → GivesFrontOf code most kind answer w x v → LiesInWindow most u x × ((v.back ≡ u.back) × (u.front ≤ v.front))
 window_kept code most kind answer u w v x k g =
@@ -311,7 +310,7 @@ pub unit_decoder_places_back_on : EveryRun NextBackGivesUnits (λ p. AllItems p 
 unit_decoder_places_back_on p seen =
     all_items NextBackGivesUnits (λ w. (w.back ≤ p.from.back) × (w.front ≡ p.from.front)) (LiesInWindow 2 p.from) (λ w x v k g. window_kept_back utf16 2 unit_back_kind decoded_pairs_end p.from w v x k g) p (omega arith, refl)
 
--- Where they are characters, their codes stand at their places.
+-- If they are characters, their codes are at their offsets.
 
 code_kept : {E : Type 0} (code : ℕ → List ℕ) (most : ℕ) (kind : List ℕ → Option E) (answer : List ℕ → Result (ℕ × ℕ) E) (xs : List ℕ) (w v : Window) (x : Placed E)
     → w.whole ≡ xs → GivesFrontOf code most kind answer w x v → HasCode code xs x × (v.whole ≡ xs)
@@ -360,7 +359,7 @@ char_last w v x g =
     let after : IsCharBoundary w.whole (x.0 + length (utf8 x.1)) = rw end g.ends in
     ((omega arith, here, omega arith, after), end, omega arith)
 
--- what calls from a window u of a text have left
+-- the part of a text that calls from a window u have left
 record IsLeftOf (u w : Window) : Type 0 where
   whole : w.whole ≡ u.whole
   front : u.front ≤ w.front
@@ -397,13 +396,13 @@ text_places text s e p seen from =
     let whole : p.from.whole ≡ text = ap (λ (w : Window). w.whole) (from ∙ e) in
     rw whole at (all_items NextPlaced (λ w. w.whole ≡ p.from.whole) (LiesInText p.from.whole) (λ w x v k g. (rw k at (char_first w v x g), ap (λ (z : Window). z.whole) g.left ∙ k)) p refl)
 
--- the same from the back
+-- characters that are taken from the end lie in the text
 pub text_places_back : (text : List ℕ) (s : Window) → s ≡ whole_window text → EachRunFrom BackPlaced s (λ p. AllItems p (LiesInText text))
 text_places_back text s e p seen from =
     let whole : p.from.whole ≡ text = ap (λ (w : Window). w.whole) (from ∙ e) in
     rw whole at (all_items BackPlaced (λ w. w.whole ≡ p.from.whole) (LiesInText p.from.whole) (λ w x v k g. (rw k at (char_last w v x g).0, ap (λ (z : Window). z.whole) g.left ∙ k)) p refl)
 
--- How long their codes are together.
+-- The sum of the lengths of their codes.
 
 pub lengths_added : (code : ℕ → List ℕ) (n : ℕ) (xs : List ℕ) → fold (λ a c. a + length (code c)) n xs ≡ n + length (flat_map code xs)
 lengths_added code n [] = sym (omega arith)
@@ -442,7 +441,7 @@ codes_fit text s h e = lengths_fit utf8 text s e (omega (arith, ap length (codes
 pub units_fit : (text : List ℕ) (s : Window) → IsUtf8 text → s ≡ whole_window text → EachRunFrom NextScalar s (LengthsFit utf16 (length text))
 units_fit text s h e = lengths_fit utf16 text s e (omega (arith, ap length (codes_of_text text h), all_no_longer (chars text)))
 
--- How long pieces are together.
+-- The sum of the lengths of pieces.
 
 piece_takes : {E : Type 0} (code : ℕ → List ℕ) (most : ℕ) (kind : List ℕ → Option E) (answer : List ℕ → Result (ℕ × ℕ) E) (w v : Window) (x : Placed E) → GivesFrontOf code most kind answer w x v
     → (v.back ≡ w.back) × (v.front ≡ w.front + x.2) × (w.front + x.2 ≤ w.back)
@@ -467,7 +466,7 @@ pieces_fit = run_fits NextGives (λ w v x g. piece_takes utf8 4 fault_kind decod
 pub unit_pieces_fit : EveryRun NextGivesUnits (λ p. PiecesFit (p.from.back - p.from.front) p)
 unit_pieces_fit = run_fits NextGivesUnits (λ w v x g. piece_takes utf16 2 unit_fault_kind decoded_pairs w v x g)
 
--- As std's lemmas on chains take it: the list that runs give.
+-- The lists that runs give, as std's lemmas on chains need them.
 
 pub listed_yields : {S A : Type 0} (steps : S → Option A → S → Type 0) (rest : S → List A) → IsListed steps rest → (s : S) → YieldsList steps (λ x. x) s (rest s)
 listed_yields {S} {A} steps rest listed = YieldsList-from_shown steps (λ (x : A). x) rest (λ s t h. ap length (listed s None t h).0) (λ s x t h. listed s (Some x) t h)
@@ -492,14 +491,14 @@ placed_yielded text e =
     let all = listed_yields NextPlaced placed_chars_left placed_listed (whole_window text) in
     rw e (subst (λ xs. YieldsList NextPlaced (λ x. x) (whole_window text) (placed_chars 0 (chars xs))) (whole_text text) all)
 
--- what holds of the items of some whole run holds of the list that each run gives
+-- what holds for the items of some whole run holds for the list that each run gives
 run_of_yielded : {S A : Type 0} {steps : S → Option A → S → Type 0} {s : S} (xs : List A) (P : List A → Type 0) → WholeRun steps s (λ p. P p.items) → YieldsList steps (λ x. x) s xs → P xs
 run_of_yielded {S} {A} {steps} {s} xs P all yields =
     let end = took all.0 in
     let same : map (λ x. x) all.0.items ≡ xs = items_from_drains all.0.items (end.0, subst (λ from. Yields steps from all.0.items end.0) all.1 end.1, λ _. end.2 all.2) yields in
     subst P (sym (map-id all.0.items) ∙ same) all.3
 
--- what `collect_bytes` and its kin make of a chain whose list is known
+-- the result of `collect_bytes` and similar calls on a chain whose list is known
 pub collected_from_yields : {S A C E B : Type 0} {steps : S → Option A → S → Type 0} {s : S} (code : A → List B) (held : C → List B) (xs : List A) (r : Result C E)
     → IfOk r (λ made. WholeRun steps s (λ p. held made ≡ flat_map code p.items)) → YieldsList steps (λ x. x) s xs → IfOk r (λ made. held made ≡ flat_map code xs)
 collected_from_yields code held xs (Ok made) all yields = run_of_yielded xs (λ items. held made ≡ flat_map code items) all yields

@@ -1,4 +1,4 @@
--- How calls move a window, and which characters stand before an item of a run.
+-- The effect of calls on a window, and the characters before an item of a run.
 use Rattle.std.proofs.Common.{◌≡◌, ℕ, zero, suc, ◌+◌, ◌-◌, ◌≤◌, List, [], ◌∷◌, ◌++◌, length, take, drop, Option, Some, None, refl, ap, sym, subst, ◌∙◌, arith, true, length-append, take-append-drop}
 use Rattle.std.proofs.Math.Seq.{take-append_seam}
 use Rattle.std.proofs.iter.runs.Made.{took, at-is}
@@ -62,7 +62,7 @@ no_items x xs e = cc
 first_is : {A : Type 0} (x y : A) (xs ys : List A) → x ∷ xs ≡ y ∷ ys → (x ≡ y) × (xs ≡ ys)
 first_is x y xs ys e = (cc, cc)
 
--- the place of an item is how long the codes before it are
+-- the offset of an item is the sum of the lengths of the codes before it
 place_at : (place k : ℕ) (seen more : List (ℕ × ℕ)) (cs : List ℕ) → placed_chars place cs ≡ seen ++ more → IfSome (slice_get seen k) (λ x. x.0 ≡ place + length (flat_map utf8 (take k cs)))
 place_at place k [] more cs e = tt
 place_at place k (x ∷ seen) more [] e = absurd (no_items x (seen ++ more) e)
@@ -79,7 +79,7 @@ all_taken (suc k) (c ∷ cs) h = grind (arith, common_steps, all_taken k cs)
 chars_of_codes : (cs : List ℕ) → all_scalars cs ≡ true → chars (flat_map utf8 cs) ≡ cs
 chars_of_codes cs h = ap chars (sym (encodes_are_codes cs)) ∙ chars-encodes cs h
 
--- the text up to where the codes of its first characters end is these
+-- the text up to the end of the codes of its first characters is these
 first_chars : (text : List ℕ) → IsUtf8 text → (k n : ℕ) → n ≡ length (flat_map utf8 (take k (chars text))) → HasFirstChars text k (take n text)
 first_chars text (cs, (all, e)) k n at =
     let same : chars text ≡ cs = ap chars (sym e) ∙ chars-encodes cs all in

@@ -8,7 +8,7 @@ use borrow.Rule.Slice.PartMut.{put_mid}
 use Rattle.utf_chars.specs.Taking.{fitting, filled}
 use Rattle.utf_chars.proofs.Ranges.{drop_fitting}
 
--- the buffer `new` has the first k elements of a list at its front, in place of those of `old`, and `left` is the others
+-- the buffer `new` has the first k elements of a list at its front, where `old` had others, and `left` is the rest
 pub record Refilled (old new xs left : List ℕ) (k : ℕ) : Type 0 where
   pub len : length new ≡ length old
   pub within : k ≤ length new
@@ -40,7 +40,7 @@ put_whole buf ys n le len =
     let following = drop-put_mid n (length buf - n) buf ys (length buf) (omega arith) le len ∙ drop_of_length-le buf (omega arith) in
     sym (take-append-drop (length buf) put) ∙ ap (λ z. z ++ drop (length buf) put) front ∙ ap (λ z. (take n buf ++ ys) ++ z) following ∙ append-nil (take n buf ++ ys)
 
--- the same where the buffer has n elements at its front already
+-- a refill of a buffer that already has n elements at its front
 pub record RefilledFrom (buf new xs left : List ℕ) (n k : ℕ) : Type 0 where
   pub len : length new ≡ length buf
   pub within : n + k ≤ length new
@@ -73,7 +73,7 @@ refilled_from buf ys xs left n k le part =
     drop_more : (p q : List ℕ) (n k : ℕ) → length p ≡ n → drop (n + k) (p ++ q) ≡ drop k q
     drop_more p q n k e = ap (λ j. drop (j + k) (p ++ q)) (sym e) ∙ drop-append-add p q k
 
--- fewer places are left to fill
+-- fewer elements are left to fill
 pub less_left : (buf ys xs : List ℕ) (n k : ℕ) → n < length buf → 0 < length xs → k ≡ fitting (take (length buf - n) (drop n buf)) xs → length ys ≡ length (take (length buf - n) (drop n buf))
     → length (put_mid n (length buf - n) buf ys) - (n + k) < length buf - n
 less_left buf ys xs n k lt some count len =

@@ -1,4 +1,5 @@
--- The list that a run gives is the one of which it tells what `all`, `any`, `find`, `position`, `last`, `nth` and `take` answer.
+-- The list that a run gives is the one that determines the results of `all`, `any`, `find`, `position`, `last`, `nth`
+-- and `take`.
 use Rattle.std.proofs.Common.{◌≡◌, ℕ, zero, suc, ◌-◌, ◌<◌, ◌≤◌, Bool, true, false, List, [], ◌∷◌, length, get_or, reverse, Option, Some, None, take, take_all, ⊎_elim, refl, ap, sym, subst, ◌∙◌, arith}
 use Rattle.std.specs.List.{find, last_or, list_all, list_any, prefix_len}
 use Rattle.std.specs.Prelude.{IfSome, IsSomeAnd, slice_get}
@@ -69,7 +70,7 @@ some_there : {A : Type 0} (o : Option A) (P : A → Type 0) → IsSomeAnd o P �
 some_there None P h = absurd h
 some_there (Some x) P h = (x, refl, h)
 
--- A run whose items stand at their places in the list, and are all of it where the run is whole.
+-- A run whose items are at their indices in the list, and are all of it if the run is whole.
 module _ {S A : Type 0} {steps : S → Option A → S → Type 0} (p : Run steps) (xs : List A) (all : p.whole ≡ true → p.items ≡ xs) (placed : (k : ℕ) (x : A) → p.at k ≡ Some x → slice_get xs k ≡ Some x) where
   everywhere : (P : A → Type 0) → p.whole ≡ true → AllItems p P → Everywhere xs P
   everywhere P whole h = subst (λ ys. Everywhere ys P) (all whole) (each_of p P h)
@@ -140,7 +141,7 @@ tells {S} {A} p xs items = tells_placed p xs items.4 placed
         let same : x ≡ get_or xs k x = there (p.at k) x _ e (items.3 k) x in
         nth_read xs k x (omega (arith, within_run p k x e, items.0)) ∙ ap Some (sym same)
 
--- The same from the back, of the list turned about.
+-- The list in reverse order determines these results for a run from the end.
 pub tells_back : {S A : Type 0} {steps : S → Option A → S → Type 0} (p : Run steps) (xs : List A) → ItemsAreReversed p xs → Tells p (reverse xs)
 tells_back {S} {A} p xs items = tells_placed p (reverse xs) items.4 placed
   where

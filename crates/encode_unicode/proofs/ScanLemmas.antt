@@ -1,4 +1,4 @@
--- From what a scan from the end has seen to what the bytes decode to.
+-- What the bytes that a scan from the end has read decode to.
 use Rattle.std.proofs.Common.{◌≡◌, ℕ, zero, suc, take, ◌+◌, ◌-◌, ◌<◌, ◌≤◌, List, [], ◌∷◌, length, get_or, drop, min, arith, refl, ap, sym, ◌∙◌, true, false, Result, Ok, Err}
 use Rattle.std.proofs.lemmas.Grind.{common_steps}
 use Rattle.std.specs.Prelude.{slice_range}
@@ -16,7 +16,7 @@ use Rattle.encode_unicode.specs.Scan.{IsScanned, IsWholeOrUnexpected}
 use Rattle.encode_unicode.proofs.ItemCodes.{ends_taken, ends_there}
 use Rattle.encode_unicode.specs.Window.{GivesBack}
 
--- A last byte that is no continuation byte is judged by itself.
+-- A last byte that is no continuation byte is decoded without the bytes before it.
 
 last_alone : (w : List ℕ) → 0 < length w → last_bytes 1 w ≡ last_of w ∷ []
 last_alone w some = grind (arith, common_steps)
@@ -34,7 +34,7 @@ single_decides w (Err k) scan some h =
     let same = last_alone w some in
     (none, cc (h, same, alone) ∙ sym (end_fault-some w some))
 
--- Where the last byte continues, all that can be wrong is that no code ends with it.
+-- If the last byte is a continuation byte, the only possible fault is that no code ends with it.
 
 unexpected : (w : List ℕ) (t : ℕ) → EndsInContinuationBytes w t → 0 < t → end_fault w ≡ UnexpectedContinuationByte
 unexpected w t scan some =
@@ -76,7 +76,7 @@ part_of : (b : List ℕ) (count n : ℕ) → IsEndOfFour b count → n ≤ count
 part_of b count n e le =
     grind (arith, common_steps)
 
--- so many continuation bytes, and before them, where there is one, a byte that is none
+-- t continuation bytes, and before them, if there is one, a byte that is none
 pub scanned : (b : List ℕ) (count t : ℕ) → IsEndOfFour b count → t ≤ 3 → t ≤ count
     → ((k : ℕ) → k < t → is_continuation (get_or b (3 - k) 0) ≡ true)
     → (t < 3 → t < count → is_continuation (get_or b (3 - t) 0) ≡ false)
@@ -119,7 +119,7 @@ pub scanned-3 : (b : List ℕ) (count : ℕ) → IsEndOfFour b count → 3 ≤ c
 scanned-3 b count e three last third second =
     scanned b count 3 e (omega arith) three (below_3 (λ k. is_continuation (get_or b (3 - k) 0) ≡ true) last third second) (λ short fits. absurd (omega arith))
 
--- The steps that were taken then.
+-- The number of steps that were taken.
 
 looked : (w : List ℕ) (t old new : ℕ) → 0 < length w → EndsInContinuationBytes w t → new ≡ old + min (t + 1) (length w) → IsScanned w old new
 looked w t old new some scan e =
@@ -144,7 +144,7 @@ four_looked-all b count old new e scan taken =
     let all : min (count + 1) (length (drop (4 - count) b)) ≡ count = grind (arith, common_steps) in
     looked (drop (4 - count) b) count old new (omega arith) scan (omega arith)
 
--- What is answered then.
+-- The result of the scan.
 
 pub four_single : (b : List ℕ) (count : ℕ) (r : Result (ℕ × ℕ) Utf8ErrorKind) → IsEndOfFour b count → is_continuation (get_or b 3 0) ≡ false
     → DecodesFront as_scalar (take 1 (drop 3 b)) r → DecodesEnd as_scalar (drop (4 - count) b) r
@@ -175,7 +175,7 @@ last_three b e = grind (arith, common_steps)
 pub take_four : (b : List ℕ) → length b ≡ 4 → take 4 (drop 0 b) ≡ b
 take_four b e = grind (arith, common_steps)
 
--- the last four of so many bytes
+-- the last four bytes of four or more
 pub last_four : (w : List ℕ) → 4 ≤ length w
     → last_bytes 4 w ≡ get_or w (length w - 4) 0 ∷ get_or w (length w - 3) 0 ∷ get_or w (length w - 2) 0 ∷ get_or w (length w - 1) 0 ∷ []
 last_four w le =
@@ -204,7 +204,7 @@ last_four_scanned w old new le s =
     } in
     record { least = least; most = most; within = omega arith; exact = (t, all, s.exact.2 ∙ same) }
 
--- One call of a decoder, from the answer of the scan.
+-- One call of a decoder, derived from the result of the scan.
 
 pub gives_back_char : {whole : List ℕ} {i j s n : ℕ} → i < j → j ≤ length whole → EndsWith utf8 (slice_range whole i j) s n
     → GivesBack (record { whole = whole; front = i; back = j }) (j - n, Ok s, n) (record { whole = whole; front = i; back = j - n })

@@ -1,4 +1,4 @@
--- What the calls of a decoder or of an iterator over a text gave, one after another: the list, once they have ended.
+-- The items of calls of a decoder or of an iterator over a text, one after another: the list, once they have ended.
 use Rattle.std.proofs.Common.{◌≡◌, ℕ, ◌+◌, ◌≤◌, List, [], ◌∷◌, ◌++◌, length, Option, Some, None, refl, ap, sym, ◌∙◌, arith, append-nil, length-append}
 use Rattle.std.specs.Iterator.{Yields}
 use Rattle.std.specs.List.{flat_map}

@@ -1,4 +1,4 @@
--- What a splitter has still to send, call by call. All of it is generic in the code.
+-- The remaining elements of a splitter, call by call. All of it is generic in the code.
 use Rattle.std.proofs.Common.{◌≡◌, ℕ, suc, ◌+◌, ◌*◌, ◌<◌, ◌≤◌, List, [], ◌∷◌, ◌++◌, Some, None, length, refl, ap, sym, ◌∙◌, arith, length-append, append-nil}
 use Rattle.std.proofs.Math.Nat.{mul-le-mul_left, mul_comm}
 use Rattle.std.proofs.lemmas.Grind.{common_steps}
@@ -24,7 +24,7 @@ module _ {S : Type 0} (code : ℕ → List ℕ) (steps : S → Option ℕ → S 
 times_less : (m a b : ℕ) → a < b → m * a + m ≤ m * b
 times_less m a b h = grind (arith, common_steps)
 
--- it brings the splitter nearer to its end
+-- the splitter has fewer elements left
 pub nearer_by_next : {S : Type 0} (can : S → Type 0) (remaining : S → Count) (m : ℕ) (s t : S) (x : ℕ) (begun fresh left : List ℕ) (r : Option ℕ) → length fresh ≤ m → 0 < length fresh
     → YieldsFirst (λ (xs : List ℕ). xs) fresh r left → MakesProgress can remaining s (Some x) t
     → MakesProgress (λ (v : Splitting S). can v.source) (λ (v : Splitting S). count_map (λ n. length v.begun + m * n) (remaining v.source)) (record { begun = begun; source = s }) r (record { begun = left; source = t })
@@ -37,7 +37,7 @@ nearer_by_next can remaining m s t x begun fresh left (Some y) short some h goes
       rests = λ f. tt;
     }
 
--- The hint of a splitter.
+-- The size hint of a splitter.
 
 fits_bound : (fits : Bool) (n k : ℕ) → k ≤ n → IfSome (if fits then Some n else None) (λ j. k ≤ j)
 fits_bound true n k le = le
@@ -50,7 +50,7 @@ upper_bound m h n k (Some high) le short =
     let turned : m * high ≡ high * m = mul_comm m high in
     fits_bound (nat_lt (high * m + h) (2 ^ 64)) (high * m + h) (h + k) (omega arith)
 
--- it bounds the unsent elements where the source's bounds the items
+-- a splitter's hint bounds the remaining elements if the source's hint bounds the items
 pub split_bounds : {S : Type 0} (code : ℕ → List ℕ) (m : ℕ) → ((s : ℕ) → 0 < length (code s)) → ((s : ℕ) → length (code s) ≤ m) → (rest : S → List ℕ) (s : Splitting S) (hint : ℕ × Option ℕ)
     → BoundsLength (rest s.source) hint → BoundsLength (unsent code rest s) (split_hint m (length s.begun) hint)
 split_bounds code m some short rest s hint b =
@@ -58,7 +58,7 @@ split_bounds code m some short rest s hint b =
     let len : length (unsent code rest s) ≡ length s.begun + length (flat_map code (rest s.source)) = length-append s.begun (flat_map code (rest s.source)) in
     (omega arith, rw len (upper_bound m (length s.begun) (length (rest s.source)) (length (flat_map code (rest s.source))) hint.1 b.1 joined.1))
 
--- so the hint that a splitter makes of its source's
+-- the hint that a splitter derives from its source's bounds the remaining elements
 pub splits_hint : {S : Type 0} (code : ℕ → List ℕ) (m : ℕ) → ((s : ℕ) → 0 < length (code s)) → ((s : ℕ) → length (code s) ≤ m) → (remaining : S → Count) (s : Splitting S) (of_source hint : ℕ × Option ℕ) (n : ℕ)
     → IsHintOf (remaining s.source) of_source → hint ≡ split_hint m n of_source → n ≡ length s.begun → SplitsHint code m remaining s hint
 splits_hint code m some short remaining s of_source hint n is_hint made len =

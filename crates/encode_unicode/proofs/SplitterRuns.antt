@@ -1,4 +1,4 @@
--- A run of a splitter, by the run of its source.
+-- A run of a splitter, derived from the run of its source.
 use Rattle.std.proofs.Common.{◌≡◌, ℕ, ◌+◌, ◌≤◌, true, List, [], ◌∷◌, ◌++◌, length, drop, Option, refl, ap, sym, ◌∙◌, arith, length-append, append_assoc, append-nil}
 use Rattle.std.specs.Iterator.{Yields}
 use Rattle.std.specs.Iterator.Runs.{Run, EachRunFrom, SomeRun}
@@ -16,7 +16,7 @@ use Rattle.encode_unicode.proofs.RunTests.{tells}
 none_more : {A : Type 0} (xs more : List A) → xs ++ more ≡ xs → length more ≡ 0
 none_more xs more e = let len = length-append xs more in let same = ap length e in omega arith
 
--- a run gives a list of which its items are the front, or all where it is whole
+-- a run gives the front of a list, or all of it if the run is whole
 pub gives_front : {S A : Type 0} {steps : S → Option A → S → Type 0} (p : Run steps) (xs more : List A) → xs ≡ p.items ++ more → (p.whole ≡ true → length more ≡ 0) → Gives p xs
 gives_front {S} {A} p xs more cut none =
     let mapped = lists p (λ (x : A). x) xs more none (rw (map-id p.items) cut) in
@@ -24,7 +24,7 @@ gives_front {S} {A} p xs more cut none =
     (items, mapped, tells p xs items)
 
 module _ {S : Type 0} (code : ℕ → List ℕ) (steps : S → Option ℕ → S → Type 0) where
-  -- what calls of a splitter gave, and what its source gave to them
+  -- the elements that calls of a splitter gave, and the items that its source gave to them
   given_by : (xs : List ℕ) (s t : Splitting S) → Yields (SplitterNext code steps) s xs t → (ys : List ℕ) × Yields steps s.source ys t.source × (s.begun ++ flat_map code ys ≡ xs ++ t.begun)
   given_by [] s t y = ([], ap (λ (v : Splitting S). v.source) y, append-nil s.begun ∙ ap (λ (v : Splitting S). v.begun) y)
   given_by (x ∷ xs) s t y =

@@ -1,4 +1,4 @@
--- What a walk over the table tells a merger of bytes.
+-- The result of a merger of bytes, derived from a walk over the table of states.
 use Rattle.std.proofs.Common.{◌≡◌, ℕ, suc, ◌<◌, ◌≤◌, List, length, get_or, Some, None, true, false, ap, sym, ◌∙◌, arith}
 use Rattle.std.proofs.lemmas.Grind.{common_steps}
 use Rattle.utf_base.specs.declared.errors.Utf8ErrorKind.TheVariants.{TooFewBytes}
@@ -27,18 +27,18 @@ code_after_walk w k len some e done =
     no : Done ≡ Interrupted → ⊥
     no e = cc
 
--- Bytes that led to a state which asks for more of them all continue, but for the first.
+-- If bytes led to a state which asks for more of them, all but the first are continuation bytes.
 pub before : (w : List ℕ) (k j : ℕ) (state : State) → state ≡ state_after w k → k ≤ length w → is_running state ≡ true → 0 < j → j < k → is_continuation (get_or w j 0) ≡ true
 before w k j state at le runs some lt =
     let range = (runs_after w k (state_after w k) (omega arith) (sym (ap is_running at) ∙ runs) (reached w k le)).0.before j some lt in
     grind (arith, common_steps)
 
--- Where no more follow, they are too few.
+-- If no more follow, they are too few.
 pub lacks : (w : List ℕ) (k : ℕ) (state : State) → length w ≡ k → 0 < k → state ≡ state_after w k → is_running state ≡ true → merger_kind w ≡ Some TooFewBytes
 lacks w k state len some at runs =
     let r = runs_after w k (state_after w k) some (sym (ap is_running at) ∙ runs) (reached w k (omega arith)) in
     kind_of_all w ∙ ap (λ n. fault_of (state_after w n)) len ∙ r.2
 
--- An end tells the kind, whatever follows.
+-- An end state determines the kind, whatever follows.
 pub kind_of_end : (w : List ℕ) (k : ℕ) (end : State) (kind : Utf8ErrorKind) → k ≤ length w → state_after w k ≡ end → is_running end ≡ false → fault_of end ≡ Some kind → merger_kind w ≡ Some kind
 kind_of_end w k end kind le at stops fault = kind_at_end w k le (ap is_running at ∙ stops) ∙ ap fault_of at ∙ fault

@@ -1,4 +1,4 @@
--- The code that ends a text, by the last bytes of it.
+-- The code that ends a text, determined by its last bytes.
 use Rattle.std.proofs.Common.{◌≡◌, ℕ, ◌+◌, ◌-◌, ◌<◌, ◌≤◌, ◌⊎◌, inl, inr, List, [], ◌∷◌, ◌++◌, length, get_or, true, refl, ap, sym, ◌∙◌, arith, ⊎_elim, length-append}
 use Rattle.std.proofs.lemmas.Grind.{common_steps}
 use Rattle.std.proofs.lemmas.List.{append-nil, append_assoc, drop_at, take_all, get_or-append_right}
@@ -55,7 +55,7 @@ text_ends text is_text some =
     (λ (ends : EndsInCode (encode_utf8_all is_text.0)). rw (← is_text.1.1) ends)
     (codes_end is_text.0 is_text.1.0)
 
--- a code stands at the end of what ends with it
+-- a code is at the end of a list that ends with it
 stands_last : (xs rest : List ℕ) (s : ℕ) → IsScalar s → xs ≡ rest ++ utf8 s → Stands utf8 xs (length rest) s
 stands_last xs rest s scalar e =
     let span : length rest + length (utf8 s) - length rest ≡ length (utf8 s) = omega arith in
@@ -65,7 +65,7 @@ stands_last xs rest s scalar e =
       equal = rw (e, span, drop_at rest (utf8 s) _ refl) (take_all _ (utf8 s) (omega arith));
     }
 
--- What the last bytes of a code tell of its length.
+-- What the last bytes of a code imply for its length.
 
 tail-1 : (s : ℕ) → IsScalar s → get_or (utf8 s) (length (utf8 s) - 1) 0 < 0x80 → length (utf8 s) ≡ 1
 unfolding utf8
@@ -98,7 +98,8 @@ tail-four : (s : ℕ) → IsScalar s → 3 ≤ length (utf8 s) → get_or (utf8 
 unfolding utf8
 tail-four s h some low = grind (arith, common_steps)
 
--- The same of a text, where the byte at k from its end is the one at k from the end of its last code.
+-- What the last bytes of a text imply: the byte at k from its end is the one at k from the end of its last
+-- code.
 
 at_end : (xs : List ℕ) (h : EndsInCode xs) (k : ℕ) → 0 < k → k ≤ length (utf8 h.char) → get_or xs (length xs - k) 0 ≡ get_or (utf8 h.char) (length (utf8 h.char) - k) 0
 at_end xs h k some le =
@@ -111,7 +112,7 @@ at_end xs h k some le =
 as_long : (xs : List ℕ) (h : EndsInCode xs) → length (utf8 h.char) ≤ length xs
 as_long xs h = let whole = ap length h.split ∙ length-append h.before (utf8 h.char) in omega arith
 
--- so many bytes, then zeros, are the last code where it has so many
+-- the last n bytes, followed by zeros, are the last code if its length is n
 is_last : (xs code : List ℕ) (h : EndsInCode xs) (n : ℕ) → length (utf8 h.char) ≡ n → code ≡ padded 4 (utf8 h.char) → IsLastCode xs code n
 is_last xs code h n len e =
     let whole : length xs ≡ length h.before + length (utf8 h.char) = ap length h.split ∙ length-append h.before (utf8 h.char) in
@@ -134,7 +135,7 @@ pad-4 : (code : List ℕ) → length code ≡ 4 → get_or code 0 0 ∷ get_or c
 unfolding padded
 pad-4 code len = grind (arith, common_steps)
 
--- What the last bytes of a text tell of the code that ends it.
+-- What the last bytes of a text imply for the code that ends it.
 
 pub last_one : (xs : List ℕ) → IsUtf8 xs → 0 < length xs → get_or xs (length xs - 1) 0 < 0x80 → IsLastCode xs (get_or xs (length xs - 1) 0 ∷ 0 ∷ 0 ∷ 0 ∷ []) 1
 last_one xs is_text some low =
@@ -143,7 +144,7 @@ last_one xs is_text some low =
     let len = tail-1 h.char h.scalar (omega arith) in
     is_last xs _ h 1 len (ap (λ x. x ∷ 0 ∷ 0 ∷ 0 ∷ []) (a ∙ ap (λ n. get_or (utf8 h.char) (n - 1) 0) len) ∙ pad-1 (utf8 h.char) len)
 
--- where the last is above, it and the one before it are those of a code
+-- if the last byte is above 0x7F, it and the one before it belong to one code
 record EndsInTwo (xs : List ℕ) : Type 0 where
   code : EndsInCode xs
   long : 2 ≤ length (utf8 code.char)
@@ -170,7 +171,7 @@ last_two xs is_text some high first =
     let before : get_or xs (length xs - 2) 0 ≡ get_or (utf8 t.code.char) 0 0 = t.before ∙ ap (λ n. get_or (utf8 t.code.char) (n - 2) 0) len in
     (omega arith, is_last xs _ t.code 2 len (rw (last, before) (pad-2 (utf8 t.code.char) len)))
 
--- where that one is a continuation byte, so is the one before it
+-- if the second last byte is a continuation byte, the one before it belongs to the code too
 record EndsInThree (xs : List ℕ) : Type 0 where
   two : EndsInTwo xs
   long : 3 ≤ length (utf8 two.code.char)
@@ -197,7 +198,7 @@ last_three xs is_text some high low first =
     let before : get_or xs (length xs - 3) 0 ≡ get_or (utf8 h.char) 0 0 = t.third ∙ ap (λ n. get_or (utf8 h.char) (n - 3) 0) len in
     (omega arith, is_last xs _ h 3 len (rw (last, middle, before) (pad-3 (utf8 h.char) len)))
 
--- and where that one is a continuation byte too, the code has four
+-- if the third last byte is a continuation byte too, the code has four
 pub record EndsInFour (xs : List ℕ) : Type 0 where
   pub there : 4 ≤ length xs
   pub low : 0xF0 ≤ get_or xs (length xs - 4) 0
@@ -224,7 +225,7 @@ last_four xs is_text some high low lower =
       last = is_last xs _ h 4 len (rw (last, third, second, before) (pad-4 (utf8 h.char) len));
     }
 
--- The array keeps a character, and what is read from it is that.
+-- The array keeps a character, and reading it returns that character.
 
 pub last_padded : (text code : List ℕ) (n : ℕ) → IsLastCode text code n → IsPadded utf8 4 value code
 last_padded text code n last = IsPadded_padded code last.char last.ends.0.scalar last.padded

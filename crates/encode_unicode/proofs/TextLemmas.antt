@@ -1,4 +1,4 @@
--- What a window of a text keeps where a character leaves it, at either end.
+-- The properties that a window of a text keeps when a character is taken from either end.
 use Rattle.std.proofs.Common.{◌≡◌, ℕ, ◌+◌, ◌-◌, ◌<◌, ◌≤◌, List, ◌++◌, length, get_or, take, drop, refl, ap, sym, ◌∙◌, arith, ⊎_elim, length-drop}
 use Rattle.std.proofs.lemmas.Grind.{common_steps}
 use Rattle.std.proofs.lemmas.List.{take-append-drop, take_all, take-take}
@@ -30,7 +30,7 @@ kept_whole text h = record {
   between = text_window text 0 (length text) h (omega arith) (IsCharBoundary-start text h) (IsCharBoundary-end text);
 }
 
--- the place before a character is a boundary
+-- the offset before a character is a boundary
 boundary_before : (xs : List ℕ) (p s : ℕ) → Stands utf8 xs p s → IsCharBoundary xs p
 boundary_before xs p s h =
     let first = Stands-at utf8 xs p s 0 p (omega arith) h (utf8_is_code.some s h.scalar) in
@@ -90,7 +90,7 @@ last_taken xs i j s n m kept ends e =
       omega arith,
     )
 
--- the same where the character was made of the code that the text ends with
+-- the window without its last character, if that was made of the code that ends the text
 pub last_char_taken : {xs text code : List ℕ} {i j t n : ℕ} → IsKeptWindow xs i j → text ≡ slice_range xs i j → IsLastCode text code n → decoded_bytes code ≡ Ok t
     → GivesLastChar (record { whole = xs; front = i; back = j }) (j - n) t (record { whole = xs; front = i; back = j - n }) × IsKeptWindow xs i (j - n) × (j - n - i < j - i)
 last_char_taken {xs} {text} {code} {i} {j} {t} {n} kept e last known =

@@ -1,4 +1,4 @@
--- What a merger of units answers for the unit that has left it.
+-- The result of a merger of units for the unit that was taken from it.
 use Rattle.std.proofs.Common.{◌≡◌, ℕ, ◌<◌, ◌≤◌, List, [], ◌∷◌, ◌++◌, length, Some, Ok, Err, Bool, true, false, eqb, refl, ap, sym, arith}
 use Rattle.std.proofs.lemmas.Grind.{common_steps}
 use Rattle.std.specs.Iterator.{Count}
@@ -32,7 +32,7 @@ kind_of_unmatched u v later lead trail =
     let two : eqb (length (u ∷ v ∷ later)) 1 ≡ false = grind (arith, common_steps) in
     rw (some, no_both u lead, lead, two, trail) refl
 
--- A unit that stands alone.
+-- A unit that is a character of its own.
 
 pub char_of_unit : (u : ℕ) → u < 0x1_0000 → is_surrogate u ≡ false → IsScalar u × (utf16 u ≡ u ∷ [])
 char_of_unit u fits plain = let code = unit_is_code u fits plain in (code.0, sym code.1)
@@ -75,7 +75,7 @@ unit_trails can_next remaining steps first s new f can none going trail = record
   clear = tt;
 }
 
--- a surrogate, by where it lies
+-- a surrogate is leading or trailing, by the range in which it lies
 pub leads_below : (u : ℕ) → is_surrogate u ≡ true → u < 0xDC00 → is_leading_surrogate u ≡ true
 leads_below u h low = grind (arith, common_steps)
 
@@ -119,7 +119,7 @@ unit_unmatched can_next remaining steps first second s t new f lead trail reads 
   clear = tt;
 }
 
--- The character of two units that are its own.
+-- The character of two units that are its code.
 
 pub known_units : {S : Type 0} {can_next : S → Type 0} {remaining : S → Count} {steps : S → Option ℕ → S → Type 0} {first : ℕ} (second : ℕ) {c : ℕ} {s t : S} {new : List ℕ} {f : Bool}
     → CompletesUnits can_next remaining steps first s (Ok second) (record { held = new; ended = f }) t → decoded_two (first ∷ second ∷ []) ≡ Ok c

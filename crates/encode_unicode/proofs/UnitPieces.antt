@@ -1,4 +1,4 @@
--- What a decoder of units answers, as a function of the units.
+-- The result of a decoder of units, as a function of the units.
 use Rattle.std.proofs.Common.{◌≡◌, ℕ, List, Some, Ok, Err, refl, sym}
 use Rattle.utf_base.specs.declared.errors.units.Utf16PairError.{Utf16PairError}
 use Rattle.utf_base.specs.declared.errors.units.Utf16SliceError.{Utf16SliceError}
@@ -18,7 +18,7 @@ known_char w s n h = rw (decoded_pairs_code w s h.0, h.1) refl
 pub known_fault : (w : List ℕ) (k : Utf16PairError) → unit_fault_kind w ≡ Some k → (Err k, 1) ≡ as_piece (decoded_pairs w)
 known_fault w k h = rw (decoded_pairs_kind w k h) refl
 
--- The same from the back.
+-- The result of a decoder of units from the end, as a function of the units.
 
 pub known_end_char : (w : List ℕ) (s n : ℕ) → EndsWith utf16 w s n → (Ok s, n) ≡ as_piece (decoded_pairs_end w)
 known_end_char w s n h = rw (decoded_pairs_end_code w s n h) refl

@@ -3,11 +3,11 @@ use Rattle.std.specs.Prelude.{ℕ, ◌<◌, List, length, Ok, Some, slice_index}
 use Rattle.utf_base.specs.Piece.{Piece}
 use Rattle.encode_unicode.specs.Window.{Item}
 
--- an ASCII byte stands at the place p
+-- an ASCII byte is at the offset p
 abbrev pub IsAsciiAt : List ℕ → ℕ → Type 0
 IsAsciiAt xs p = (p < length xs) × (slice_index xs p < 0x80)
 
--- the character of the byte at the place p, as a decoder gives it, and as a piece
+-- the character of the byte at the offset p, as a decoder gives it, and as a piece
 abbrev pub ascii_item : List ℕ → ℕ → Item
 ascii_item xs p = (p, Ok (slice_index xs p), 1)
 

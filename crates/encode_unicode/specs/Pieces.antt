@@ -1,4 +1,4 @@
--- What whole runs of decoders and of iterators over a text give, as lists.
+-- The items of whole runs of decoders and of iterators over a text, as lists.
 use Rattle.std.specs.Prelude.{◌≡◌, ℕ, zero, suc, ◌+◌, ◌<◌, ◌≤◌, List, [], ◌∷◌, length, take, drop, reverse, true, Result, Option, IfSome, None}
 use Rattle.std.specs.List.{filter_map, flat_map, fold}
 use Rattle.std.specs.Iterator.{Yields}
@@ -10,34 +10,34 @@ use Rattle.utf_base.specs.Decoded.{decoded, decoded_pairs}
 use Rattle.encode_unicode.specs.RunTests.{Tells}
 use Rattle.encode_unicode.specs.Window.{Window, Placed, Item, UnitItem, elements, whole_window, as_piece}
 
--- the pieces of a list whose first element stands at a place, one after another, by what is decoded at the front of what is
--- left: n of them, or all where they are fewer
+-- the pieces of a list whose first element is at an offset, one after another, as decoded at the front of what is
+-- left: n of them, or all if they are fewer
 unfoldable pub pieces_by : {E : Type 0} → (List ℕ → Result (ℕ × ℕ) E) → ℕ → ℕ → List ℕ → List (Placed E)
 pieces_by answer zero place xs = []
 pieces_by answer (suc n) place [] = []
 pieces_by answer (suc n) place (x ∷ xs) =
     (place, (as_piece (answer (x ∷ xs))).0, (as_piece (answer (x ∷ xs))).1) ∷ pieces_by answer n (place + (as_piece (answer (x ∷ xs))).1) (drop (as_piece (answer (x ∷ xs))).1 (x ∷ xs))
 
--- what a decoder of bytes still gives from the front, and one of units
+-- the remaining pieces of a decoder of bytes from the front, and of a decoder of units
 abbrev pub pieces_left : Window → List Item
 pieces_left w = pieces_by decoded (length (elements w)) w.front (elements w)
 
 abbrev pub unit_pieces_left : Window → List UnitItem
 unit_pieces_left w = pieces_by decoded_pairs (length (elements w)) w.front (elements w)
 
--- all pieces of some bytes, and of some units: what a decoder gives of them
+-- all pieces of some bytes, and of some units: the items of a decoder
 abbrev pub pieces : List ℕ → List Item
 pieces xs = pieces_left (whole_window xs)
 
 abbrev pub unit_pieces : List ℕ → List UnitItem
 unit_pieces xs = unit_pieces_left (whole_window xs)
 
--- scalars with their places, where the first stands at this one
+-- scalars with their offsets, if the first is at this one
 abbrev pub placed_chars : ℕ → List ℕ → List (ℕ × ℕ)
 placed_chars place [] = []
 placed_chars place (s ∷ scalars) = (place, s) ∷ placed_chars (place + length (utf8 s)) scalars
 
--- the characters that a window of a text still gives, without and with their offsets in the text
+-- the remaining characters of a window of a text, without and with their offsets in the text
 abbrev pub chars_left : Window → List ℕ
 chars_left w = chars (elements w)
 
@@ -48,11 +48,11 @@ placed_chars_left w = placed_chars w.front (chars (elements w))
 abbrev pub CodesAreTheText : Type 0
 CodesAreTheText = (text : List ℕ) → IsUtf8 text → flat_map utf8 (chars text) ≡ text
 
--- a run gives the elements of the list, in order: said of the elements and of what is made of them
+-- a run gives the elements of the list, in order: stated for the elements and for their images
 abbrev pub Gives : {S A : Type 0} {steps : S → Option A → S → Type 0} → Run steps → List A → Type 0
 Gives p xs = ItemsAre p xs × ItemsMapTo p (λ x. x) xs × Tells p xs
 
--- the same, last first
+-- a run gives the elements of the list in reverse order
 abbrev pub GivesReversed : {S A : Type 0} {steps : S → Option A → S → Type 0} → Run steps → List A → Type 0
 GivesReversed p xs = ItemsAreReversed p xs × ItemsMapToReversed p (λ x. x) xs × Tells p (reverse xs)
 
@@ -70,19 +70,19 @@ LengthsFit code most p = fold (λ sum s. sum + length (code s)) 0 p.items ≤ mo
 abbrev pub PiecesFit : {S E : Type 0} {steps : S → Option (Placed E) → S → Type 0} → ℕ → Run steps → Type 0
 PiecesFit most p = fold (λ sum x. sum + x.2) 0 p.items ≤ most
 
--- a piece of at most so many elements lies within n
+-- a piece of at most `most` elements lies within the first n
 abbrev pub LiesWithin : {E : Type 0} → ℕ → ℕ → Placed E → Type 0
 LiesWithin most n x = (x.0 < n) × (1 ≤ x.2) × (x.2 ≤ most) × (x.0 + x.2 ≤ n)
 
--- a piece of at most so many elements lies in a window: not before its front, and not beyond its back
+-- a piece of at most `most` elements lies in a window: not before its front, and not beyond its back
 abbrev pub LiesInWindow : {E : Type 0} → ℕ → Window → Placed E → Type 0
 LiesInWindow most w x = LiesWithin most w.back x × (w.front ≤ x.0)
 
--- a character with its offset lies in the text, between two places at which the text can be cut
+-- a character with its offset lies in the text, between two offsets at which the text can be cut
 abbrev pub LiesInText : List ℕ → ℕ × ℕ → Type 0
 LiesInText text x = (x.0 < length text) × IsCharBoundary text x.0 × (x.0 + length (utf8 x.1) ≤ length text) × IsCharBoundary text (x.0 + length (utf8 x.1))
 
--- and it lies in a window of the text
+-- a character with its offset lies in a window of the text
 abbrev pub LiesInTextWindow : Window → ℕ × ℕ → Type 0
 LiesInTextWindow w x = LiesInText w.whole x × (w.front ≤ x.0) × (x.0 + length (utf8 x.1) ≤ w.back)
 
@@ -90,15 +90,15 @@ LiesInTextWindow w x = LiesInText w.whole x × (w.front ≤ x.0) × (x.0 + lengt
 abbrev pub HasFirstChars : List ℕ → ℕ → List ℕ → Type 0
 HasFirstChars text k front = (front ≡ flat_map utf8 (take k (chars text))) × (chars front ≡ take k (chars text))
 
--- before each item stand as many characters as items came before it; a run that ends has passed all of them
+-- before each item are as many characters as items preceded it; a run that ends has passed all of them
 abbrev pub StandAfterChars : {steps : Window → Option (ℕ × ℕ) → Window → Type 0} → List ℕ → Run steps → Type 0
 StandAfterChars text p = ((k : ℕ) → IfSome (p.at k) (λ x. HasFirstChars text k (take x.0 text))) × ((k : ℕ) → p.whole ≡ true → p.len ≤ k → HasFirstChars text k text)
 
--- calls from the front leave the list and its back as they are
+-- calls from the front leave the list and the window's back as they are
 abbrev pub LeavesBack : {A : Type 0} → (Window → Option A → Window → Type 0) → Type 0
 LeavesBack {A} steps = (w : Window) (seen : List A) (v : Window) → Yields steps w seen v → (v.whole ≡ w.whole) × (v.back ≡ w.back) × (w.front ≤ v.front)
 
--- calls from the back leave the list and its front as they are
+-- calls from the end leave the list and the window's front as they are
 abbrev pub LeavesFront : {A : Type 0} → (Window → Option A → Window → Type 0) → Type 0
 LeavesFront {A} steps = (w : Window) (seen : List A) (v : Window) → Yields steps w seen v → (v.whole ≡ w.whole) × (v.front ≡ w.front) × (v.back ≤ w.back)
 
@@ -106,7 +106,7 @@ LeavesFront {A} steps = (w : Window) (seen : List A) (v : Window) → Yields ste
 abbrev pub characters : List ℕ → List ℕ
 characters xs = filter_map (λ x. result_ok x.1) (pieces xs)
 
--- and among those of some units
+-- the characters among the pieces of some units
 abbrev pub unit_characters : List ℕ → List ℕ
 unit_characters xs = filter_map (λ x. result_ok x.1) (unit_pieces xs)
 
@@ -114,6 +114,6 @@ unit_characters xs = filter_map (λ x. result_ok x.1) (unit_pieces xs)
 abbrev pub GaveAll : {S A : Type 0} → (S → Option A → S → Type 0) → S → List A → Type 0
 GaveAll {S} {A} steps s xs = (seen : List A) (t u : S) → Yields steps s seen t → steps t None u → seen ≡ xs
 
--- calls from s give no more items than so many
+-- calls from s give at most this number of items
 abbrev pub GiveAtMost : {S A : Type 0} → (S → Option A → S → Type 0) → S → ℕ → Type 0
 GiveAtMost {S} {A} steps s n = (seen : List A) (t : S) → Yields steps s seen t → length seen ≤ n

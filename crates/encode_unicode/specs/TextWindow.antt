@@ -15,13 +15,13 @@ pub record IsTextWindow (w : Window) : Type 0 where
   pub front : IsCharBoundary w.whole w.front
   pub back : IsCharBoundary w.whole w.back
 
--- what the fields of a window of a text keep
+-- the values that the fields of a window of a text keep
 pub record IsKeptWindow (text : List ℕ) (front back : ℕ) : Type 0 where
   pub is_text : IsUtf8 text
   pub ordered : front ≤ back
   pub between : IsTextWindow (record { whole = text; front = front; back = back })
 
--- the scalar whose code begins the window, with its place, and exactly that code has left it
+-- the scalar whose code begins the window, with its offset, and exactly that code was taken
 pub record GivesFirstChar (w : Window) (place s : ℕ) (v : Window) : Type 0 where
   pub scalar : IsScalar s
   pub code : elements w ≡ utf8 s ++ elements v
@@ -30,7 +30,7 @@ pub record GivesFirstChar (w : Window) (place s : ℕ) (v : Window) : Type 0 whe
   pub begins : IsCharBoundary w.whole w.front
   pub between : IsTextWindow v
 
--- the scalar whose code ends the window, with its place, and exactly that code has left it
+-- the scalar whose code ends the window, with its offset, and exactly that code was taken
 pub record GivesLastChar (w : Window) (place s : ℕ) (v : Window) : Type 0 where
   pub scalar : IsScalar s
   pub code : elements w ≡ elements v ++ utf8 s
@@ -39,7 +39,7 @@ pub record GivesLastChar (w : Window) (place s : ℕ) (v : Window) : Type 0 wher
   pub ends : IsCharBoundary w.whole w.back
   pub between : IsTextWindow v
 
--- one call of `next` and one of `next_back`, whose items have a place
+-- one call of `next` and one of `next_back`, whose items have an offset
 abbrev pub NextPlaced : Window → Option (ℕ × ℕ) → Window → Type 0
 NextPlaced w None v = GivesNone w v
 NextPlaced w (Some x) v = GivesFirstChar w x.0 x.1 v
@@ -48,7 +48,7 @@ abbrev pub BackPlaced : Window → Option (ℕ × ℕ) → Window → Type 0
 BackPlaced w None v = GivesNone w v
 BackPlaced w (Some x) v = GivesLastChar w x.0 x.1 v
 
--- the same of items without a place
+-- one call of `next` and one of `next_back`, whose items have no offset
 abbrev pub NextScalar : Window → Option ℕ → Window → Type 0
 NextScalar w None v = GivesNone w v
 NextScalar w (Some s) v = GivesFirstChar w w.front s v
@@ -63,6 +63,6 @@ pub record IsLastCode (text code : List ℕ) (n : ℕ) : Type 0 where
   pub ends : EndsWith utf8 text char n
   pub padded : code ≡ padded 4 (utf8 char)
 
--- the text is the codes of at least as many scalars as the first number says, and at most as many as the second
+-- the text is the codes of at least as many scalars as the first number, and at most as many as the second
 abbrev pub BoundsScalars : List ℕ → ℕ × Option ℕ → Type 0
 BoundsScalars text hint = (scalars : List ℕ) → flat_map utf8 scalars ≡ text → BoundsLength scalars hint

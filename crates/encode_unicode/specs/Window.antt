@@ -1,4 +1,4 @@
--- A window of a slice, and what one call of a decoder gives. A place is an index into the whole slice.
+-- A window of a slice, and the effect of one call of a decoder. An offset is an index into the whole slice.
 use Rattle.std.specs.Prelude.{◌≡◌, ℕ, ◌+◌, ◌-◌, ◌<◌, List, length, slice_range, take, drop, Option, Some, None, Result, Ok, Err, IfOk}
 use Rattle.utf_base.specs.declared.errors.Utf8ErrorKind.{Utf8ErrorKind}
 use Rattle.utf_base.specs.Back.{decoded_end, decoded_pairs_end}
@@ -11,7 +11,7 @@ use Rattle.utf_base.specs.declared.errors.units.Utf16PairError.{Utf16PairError}
 use Rattle.utf_base.specs.Units.{unit_fault_kind, unit_back_kind}
 pub use Rattle.utf_base.specs.Walk.{Placed}
 
--- the part of a slice from the place `front` up to and without the place `back`
+-- the part of a slice from the offset `front` up to the offset `back`, `back` not included
 pub record Window : Type 0 where
   pub whole : List ℕ
   pub front : ℕ
@@ -25,7 +25,7 @@ whole_window xs = record { whole = xs; front = 0; back = length xs }
 abbrev pub elements : Window → List ℕ
 elements w = slice_range w.whole w.front w.back
 
--- how many these are, where the window lies in the slice
+-- the number of elements in the window, if it lies in the slice
 abbrev pub window_len : Window → ℕ
 window_len w = w.back - w.front
 
@@ -37,14 +37,14 @@ without_front w n = record w { front = w.front + n }
 abbrev pub without_back : Window → ℕ → Window
 without_back w n = record w { back = w.back - n }
 
--- what a decoder of bytes answers, and one of units
+-- the items of a decoder of bytes, and of a decoder of units
 abbrev pub Item : Type 0
 Item = Placed Utf8ErrorKind
 
 abbrev pub UnitItem : Type 0
 UnitItem = Placed Utf16PairError
 
--- the scalar whose code begins the elements, with the code's length, or what is wrong with them, with length 1
+-- the scalar whose code begins the elements, with the code's length, or their fault, with length 1
 abbrev pub IsFrontOf : {E : Type 0} → (ℕ → List ℕ) → (List ℕ → Option E) → List ℕ → Result ℕ E → ℕ → Type 0
 IsFrontOf code kind xs (Ok s) n = BeginsWith code xs s n
 IsFrontOf code kind xs (Err k) n = (kind xs ≡ Some k) × (n ≡ 1)
@@ -54,17 +54,17 @@ abbrev pub IsBackOf : {E : Type 0} → (ℕ → List ℕ) → (ℕ → E) → Li
 IsBackOf code kind xs (Ok s) n = EndsWith code xs s n
 IsBackOf code kind xs (Err k) n = NoCodeEnds code xs × (k ≡ kind (last_of xs)) × (n ≡ 1)
 
--- where an item is a character, its code stands in the list at the item's place
+-- if an item is a character, its code is in the list at the item's offset
 abbrev pub HasCode : {E : Type 0} → (ℕ → List ℕ) → List ℕ → Placed E → Type 0
 HasCode code xs x = IfOk x.1 (λ s. slice_range xs x.0 (x.0 + x.2) ≡ code s)
 
--- the answer of a decoding as a piece: a scalar with the length of its code, a fault with length 1
+-- the result of a decoding as a piece: a scalar with the length of its code, a fault with length 1
 abbrev pub as_piece : {E : Type 0} → Result (ℕ × ℕ) E → Result ℕ E × ℕ
 as_piece (Ok x) = (Ok x.0, x.1)
 as_piece (Err k) = (Err k, 1)
 
--- The item is the piece that begins the window, and exactly that piece has left it. A piece has at most `most` elements,
--- and is a function of the window's; that of a character is its code.
+-- The item is the piece that begins the window, and exactly that piece was taken. A piece has at most `most`
+-- elements, and is a function of the window's; that of a character is its code.
 pub record GivesFrontOf {E : Type 0} (code : ℕ → List ℕ) (most : ℕ) (kind : List ℕ → Option E) (answer : List ℕ → Result (ℕ × ℕ) E)
     (w : Window) (x : Placed E) (v : Window) : Type 0 where
   pub some : w.front < w.back
@@ -76,7 +76,7 @@ pub record GivesFrontOf {E : Type 0} (code : ℕ → List ℕ) (most : ℕ) (kin
   pub taken : IfOk x.1 (λ s. take x.2 (elements w) ≡ code s)
   pub there : HasCode code w.whole x
 
--- the same of bytes, and of units
+-- the piece that begins bytes, and units, and the item for it
 abbrev pub IsFrontPiece : List ℕ → Result ℕ Utf8ErrorKind → ℕ → Type 0
 IsFrontPiece = IsFrontOf utf8 fault_kind
 
@@ -86,7 +86,7 @@ GivesFront = GivesFrontOf utf8 4 fault_kind decoded
 abbrev pub GivesFrontUnits : Window → UnitItem → Window → Type 0
 GivesFrontUnits = GivesFrontOf utf16 2 unit_fault_kind decoded_pairs
 
--- The item is the piece that ends the window, and exactly that piece has left it. A piece has at most `most` elements,
+-- The item is the piece that ends the window, and exactly that piece was taken. A piece has at most `most` elements,
 -- and is a function of the window's; that of a character is its code.
 pub record GivesBackOf {E : Type 0} (code : ℕ → List ℕ) (most : ℕ) (kind : ℕ → E) (answer : List ℕ → Result (ℕ × ℕ) E)
     (w : Window) (x : Placed E) (v : Window) : Type 0 where
@@ -99,7 +99,7 @@ pub record GivesBackOf {E : Type 0} (code : ℕ → List ℕ) (most : ℕ) (kind
   pub taken : IfOk x.1 (λ s. drop (length (elements w) - x.2) (elements w) ≡ code s)
   pub there : HasCode code w.whole x
 
--- the same of bytes, and of units
+-- the item is the piece that ends the window, of bytes, and of units
 abbrev pub GivesBack : Window → Item → Window → Type 0
 GivesBack = GivesBackOf utf8 4 back_kind decoded_end
 
@@ -116,12 +116,12 @@ abbrev pub NextGives : Window → Option Item → Window → Type 0
 NextGives w None v = GivesNone w v
 NextGives w (Some x) v = GivesFront w x v
 
--- one call of `next_back`, from the window w to the window v
+-- one call of `next_back` of a decoder of bytes, from the window w to the window v
 abbrev pub NextBackGives : Window → Option Item → Window → Type 0
 NextBackGives w None v = GivesNone w v
 NextBackGives w (Some x) v = GivesBack w x v
 
--- the same of a decoder of units
+-- one call of `next`, and of `next_back`, of a decoder of units
 abbrev pub NextGivesUnits : Window → Option UnitItem → Window → Type 0
 NextGivesUnits w None v = GivesNone w v
 NextGivesUnits w (Some x) v = GivesFrontUnits w x v

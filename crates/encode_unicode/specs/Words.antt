@@ -1,4 +1,4 @@
--- The definitions that callers open, passed on from the crate that defines them.
+-- The definitions that callers unfold, re-exported from the crate that defines them.
 pub use Rattle.utf_base.specs.Code.{utf8, utf16}
 pub use Rattle.utf_base.specs.Kinds.{asked, value, least_value, fault_kind, merger_kind, back_kind}
 pub use Rattle.utf_base.specs.Units.{unit_value, slice_fault, array_fault, unit_fault_kind, unit_back_kind}

@@ -3,11 +3,11 @@ ghost use Rattle.std.specs.Prelude.{◌≡◌, ◌<◌, ◌≤◌, [], ◌∷◌
 
 use std::marker::Model;
 
-/// Four bytes, those that the code does not have being zero. Contracts see their list.
+/// Four bytes; those beyond the length of the code are zero. Contracts see their list.
 ///
-/// Each is a number of 32 bits of its own: bytes side by side a compiler puts into one number, to take them
-/// out of it again where the character is used. The first is made with the bits that tell how many bytes the code has:
-/// they are there already, but so a compiler knows them, and asks no more where the character is used.
+/// Each is a 32-bit number of its own: compilers pack adjacent bytes into one number, and unpack them again when the
+/// character is used. The first is rebuilt with the bits that determine the length: they are there already, but so
+/// the compiler knows the length, and does not test it when the character is used.
 #[derive(Drop)]
 pub(crate) struct CodeBytes {
     first: u32,
@@ -27,7 +27,7 @@ impl Model for CodeBytes {
 }
 
 impl CodeBytes {
-    /// One.
+    /// A code of one byte.
     #[inline(always)]
     pub(crate) fn one(first: u8) -> CodeBytes
         requires { first < 0x80 }
@@ -41,7 +41,7 @@ impl CodeBytes {
         }
     }
 
-    /// Two.
+    /// A code of two bytes.
     #[inline(always)]
     pub(crate) fn two(first: u8, second: u8) -> CodeBytes
         requires { (0xC0 ≤ first) × (first < 0xE0) }
@@ -55,7 +55,7 @@ impl CodeBytes {
         }
     }
 
-    /// Three.
+    /// A code of three bytes.
     #[inline(always)]
     pub(crate) fn three(first: u8, second: u8, third: u8) -> CodeBytes
         requires { (0xE0 ≤ first) × (first < 0xF0) }
@@ -69,7 +69,7 @@ impl CodeBytes {
         }
     }
 
-    /// Four.
+    /// A code of four bytes.
     #[inline(always)]
     pub(crate) fn four(first: u8, second: u8, third: u8, fourth: u8) -> CodeBytes
         requires { (0xF0 ≤ first) × (first < 0xF8) }
@@ -83,7 +83,7 @@ impl CodeBytes {
         }
     }
 
-    /// All four.
+    /// All four bytes.
     #[inline(always)]
     pub(crate) fn to_array(self) -> [u8; 4]
         ensures { result ≡ self }

@@ -1,8 +1,8 @@
-//! Characters added to what holds their codes, each whole or not at all.
+//! Characters whose codes are appended to a collection, each whole or not at all.
 //!
-//! A code is added by a match on its length, with the same call in each arm: an arm knows how many elements
-//! it copies, which are then a few moves. One call for all lengths copies by a call of its own, and takes up
-//! to three times as many instructions.
+//! A code is appended by a match on its length, with the same call in each arm: an arm has a constant number
+//! of elements to copy, which takes a few moves. A single call for all lengths calls memcpy, and takes up to
+//! three times as many instructions.
 ghost use Rattle.std.specs.Prelude.{◌≡◌, ◌<◌, ◌≤◌, ◌++◌, [], List, ℕ, length, OnOk, OnErr, IsOk, string_bytes, string_capacity, vec_capacity};
 ghost use Rattle.std.specs.Iterator.{IsFinite};
 ghost use Rattle.std.specs.Iterator.Runs.{WholeRun};
@@ -15,21 +15,21 @@ use std::alloc::{AllocError, Allocator};
 use utf_chars::utf8_char::Utf8Char;
 use utf_chars::utf16_char::Utf16Char;
 
-/// What holds the codes of characters: bytes, units or a text.
+/// A collection of the codes of characters: bytes, units or a text.
 pub(crate) trait HoldsCodes<C> {
     ghost use Rattle.std.specs.Prelude.{List, ℕ};
 
     /// The elements that it holds.
     ghost held: { Self → List ℕ };
 
-    /// The elements that a character is.
+    /// The code of a character.
     ghost code: { C → List ℕ };
 
-    /// How many elements it has room for.
+    /// The capacity, in elements.
     ghost room: { Self → ℕ };
 
-    /// Adds the character. Room is taken for the whole code before its first element, so that a refusal
-    /// leaves what was there.
+    /// Appends the character. Memory for the whole code is allocated before its first element is written, so
+    /// that a failed allocation changes nothing.
     fn add(&mut self, c: C) -> Result<(), AllocError>
         ensures ok { OnOk result (held self.new ≡ held self.old ++ code c) }
         ensures err { OnErr result (held self.new ≡ held self.old) }
@@ -105,7 +105,7 @@ impl<A: Allocator> HoldsCodes<Utf16Char> for String<A> {
     }
 }
 
-/// Adds the characters of the source, one after another, up to the first that is refused.
+/// Appends the characters of the source, one after another, up to the first failed allocation.
 #[inline(always)]
 pub(crate) fn extend<C, I: Iterator<Item = C>, T: HoldsCodes<C>>(
     source: I,

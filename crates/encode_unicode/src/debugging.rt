@@ -1,7 +1,7 @@
-//! What `{:?}` writes of a type with fields.
+//! The output of `{:?}` for a type with fields.
 //!
-//! std's builders write the same, but no clause of theirs says what. They are left to write `{:#?}`, of
-//! which no clause speaks.
+//! std's builders write the same, but their contracts do not specify it. They still write `{:#?}`, which no
+//! contract specifies.
 ghost use Rattle.std.specs.Prelude.{Some};
 ghost use Rattle.std.specs.Fmt.{◌++?◌, DisplaysOnOk, debug_variant};
 ghost use Rattle.encode_unicode.specs.DebugTexts.{debug_field, debug_fields};
@@ -52,7 +52,7 @@ pub(crate) fn write_fields<A: Debug, B: Debug, W: Write>(
     f.write_str(" }")
 }
 
-// Writes what stands before a field, its name and its value.
+// Writes the text before a field, its name and its value.
 fn write_field<T: Debug, W: Write>(
     f: &mut Formatter<W>,
     before: &str,

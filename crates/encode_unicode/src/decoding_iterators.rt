@@ -1,4 +1,4 @@
-//! Iterators that cut slices into characters and errors.
+//! Iterators that split slices into characters and errors.
 ghost use Rattle.std.specs.Prelude.{◌≡◌, ◌-◌, ◌/◌, codes, drop, length, IfSome, Some, [], ⊤};
 ghost use Rattle.std.specs.Iterator.{at_most, UpTo};
 ghost use Rattle.std.specs.Iterator.SizeHint.{IsWithinCount};
@@ -19,14 +19,13 @@ mod back_scan;
 
 /// Splits a slice of bytes into characters and single invalid bytes, from both ends.
 ///
-/// An item is (offset, result, length). For the bytes `h`, `C3`, `A9`, `FF` the items are `(0,
-/// Ok('h'), 1)`, `(1, Ok('é'), 2)` and `(3, Err(error), 1)`, where the kind of the error is
-/// `NonUtf8Byte`. The offset counts from the front of the slice that the decoder was made from. The
-/// length is in bytes. Of an error it is always 1, and decoding goes on at the next byte: so no
-/// error hides an ASCII character.
+/// An item is (offset, result, length). For the bytes `h`, `C3`, `A9`, `FF` the items are `(0, Ok('h'), 1)`,
+/// `(1, Ok('é'), 2)` and `(3, Err(error), 1)`, where the kind of the error is `NonUtf8Byte`. The offset
+/// counts from the front of the slice that the decoder was made from. The length is in bytes. Of an error it
+/// is always 1, and decoding continues at the next byte: so no error hides an ASCII character.
 ///
-/// Only the bytes that remain decide an item. `CharExt::from_utf8_slice_start` says which `Utf8ErrorKind`
-/// an error has from the front. From the back only three kinds occur: `UnexpectedContinuationByte`,
+/// Only the bytes that remain determine an item. `CharExt::from_utf8_slice_start` says which `Utf8ErrorKind`
+/// an error has from the front. From the end only three kinds occur: `UnexpectedContinuationByte`,
 /// `TooFewBytes` and `NonUtf8Byte` (`Utf8Char::from_slice_end`).
 #[derive(Drop)]
 pub struct Utf8CharDecoder<'a> {
@@ -70,9 +69,9 @@ impl<'a> Utf8CharDecoder<'a> {
         &self.slice[self.front..self.back]
     }
 
-    /// `next_back`, which also counts in `steps` the bytes that it looks at. It looks at the last
-    /// byte. While the byte that it sees is a continuation byte, it looks at the one before, up to
-    /// four bytes in all. Where no byte remains it looks at none.
+    /// `next_back`, which also counts in `steps` the bytes that it reads. It reads the last byte. While the
+    /// byte that it reads is a continuation byte, it reads the one before, up to four bytes in all. If no
+    /// byte remains it reads none.
     #[inline(always)]
     pub fn next_back_counted(
         &mut self,
@@ -128,7 +127,7 @@ impl<'a> Iterator for Utf8CharDecoder<'a> {
         }
     }
 
-    /// Bounds of how many items remain: (a quarter of the bytes, rounded down; all of them).
+    /// Bounds of the number of items that remain: (a quarter of the bytes, rounded down; all of them).
     #[inline]
     fn size_hint(&self) -> (usize, Option<usize>)
         ensures lower { IsWithinCount result.0 (at_most (self.now.back - self.now.front)) }
@@ -144,10 +143,9 @@ impl<'a> Iterator for Utf8CharDecoder<'a> {
 impl<'a> DoubleEndedIterator for Utf8CharDecoder<'a> {
     ghost next_back_gives = { NextBackGives };
 
-    /// Takes the piece at the back: (offset, character or error, length). `None` once no byte
-    /// remains.
+    /// Takes the piece at the end: (offset, character or error, length). `None` once no byte remains.
     ///
-    /// Which kind an error has is decided by the byte alone, as `Utf8Char::from_slice_end` says.
+    /// The kind of an error depends only on the byte, as `Utf8Char::from_slice_end` says.
     #[inline(always)]
     fn next_back(&mut self) -> Option<(usize, Result<Utf8Char, Utf8Error>, usize)> {
         self.next_back_counted(&mut Steps::new())

@@ -1,4 +1,4 @@
-//! The bytes that a merger has read and not answered for.
+//! The bytes that a merger has read and not returned a result for.
 ghost use Rattle.std.specs.Prelude.{◌≡◌, ◌≤◌, ◌+◌, ◌-◌, ◌*◌, ◌/◌, ◌%◌, [], ◌∷◌, length, true, false};
 ghost use Rattle.std.specs.Iterator.{YieldsFirst};
 ghost use Rattle.utf_chars.specs.DebugTexts.{debug_numbers};
@@ -7,139 +7,144 @@ ghost use Rattle.encode_unicode.specs.HeldWord.{count_of};
 use std::fmt;
 use std::marker::Model;
 
-/// At most three bytes in one word, and whether the source has ended. Contracts see the list and the mark.
+/// At most three bytes in one word, and whether the source has ended. Contracts see the list and the flag.
 ///
-/// Of the word the lowest 24 bits have the bytes, the next one in the lowest eight, the seven above them have their
-/// number, and the highest one says that the source has ended. So all of it stays in a register, and one comparison
-/// tells that none is held and that the source goes on.
+/// The next byte is in bits 0 to 7 of the word, the following ones are above it, and their number is in bits 24 to 31.
 #[derive(Drop)]
 pub(crate) struct HeldBytes {
     word: u32,
+    ended: bool,
 }
 
 impl Model for HeldBytes {
     ghost use Rattle.std.specs.Prelude.{◌≤◌};
-    ghost use Rattle.encode_unicode.specs.HeldWord.{Kept, held_bytes_of, count_of, has_ended};
+    ghost use Rattle.encode_unicode.specs.HeldWord.{Kept, held_bytes_of, count_of};
 
     ghost Value = { Kept };
 
-    ghost view = { λ h. record { held = held_bytes_of h.word; ended = has_ended h.word } };
+    ghost view = { λ h. record { held = held_bytes_of h.word; ended = h.ended } };
 
     ghost invariant = { λ h. count_of h.word ≤ 3 };
 }
 
 impl HeldBytes {
-    /// None.
+    /// No bytes.
     #[inline(always)]
-    #[tactic(auto, unfolding(crate::specs::HeldWord::has_ended), using(crate::proofs::HeldWords::holds_none))]
+    #[tactic(auto, using(crate::proofs::HeldWords::holds_none))]
     pub(crate) fn none() -> HeldBytes
         ensures held { result.held ≡ [] }
         ensures going { result.ended ≡ false }
     {
-        HeldBytes { word: 0 }
+        HeldBytes {
+            word: 0,
+            ended: false,
+        }
     }
 
-    /// One.
+    /// One byte.
     #[inline(always)]
-    #[tactic(auto, unfolding(crate::specs::HeldWord::has_ended))]
     pub(crate) fn one(first: u8) -> HeldBytes
         ensures held { result.held ≡ first ∷ [] }
         ensures going { result.ended ≡ false }
     {
         HeldBytes {
             word: 0x100_0000 + first as u32,
+            ended: false,
         }
     }
 
-    /// Two.
+    /// Two bytes.
     #[inline(always)]
-    #[tactic(auto, unfolding(crate::specs::HeldWord::has_ended))]
     pub(crate) fn two(first: u8, second: u8) -> HeldBytes
         ensures held { result.held ≡ first ∷ second ∷ [] }
         ensures going { result.ended ≡ false }
     {
         HeldBytes {
             word: 0x200_0000 + second as u32 * 256 + first as u32,
+            ended: false,
         }
     }
 
-    /// Three.
+    /// Three bytes.
     #[inline(always)]
-    #[tactic(auto, unfolding(crate::specs::HeldWord::has_ended))]
     pub(crate) fn three(first: u8, second: u8, third: u8) -> HeldBytes
         ensures held { result.held ≡ first ∷ second ∷ third ∷ [] }
         ensures going { result.ended ≡ false }
     {
         HeldBytes {
             word: 0x300_0000 + third as u32 * 0x1_0000 + second as u32 * 256 + first as u32,
+            ended: false,
         }
     }
 
-    /// The same bytes, and the source has ended.
+    /// Keeps the bytes, with a source that has ended.
     #[inline(always)]
-    #[tactic(auto, unfolding(crate::specs::HeldWord::has_ended), using(crate::proofs::HeldWords::marked_bytes))]
     pub(crate) fn ended(self) -> HeldBytes
         ensures held { result.held ≡ self.held }
         ensures ended { result.ended ≡ true }
     {
         HeldBytes {
-            word: self.word % 0x8000_0000 + 0x8000_0000,
+            word: self.word,
+            ended: true,
         }
     }
 
-    /// Whether nothing is held, and the source has not ended.
+    /// Returns true if nothing is buffered, and the source has not ended.
     #[inline(always)]
-    #[tactic(auto, unfolding(crate::specs::HeldWord::has_ended), using(crate::proofs::HeldWords::holds_none, crate::proofs::HeldWords::holds_some))]
+    #[tactic(auto, using(crate::proofs::HeldWords::holds_none, crate::proofs::HeldWords::holds_some))]
     pub(crate) fn is_idle(&self) -> bool
         ensures none { result ≡ true → self.now.held ≡ [] }
         ensures going { result ≡ true → self.now.ended ≡ false }
         ensures busy { result ≡ false → self.now.held ≡ [] → self.now.ended ≡ true }
     {
-        // Not a comparison with 0: a compiler would put a 0 into its register again for each byte.
-        self.word < 0x100_0000
+        // Not a comparison with 0: for that, compilers load a 0 into a register again for each byte. The flag is
+        // tested first, since testing it after the word takes four more instructions for each byte of ASCII.
+        !self.ended && self.word < 0x100_0000
     }
 
-    /// Whether the source has ended.
+    /// Returns true if the source has ended.
     #[inline(always)]
-    #[tactic(auto, unfolding(crate::specs::HeldWord::has_ended))]
     pub(crate) fn is_ended(&self) -> bool
         ensures { result ≡ self.now.ended }
     {
-        0x8000_0000 <= self.word
+        self.ended
     }
 
-    /// How many there are.
+    /// The number of bytes.
     #[inline(always)]
     #[tactic(auto, using(crate::proofs::HeldWords::length_bytes))]
     pub(crate) fn len(&self) -> usize
         ensures len { result ≡ length self.now.held }
         ensures few { result ≤ 3 }
     {
-        (self.word / 0x100_0000 % 0x80) as usize
+        (self.word / 0x100_0000) as usize
     }
 
-    /// The same bytes once more.
+    /// A copy of the bytes and the flag.
     #[inline(always)]
     pub(crate) fn copy(&self) -> HeldBytes
         ensures { result ≡ self.now }
     {
-        HeldBytes { word: self.word }
+        HeldBytes {
+            word: self.word,
+            ended: self.ended,
+        }
     }
 
-    /// Takes the first.
+    /// Takes the first byte.
     #[inline(always)]
-    #[tactic(auto, unfolding(crate::specs::HeldWord::has_ended), using(crate::proofs::HeldWords::first_of_word, crate::proofs::HeldWords::holds_nothing, crate::proofs::HeldWords::only_of_word))]
+    #[tactic(auto, using(crate::proofs::HeldWords::first_of_word, crate::proofs::HeldWords::holds_none, crate::proofs::HeldWords::only_of_word))]
     pub(crate) fn take(&mut self) -> Option<u8>
         ensures first { YieldsFirst (λ kept. kept.held) self.old result self.new }
         ensures same { self.new.ended ≡ self.old.ended }
     {
-        // One is held most of the time, and the source goes on.
+        // Mostly one byte is buffered.
         if 0x100_0000 <= self.word && self.word < 0x200_0000 {
             let only = (self.word % 256) as u8;
             self.word = 0;
             return Some(only);
         }
-        if self.word / 0x100_0000 % 0x80 < 1 {
+        if self.word < 0x100_0000 {
             return None;
         }
         let first = (self.word % 256) as u8;
@@ -148,8 +153,8 @@ impl HeldBytes {
     }
 }
 
-// The word without its first byte. It is seldom asked for, and out of line: so a compiler keeps the ways that
-// do not ask for it together.
+// The word without its first byte. It is rarely called, and outlined: so the compiler keeps the other paths
+// together.
 #[cold]
 #[inline(never)]
 fn without_first(word: u32) -> u32
@@ -171,7 +176,7 @@ impl fmt::Debug for HeldBytes {
             (word / 256 % 256) as u8,
             (word / 0x1_0000 % 256) as u8,
         ];
-        let count = (word / 0x100_0000 % 0x80) as usize;
+        let count = (word / 0x100_0000) as usize;
         fmt::Debug::fmt(&bytes[..count], f)
     }
 }

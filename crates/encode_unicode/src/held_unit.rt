@@ -1,4 +1,4 @@
-//! The unit that a merger has read and not answered for.
+//! The unit that a merger has read and not returned a result for.
 ghost use Rattle.std.specs.Prelude.{◌≡◌, ◌<◌, [], ◌∷◌, length, true, false, IfSome, MatchOption};
 ghost use Rattle.std.specs.Iterator.{YieldsFirst};
 ghost use Rattle.encode_unicode.specs.DebugTexts.{debug_unit};
@@ -7,9 +7,10 @@ ghost use Rattle.encode_unicode.specs.Mergers.{IsHeldUnits};
 use std::fmt;
 use std::marker::Model;
 
-/// At most one unit in one word, and whether the source has ended. Contracts see the list and the mark.
+/// At most one unit in one word, and whether the source has ended. Contracts see the list and the flag.
 ///
-/// The word is 0 where none is held, else the unit above 0x1_0000. None is held once the source has ended.
+/// The word is 0 if none is buffered, otherwise 0x1_0000 plus the unit. None is buffered once the source has
+/// ended.
 #[derive(Drop)]
 pub(crate) struct HeldUnit {
     word: u64,
@@ -28,7 +29,7 @@ impl Model for HeldUnit {
 }
 
 impl HeldUnit {
-    /// None.
+    /// No unit.
     #[inline(always)]
     #[tactic(auto, unfolding(crate::specs::HeldWord::held_unit_of))]
     pub(crate) fn none() -> HeldUnit
@@ -41,7 +42,7 @@ impl HeldUnit {
         }
     }
 
-    /// None, and the source has ended.
+    /// No unit, with a source that has ended.
     #[inline(always)]
     #[tactic(auto, unfolding(crate::specs::HeldWord::held_unit_of))]
     pub(crate) fn ended() -> HeldUnit
@@ -54,7 +55,7 @@ impl HeldUnit {
         }
     }
 
-    /// One.
+    /// One unit.
     #[inline(always)]
     #[tactic(auto, unfolding(crate::specs::HeldWord::held_unit_of))]
     pub(crate) fn one(unit: u16) -> HeldUnit
@@ -67,7 +68,7 @@ impl HeldUnit {
         }
     }
 
-    /// Whether nothing is held, and the source has not ended.
+    /// Returns true if nothing is buffered, and the source has not ended.
     #[inline(always)]
     #[tactic(auto, unfolding(crate::specs::HeldWord::held_unit_of))]
     pub(crate) fn is_idle(&self) -> bool
@@ -75,11 +76,11 @@ impl HeldUnit {
         ensures going { result ≡ true → self.now.ended ≡ false }
         ensures busy { result ≡ false → self.now.held ≡ [] → self.now.ended ≡ true }
     {
-        // Not a comparison with 0: a compiler would put a 0 into its register again for each unit.
+        // Not a comparison with 0: for that, compilers load a 0 into a register again for each unit.
         self.word < 0x1_0000 && !self.ended
     }
 
-    /// Whether the source has ended.
+    /// Returns true if the source has ended.
     #[inline(always)]
     #[tactic(auto, unfolding(crate::specs::HeldWord::held_unit_of))]
     pub(crate) fn is_ended(&self) -> bool
@@ -88,7 +89,7 @@ impl HeldUnit {
         self.ended
     }
 
-    /// How many there are: 0 or 1.
+    /// The number of units: 0 or 1.
     #[inline(always)]
     #[tactic(auto, unfolding(crate::specs::HeldWord::held_unit_of))]
     pub(crate) fn len(&self) -> usize
@@ -98,7 +99,7 @@ impl HeldUnit {
         if self.word >= 0x1_0000 { 1 } else { 0 }
     }
 
-    /// The same once more.
+    /// A copy of the unit and the flag.
     #[inline(always)]
     #[tactic(auto, unfolding(crate::specs::HeldWord::held_unit_of))]
     pub(crate) fn copy(&self) -> HeldUnit
@@ -110,7 +111,7 @@ impl HeldUnit {
         }
     }
 
-    /// Takes it.
+    /// Takes the unit.
     #[inline(always)]
     #[tactic(auto, unfolding(crate::specs::HeldWord::held_unit_of))]
     pub(crate) fn take(&mut self) -> Option<u64>

@@ -56,8 +56,8 @@ impl<I: Iterator<Item = u16>> U16IterExt for I {
 
 /// Methods of every iterator of `Utf8Char`.
 ///
-/// The calls that collect and extend take memory for one whole character at a time: where memory is
-/// refused, no character is incomplete. The source's `size_hint` is not used.
+/// The calls that collect and extend allocate for one whole character at a time: if allocation fails, no
+/// character is incomplete. The source's `size_hint` is not used.
 pub trait Utf8CharIterExt: Iterator<Item = Utf8Char> + Sized {
     /// The bytes of the characters, one character after another.
     fn to_bytes(self) -> Utf8CharSplitter<Self>
@@ -65,7 +65,7 @@ pub trait Utf8CharIterExt: Iterator<Item = Utf8Char> + Sized {
         ensures runs { EachRunFrom (SplitterNext utf8 Self.next_gives) result
             (λ p. SomeRun Self.next_gives self (λ q. IsSplitterRun utf8 p q)) };
 
-    /// The bytes of all characters. The error is that memory was refused.
+    /// The bytes of all characters. The error is that an allocation failed.
     ///
     /// Condition: the source ends.
     ///
@@ -78,7 +78,7 @@ pub trait Utf8CharIterExt: Iterator<Item = Utf8Char> + Sized {
             (λ p. bytes.items ≡ flat_map utf8 p.items)) }
         ensures nothing { WhereEmpty Self.next_gives self (IsOk result) };
 
-    /// The text of all characters. The error is that memory was refused.
+    /// The text of all characters. The error is that an allocation failed.
     ///
     /// Condition: the source ends.
     ///
@@ -91,8 +91,8 @@ pub trait Utf8CharIterExt: Iterator<Item = Utf8Char> + Sized {
             (λ p. string_bytes text ≡ flat_map utf8 p.items)) }
         ensures nothing { WhereEmpty Self.next_gives self (IsOk result) };
 
-    /// Adds the bytes of all characters to the end. Where memory is refused, the characters before
-    /// it have been added, and the source is gone.
+    /// Appends the bytes of all characters. If allocation fails, the characters before it have been appended,
+    /// and the source is consumed.
     ///
     /// Condition: the source ends.
     ///
@@ -107,8 +107,8 @@ pub trait Utf8CharIterExt: Iterator<Item = Utf8Char> + Sized {
             (λ p. bytes.new.items ≡ bytes.old.items ++ flat_map utf8 p.items)) }
         ensures nothing { WhereEmpty Self.next_gives self (IsOk result) };
 
-    /// Adds all characters to the end of the text. Where memory is refused, those before it have
-    /// been added, and the source is gone.
+    /// Appends all characters to the text. If allocation fails, those before it have been appended, and the
+    /// source is consumed.
     ///
     /// Condition: the source ends.
     ///
@@ -158,8 +158,8 @@ impl<I: Iterator<Item = Utf8Char>> Utf8CharIterExt for I {
 
 /// Methods of every iterator of `Utf16Char`.
 ///
-/// The calls that collect and extend take memory for one whole character at a time: where memory is
-/// refused, no character is incomplete. The source's `size_hint` is not used.
+/// The calls that collect and extend allocate for one whole character at a time: if allocation fails, no
+/// character is incomplete. The source's `size_hint` is not used.
 pub trait Utf16CharIterExt: Iterator<Item = Utf16Char> + Sized {
     /// The units of the characters, one character after another.
     fn to_units(self) -> Utf16CharSplitter<Self>
@@ -167,7 +167,7 @@ pub trait Utf16CharIterExt: Iterator<Item = Utf16Char> + Sized {
         ensures runs { EachRunFrom (SplitterNext utf16 Self.next_gives) result
             (λ p. SomeRun Self.next_gives self (λ q. IsSplitterRun utf16 p q)) };
 
-    /// The units of all characters. The error is that memory was refused.
+    /// The units of all characters. The error is that an allocation failed.
     ///
     /// Condition: the source ends.
     ///
@@ -180,7 +180,7 @@ pub trait Utf16CharIterExt: Iterator<Item = Utf16Char> + Sized {
             (λ p. units.items ≡ flat_map utf16 p.items)) }
         ensures nothing { WhereEmpty Self.next_gives self (IsOk result) };
 
-    /// The text of all characters. The error is that memory was refused.
+    /// The text of all characters. The error is that an allocation failed.
     ///
     /// Condition: the source ends.
     ///
@@ -193,8 +193,8 @@ pub trait Utf16CharIterExt: Iterator<Item = Utf16Char> + Sized {
             (λ p. string_bytes string ≡ flat_map utf8 p.items)) }
         ensures nothing { WhereEmpty Self.next_gives self (IsOk result) };
 
-    /// Adds the units of all characters to the end. Where memory is refused, the characters before
-    /// it have been added, and the source is gone.
+    /// Appends the units of all characters. If allocation fails, the characters before it have been appended,
+    /// and the source is consumed.
     ///
     /// Condition: the source ends.
     ///
@@ -209,8 +209,8 @@ pub trait Utf16CharIterExt: Iterator<Item = Utf16Char> + Sized {
             (λ p. units.new.items ≡ units.old.items ++ flat_map utf16 p.items)) }
         ensures nothing { WhereEmpty Self.next_gives self (IsOk result) };
 
-    /// Adds all characters to the end of the text. Where memory is refused, those before it have
-    /// been added, and the source is gone.
+    /// Appends all characters to the text. If allocation fails, those before it have been appended, and the
+    /// source is consumed.
     ///
     /// Condition: the source ends.
     ///

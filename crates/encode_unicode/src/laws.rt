@@ -1,5 +1,5 @@
-//! The laws of codes, pieces and errors, each the contract of a function that does nothing. A caller
-//! calls the one that its proof needs.
+//! The laws of codes, pieces and errors, each the contract of a function that does nothing. Call the one that
+//! your proof needs.
 ghost use Rattle.std.specs.Iterator.Runs.{EveryRun};
 ghost use Rattle.std.specs.Prelude.{ℕ, ◌≡◌, ◌+◌, ◌-◌, ◌*◌, ◌<◌, ◌≤◌, Contains, count_by, length, nat_eq};
 ghost use Rattle.utf_base.specs.Code.{utf8, utf16};
@@ -31,19 +31,20 @@ pub fn runs_are_bounded()
     ensures utf16_longest { NoLongerGiven unit_pieces 2 }
 {}
 
-/// The pieces of a run have no more elements together than the window that it goes over: so their lengths may be added up.
+/// The pieces of a run have no more elements together than the window that it iterates over: so their lengths
+/// may be added up.
 pub fn lengths_are_bounded()
     ensures utf8 { EveryRun NextGives (λ p. PiecesFit (p.from.back - p.from.front) p) }
     ensures utf16 { EveryRun NextGivesUnits (λ p. PiecesFit (p.from.back - p.from.front) p) }
 {}
 
-/// An ASCII byte stands as often in some bytes as its character among their pieces, since no error hides it.
+/// An ASCII byte occurs as often in some bytes as its character among their pieces, since no error hides it.
 pub fn ascii_is_counted(bytes: &[u8], byte: u8)
     ensures { byte < 128 →
         count_by (λ c. nat_eq c byte) (characters bytes.now) ≡ count_by (λ b. nat_eq b byte) bytes.now }
 {}
 
-/// Where a byte is ASCII a decoder gives its character, and a piece begins and ends there, whatever stands around it.
+/// If a byte is ASCII a decoder gives its character, and a piece begins and ends there, whatever surrounds it.
 pub fn ascii_is_a_piece(bytes: &[u8], place: usize)
     ensures item { IsAsciiAt bytes.now place → Contains (pieces bytes.now) (ascii_item bytes.now place) }
     ensures piece { IsAsciiAt bytes.now place → IsPiece utf8 bytes.now (ascii_piece bytes.now place) }
@@ -56,7 +57,7 @@ pub fn codes_are_the_text()
     ensures { CodesAreTheText }
 {}
 
-/// A merger answers the characters that a decoder gives of the same bytes, and of the same units.
+/// A merger returns the characters that a decoder gives of the same bytes, and of the same units.
 #[tactic(auto, using(crate::proofs::MergedCharacters::merged_characters, crate::proofs::MergedCharacters::merged_unit_characters))]
 pub fn merged_are_the_characters()
     ensures bytes { MergedCharacters }

@@ -1,6 +1,6 @@
 //! Decoding of UTF-8 and UTF-16, after the Rust crate of that name.
 //!
-//! The errors stand in `error`, the iterators in `iterator`, and the rest at the top.
+//! The errors are in `error`, the iterators in `iterator`, and the rest at the top.
 #![tactic(auto)]
 
 mod code_bytes;
@@ -38,7 +38,7 @@ pub use utf_chars::utf8_char::Utf8Char;
 pub use utf_chars::utf16_char::Utf16Char;
 
 pub mod error {
-    //! What the calls of this crate answer where they find no character.
+    //! The errors that the calls of this crate return if they find no character.
     pub use utf_base::errors::{
         CodepointError, EmptyStrError, FromStrError, NonAsciiError, NonBmpError, Utf8Error,
         Utf8ErrorKind, Utf16ArrayError, Utf16FirstUnitError, Utf16PairError, Utf16SliceError,

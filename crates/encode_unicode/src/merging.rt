@@ -1,11 +1,11 @@
-//! What the two mergers share.
+//! The code that both mergers share.
 ghost use Rattle.std.specs.Prelude.{◌≡◌, ◌<◌, false};
 ghost use Rattle.encode_unicode.specs.Mergers.{hint_until, merge_hint};
 ghost use Rattle.encode_unicode.specs.Reading.{ReadsElements, as_list, ends};
 
 use crate::splitting::hint_of;
 
-/// One element more, if the source has one. It has ended where it has none.
+/// Reads one more element. If the source has none, it has ended.
 #[inline(always)]
 pub(crate) fn read<T, I: Iterator<Item = T>>(source: &mut I) -> Option<T>
     requires { I.can_next source.old }
@@ -15,7 +15,7 @@ pub(crate) fn read<T, I: Iterator<Item = T>>(source: &mut I) -> Option<T>
     source.next()
 }
 
-/// The hint of a source, of which nothing more comes once it has ended.
+/// The hint of a source, which is 0 once the source has ended.
 #[inline(always)]
 pub(crate) fn hint_of_source(hint: (usize, Option<usize>), ended: bool) -> (usize, Option<usize>)
     ensures { result ≡ hint_until ended hint }
@@ -24,8 +24,8 @@ pub(crate) fn hint_of_source(hint: (usize, Option<usize>), ended: bool) -> (usiz
     (if ended { 0 } else { low }, high)
 }
 
-/// The hint of a merger, of its source's: `held` elements are held, and a code has at most `most`. The
-/// upper bound is none where it does not fit.
+/// The hint of a merger, derived from its source's: `held` elements are buffered, and a code has at most
+/// `most`. The upper bound is `None` if it does not fit.
 #[inline(always)]
 pub(crate) fn merged_hint(
     source: (usize, Option<usize>),

@@ -1,4 +1,4 @@
-//! What a merger of bytes has left.
+//! The remaining bytes of a merger.
 ghost use Rattle.std.specs.Prelude.{◌≡◌, [], codes, List, ℕ, IfErr, IfOk, IfSome, IsOk, false};
 ghost use Rattle.std.specs.Iterator.{UpTo};
 ghost use Rattle.std.specs.Iterator.SizeHint.{IsWithinCount};
@@ -16,10 +16,10 @@ use std::alloc::AllocError;
 use std::fmt;
 use std::marker::Model;
 
-/// What a merger of bytes has not decoded: the bytes that it held, in order, and then those that its
-/// source still gives.
+/// The bytes that a merger has not decoded: those that it buffered, in order, and then those that its source
+/// still gives.
 ///
-/// Once the source has given `None`, it is not called again. Contracts see what is held, the source,
+/// Once the source has given `None`, it is not called again. Contracts see the buffered bytes, the source,
 /// and whether it has ended.
 #[derive(Drop)]
 pub struct RemainingBytes<I> {
@@ -53,8 +53,8 @@ impl<I: Iterator<Item = u8>> Iterator for RemainingBytes<I> {
         first_byte(&mut self.held, &mut self.source)
     }
 
-    /// The source's bounds with the held bytes added, as far as a `usize` goes. Once the source has ended, its
-    /// lower bound counts as 0.
+    /// The source's bounds plus the number of buffered bytes, as far as a `usize` goes. Once the source has
+    /// ended, its lower bound counts as 0.
     #[inline]
     fn size_hint(&self) -> (usize, Option<usize>)
         ensures lower { IsWithinCount result.0 (unread_count I.remaining self.now) }
@@ -67,7 +67,7 @@ impl<I: Iterator<Item = u8>> Iterator for RemainingBytes<I> {
 }
 
 impl<I: Iterator<Item = u8>> RemainingBytes<I> {
-    /// What is held, and then what the source still gives.
+    /// The buffered bytes, and then what the source still gives.
     #[inline(always)]
     pub(crate) fn new(source: I, held: HeldBytes) -> RemainingBytes<I>
         requires { IsHeldBytes held.held }
@@ -76,8 +76,8 @@ impl<I: Iterator<Item = u8>> RemainingBytes<I> {
         RemainingBytes { source, held }
     }
 
-    /// The same bytes once more, where a clone of the source gives the same items. It fails exactly where the
-    /// source's `clone` fails, with that error.
+    /// A copy with the same bytes to come, if a clone of the source gives the same items. It fails if and
+    /// only if the source's `clone` fails, with that error.
     ///
     /// Cost: that of the source's `clone`.
     pub fn clone(&self) -> Result<RemainingBytes<I>, AllocError>
@@ -97,11 +97,11 @@ impl<I: Iterator<Item = u8>> RemainingBytes<I> {
     }
 }
 
-/// The bytes that are held, and the source.
+/// The buffered bytes, and the source.
 impl<I: Iterator<Item = u8> + fmt::Debug> fmt::Debug for RemainingBytes<I> {
     ghost debug_output = { λ m. debug_merger (codes "RemainingBytes") (debug_numbers m.held) (I.debug_output m.source) };
 
-    /// The bytes that are held, and the source.
+    /// The buffered bytes, and the source.
     fn fmt<W: fmt::Write>(&self, f: &mut fmt::Formatter<W>) -> fmt::Result {
         write_fields(
             f,
@@ -112,7 +112,7 @@ impl<I: Iterator<Item = u8> + fmt::Debug> fmt::Debug for RemainingBytes<I> {
     }
 }
 
-// Takes the first of the unread bytes: one that is held, else one of the source.
+// Takes the first of the unread bytes: a buffered one, otherwise one of the source.
 #[inline(always)]
 pub(crate) fn first_byte<I: Iterator<Item = u8>>(held: &mut HeldBytes, source: &mut I) -> Option<u8>
     requires can { held.old.ended ≡ false → I.can_next source.old }

@@ -11,7 +11,7 @@ use utf_chars::utf16_char::Utf16Char;
 
 /// At most one unit. Contracts see the list.
 ///
-/// It is 0 where there is none, since no code has a second unit of 0.
+/// The unit is 0 if there is none, since no code has a second unit of 0.
 #[derive(Drop)]
 pub(crate) struct SecondUnit {
     unit: u16,
@@ -27,7 +27,7 @@ impl Model for SecondUnit {
 }
 
 impl SecondUnit {
-    /// None.
+    /// No unit.
     #[inline(always)]
     pub(crate) fn none() -> SecondUnit
         ensures { result ≡ [] }
@@ -35,7 +35,7 @@ impl SecondUnit {
         SecondUnit { unit: 0 }
     }
 
-    /// The first unit of a code, and what follows it in the code.
+    /// The first unit of a code, and the unit after it, if there is one.
     #[inline(always)]
     #[tactic(auto, using(crate::proofs::SecondUnits::code_of_two))]
     pub(crate) fn split(c: Utf16Char) -> (u16, SecondUnit)
@@ -45,7 +45,7 @@ impl SecondUnit {
         (first, SecondUnit { unit: second })
     }
 
-    /// The same once more.
+    /// A copy of the unit.
     #[inline(always)]
     pub(crate) fn copy(&self) -> SecondUnit
         ensures { result ≡ self.now }
@@ -53,7 +53,7 @@ impl SecondUnit {
         SecondUnit { unit: self.unit }
     }
 
-    /// How many there are.
+    /// The number of units: 0 or 1.
     #[inline(always)]
     pub(crate) fn len(&self) -> usize
         ensures { result ≡ length self.now }

@@ -1,9 +1,9 @@
-//! What the two splitters share.
+//! The code that both splitters share.
 ghost use Rattle.std.specs.Prelude.{◌≡◌, ◌+◌, ◌*◌};
 ghost use Rattle.encode_unicode.specs.Sources.{fitting_usize, split_hint};
 
-/// The hint of a splitter, of its source's: `held` elements are left of the begun code, and a code has at
-/// most `most`. Where a bound does not fit, the lower one is `usize::MAX` and the upper one is none.
+/// The hint of a splitter, derived from its source's: `held` elements are left of the begun code, and a code
+/// has at most `most`. If a bound does not fit, the lower one is `usize::MAX` and the upper one is `None`.
 #[inline(always)]
 pub(crate) fn hint_of(
     source: (usize, Option<usize>),
@@ -20,7 +20,7 @@ pub(crate) fn hint_of(
     (low.saturating_add(held), high)
 }
 
-// As many codes of `most` elements as `count` says, and `held` elements more, where that is a `usize`.
+// `count` times `most`, plus `held`, if that is a `usize`.
 #[inline(always)]
 fn widened(count: usize, most: usize, held: usize) -> Option<usize>
     ensures { result ≡ fitting_usize (count * most + held) }

@@ -1,15 +1,14 @@
-//! A count of steps, for contracts alone.
+//! A count of steps, only for contracts.
 ghost use Rattle.std.specs.Prelude.{◌≡◌, ◌+◌};
 
 use crate::tally::Tally;
 use std::marker::Model;
 
-/// A count for contracts alone: how many steps a call took, or how many calls of a reader or writer
-/// failed. At run time it is nothing.
+/// A count only for contracts: how many steps a call took, or how many calls of a reader or writer failed. At
+/// run time it takes no space and no time.
 ///
-/// A call that takes steps, as `Utf8CharDecoder::next_back_counted` does, ticks once for each step.
-/// Its contract says how many there are at most. If your contracts say nothing about steps, pass
-/// `&mut Steps::new()`.
+/// A call that takes steps, as `Utf8CharDecoder::next_back_counted` does, ticks once for each step. Its
+/// contract bounds their number. If your contracts say nothing about steps, pass `&mut Steps::new()`.
 #[derive(Drop)]
 pub struct Steps {
     taken: Tally,
@@ -34,7 +33,7 @@ impl Steps {
         }
     }
 
-    /// One step more.
+    /// Counts one more step.
     #[inline(always)]
     pub fn tick(&mut self)
         ensures { self.new ≡ self.old + 1 }

@@ -1,6 +1,6 @@
 //! A number that only contracts see: how many steps were taken, how many calls failed.
 //!
-//! The count has no bound and takes no memory. Two functions make and raise it, `Tally::new` and the
+//! The count has no bound and takes no memory. Two functions make and increment it, `Tally::new` and the
 //! private `after`, and outside tests they are the only ones of the project that are proved by hand.
 ghost use Rattle.std.specs.Prelude.{◌≡◌, ℕ, ◌+◌};
 ghost use Rattle.std.specs.Borrow.{ftrue};

@@ -12,7 +12,7 @@ use std::marker::Model;
 use utf_base::errors::EmptyStrError;
 use utf_chars::utf8_char::Utf8Char;
 
-/// The part of a text that no call has answered for yet.
+/// The part of a text that no call has returned yet.
 #[derive(Drop)]
 pub(crate) struct TextWindow<'a> {
     text: &'a str,
@@ -47,7 +47,7 @@ impl<'a> TextWindow<'a> {
         }
     }
 
-    /// The same window once more.
+    /// A copy of the window.
     #[inline(always)]
     pub(crate) fn copy(&self) -> TextWindow<'a>
         ensures { result ≡ self.now }
@@ -59,7 +59,7 @@ impl<'a> TextWindow<'a> {
         }
     }
 
-    /// The part of the text that is left, lent from the text for as long as it lives.
+    /// The part of the text that is left, borrowed from the text for as long as it lives.
     #[inline(always)]
     pub(crate) fn as_str(&self) -> &'a str
         ensures text { result.now ≡ elements self.now }
@@ -68,7 +68,7 @@ impl<'a> TextWindow<'a> {
         &self.text[self.front..self.back]
     }
 
-    /// Writes a name, the place at which the window begins, in bytes, and the part of the text that is left.
+    /// Writes a name, the offset at which the window begins, in bytes, and the part of the text that is left.
     pub(crate) fn write_debug<W: fmt::Write>(
         &self,
         f: &mut fmt::Formatter<W>,
@@ -80,7 +80,7 @@ impl<'a> TextWindow<'a> {
         fmt::Debug::fmt(&(self.front, self.as_str()), f)
     }
 
-    /// How many characters are left at least and at most.
+    /// Bounds of the number of characters that are left.
     #[inline(always)]
     #[tactic(auto, using(crate::proofs::TextLemmas::bounds_quarter))]
     pub(crate) fn bounds(&self) -> (usize, Option<usize>)
@@ -91,7 +91,7 @@ impl<'a> TextWindow<'a> {
         (left.div_ceil(4), Some(left))
     }
 
-    /// Takes the first character, and its place.
+    /// Takes the first character, and its offset.
     #[inline(always)]
     pub(crate) fn next(&mut self) -> Option<(usize, Utf8Char)>
         ensures gives { NextPlaced self.old result self.new }
@@ -107,7 +107,7 @@ impl<'a> TextWindow<'a> {
         }
     }
 
-    /// Takes the last character, and its place.
+    /// Takes the last character, and its offset.
     #[inline(always)]
     pub(crate) fn next_back(&mut self) -> Option<(usize, Utf8Char)>
         ensures gives { BackPlaced self.old result self.new }
@@ -123,8 +123,8 @@ impl<'a> TextWindow<'a> {
     }
 }
 
-// The code that ends a text, then zeros, and how many bytes it has. Its last bytes are looked at, and no
-// more of them than it has.
+// The code that ends a text, followed by zeros, and its length in bytes. It reads the last bytes, and no more
+// of them than the code has.
 #[inline(always)]
 #[tactic(auto, using(crate::proofs::TextEnds::last_one, crate::proofs::TextEnds::two_there, crate::proofs::TextEnds::last_two, crate::proofs::TextEnds::three_there, crate::proofs::TextEnds::last_three, crate::proofs::TextEnds::last_four))]
 fn last_code(text: &[u8]) -> ([u8; 4], usize)
@@ -148,8 +148,8 @@ fn last_code(text: &[u8]) -> ([u8; 4], usize)
     ([first, third_last, second_last, last], 4)
 }
 
-// The first byte of a code of two, put together of its mark and its payload. It is the byte that it was,
-// but a compiler now sees how long the code is, and tests it no more where the scalar is asked for.
+// The first byte of a code of two, rebuilt from its marker bits and its payload. The value is unchanged, but
+// the compiler now knows the length of the code, and does not test it when the scalar is computed.
 #[inline(always)]
 fn first_of_two(byte: u8) -> u8
     requires low { 0xC0 ≤ byte }
@@ -159,7 +159,7 @@ fn first_of_two(byte: u8) -> u8
     0xc0 | byte & 0x1f
 }
 
-// The same of a code of three.
+// The first byte of a code of three, rebuilt as in `first_of_two`, so that the compiler knows the length.
 #[inline(always)]
 fn first_of_three(byte: u8) -> u8
     requires low { 0xE0 ≤ byte }
@@ -169,7 +169,7 @@ fn first_of_three(byte: u8) -> u8
     0xe0 | byte & 0x0f
 }
 
-// The same of a code of four.
+// The first byte of a code of four, rebuilt as in `first_of_two`, so that the compiler knows the length.
 #[inline(always)]
 fn first_of_four(byte: u8) -> u8
     requires low { 0xF0 ≤ byte }

@@ -1,4 +1,4 @@
-//! The iterator that cuts a slice of units into characters and errors.
+//! The iterator that splits a slice of units into characters and errors.
 ghost use Rattle.std.specs.Prelude.{◌≡◌, ◌-◌, ◌/◌, ◌<◌, codes, drop, [], IfSome, Some, ⊤, length, List, ℕ};
 ghost use Rattle.std.specs.Iterator.{at_most, UpTo};
 ghost use Rattle.std.specs.Iterator.SizeHint.{IsWithinCount};
@@ -19,15 +19,14 @@ use utf_chars::utf16_char::Utf16Char;
 
 /// Splits a slice of UTF-16 units into characters and lone surrogates, from both ends.
 ///
-/// An item is (offset, result, length). For the units `0068`, `D800`, `D83D`, `DE00` the items are
-/// `(0, Ok('h'), 1)`, `(1, Err(error), 1)`, where the error is `UnmatchedLeadingSurrogate`, and
-/// `(2, Ok('😀'), 2)`. The offset counts from the front of the slice that the decoder was made from.
-/// The length is in units. Of an error it is always 1, and decoding goes on at the next unit.
+/// An item is (offset, result, length). For the units `0068`, `D800`, `D83D`, `DE00` the items are `(0,
+/// Ok('h'), 1)`, `(1, Err(error), 1)`, where the error is `UnmatchedLeadingSurrogate`, and `(2, Ok('😀'), 2)`.
+/// The offset counts from the front of the slice that the decoder was made from. The length is in units. Of
+/// an error it is always 1, and decoding continues at the next unit.
 ///
-/// Only the units that remain decide an item. A trailing surrogate where a character should begin
-/// is `UnexpectedTrailingSurrogate`. A leading surrogate is `UnmatchedLeadingSurrogate` where the
-/// next unit is not a trailing surrogate, and `Incomplete` where nothing follows (RFC 2781, section
-/// 2.2).
+/// Only the units that remain determine an item. A trailing surrogate where a character should begin is
+/// `UnexpectedTrailingSurrogate`. A leading surrogate is `UnmatchedLeadingSurrogate` if the next unit is not
+/// a trailing surrogate, and `Incomplete` if nothing follows (RFC 2781, section 2.2).
 #[derive(Drop)]
 pub struct Utf16CharDecoder<'a> {
     slice: &'a [u16],
@@ -104,7 +103,7 @@ impl<'a> Iterator for Utf16CharDecoder<'a> {
         Some((place, answer, len))
     }
 
-    /// Bounds of how many items remain: (half of the units, rounded down; all of them).
+    /// Bounds of the number of items that remain: (half of the units, rounded down; all of them).
     #[inline]
     fn size_hint(&self) -> (usize, Option<usize>)
         ensures lower { IsWithinCount result.0 (at_most (self.now.back - self.now.front)) }
@@ -120,8 +119,7 @@ impl<'a> Iterator for Utf16CharDecoder<'a> {
 impl<'a> DoubleEndedIterator for Utf16CharDecoder<'a> {
     ghost next_back_gives = { NextBackGivesUnits };
 
-    /// Takes the piece at the back: (offset, character or error, length). `None` once no unit
-    /// remains.
+    /// Takes the piece at the end: (offset, character or error, length). `None` once no unit remains.
     ///
     /// A lone trailing surrogate is `UnexpectedTrailingSurrogate`, a lone leading one `Incomplete`.
     #[inline(always)]
@@ -193,7 +191,7 @@ fn last_piece(units: &[u16]) -> (Result<Utf16Char, Utf16PairError>, usize)
     }
 }
 
-// The fault of a slice as that of one piece of it: of the first, and of the last.
+// The fault of a slice as the fault of one of its pieces: of the first, and of the last.
 #[inline(always)]
 #[tactic(auto, using(utf_base::proofs::UnitEnds::back_kind_of_fault, utf_base::proofs::UnitLemmas::kind_from_fault, utf_base::proofs::UnitLemmas::pair_error))]
 fn pair_error(error: Utf16SliceError) -> Utf16PairError

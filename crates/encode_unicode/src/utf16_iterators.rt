@@ -67,7 +67,7 @@ impl<'a> Iterator for Utf16CharIndices<'a> {
         Some((place, Utf16Char::from(c)))
     }
 
-    /// Bounds of how many characters remain: (a quarter of the bytes, rounded up; all of them).
+    /// Bounds of the number of characters that remain: (a quarter of the bytes, rounded up; all of them).
     #[inline]
     fn size_hint(&self) -> (usize, Option<usize>)
         ensures lower { IsWithinCount result.0 (at_most (self.now.back - self.now.front)) }
@@ -168,7 +168,7 @@ impl<'a> Iterator for Utf16Chars<'a> {
         Some(c)
     }
 
-    /// Bounds of how many characters remain: (a quarter of the bytes, rounded up; all of them).
+    /// Bounds of the number of characters that remain: (a quarter of the bytes, rounded up; all of them).
     #[inline]
     fn size_hint(&self) -> (usize, Option<usize>)
         ensures lower { IsWithinCount result.0 (at_most (self.now.back - self.now.front)) }

@@ -1,4 +1,4 @@
-//! Characters, and what is wrong, from the units of an iterator.
+//! Characters and errors from the units of an iterator.
 ghost use Rattle.std.specs.Prelude.{◌≡◌, ◌<◌, codes, ℕ, List, [], length, IsOk, IfErr, IfOk, IfSome, true, false};
 ghost use Rattle.std.specs.Iterator.{UpTo};
 ghost use Rattle.std.specs.Iterator.SizeHint.{IsWithinCount};
@@ -22,15 +22,13 @@ use utf_chars::utf16_char::Utf16Char;
 
 /// Splits the units of any iterator into characters and lone surrogates: a streaming decoder.
 ///
-/// An error is of one unit, and decoding goes on at the next unit. To recognise a leading surrogate
-/// that is alone, it has to read the unit after it. It holds that unit, and decodes it next. Before
-/// the first call, after a character and after `None` it holds nothing. Once the source has given
-/// `None`, it is not called again.
+/// An error is of one unit, and decoding continues at the next unit. To recognise a lone leading surrogate,
+/// it has to read the unit after it. It buffers that unit, and decodes it next. Before the first call, after
+/// a character and after `None` it buffers nothing. Once the source has given `None`, it is not called again.
 ///
-/// A trailing surrogate where a character should begin is `UnexpectedTrailingSurrogate`. A leading
-/// surrogate is `UnmatchedLeadingSurrogate` if another unit follows that is not a trailing
-/// surrogate, and `Incomplete` at the end (RFC 2781, section 2.2). Contracts see what is held, the
-/// source, and whether it has ended.
+/// A trailing surrogate where a character should begin is `UnexpectedTrailingSurrogate`. A leading surrogate
+/// is `UnmatchedLeadingSurrogate` if another unit follows that is not a trailing surrogate, and `Incomplete`
+/// at the end (RFC 2781, section 2.2). Contracts see the buffered unit, the source, and whether it has ended.
 #[derive(Drop)]
 pub struct Utf16CharMerger<I> {
     source: I,
@@ -79,8 +77,8 @@ impl<I: Iterator<Item = u16>> Iterator for Utf16CharMerger<I> {
 
     ghost remaining = { unread_count I.remaining };
 
-    /// Takes one character, or the error of one lone surrogate. `None` once the source has ended and
-    /// nothing is held.
+    /// Takes one character, or the error of one lone surrogate. `None` once the source has ended and nothing
+    /// is buffered.
     ///
     /// It reads only the units that it needs to decide.
     #[inline(always)]
@@ -96,8 +94,8 @@ impl<I: Iterator<Item = u16>> Iterator for Utf16CharMerger<I> {
         Some(Ok(Utf16Char::from_array_unchecked([first as u16, second])))
     }
 
-    /// Half of the source's lower bound, rounded down, and its upper bound with the held unit added. Once the
-    /// source has ended, its lower bound counts as 0.
+    /// Half of the source's lower bound, rounded down, and its upper bound plus 1 if a unit is buffered. Once
+    /// the source has ended, its lower bound counts as 0.
     #[inline]
     fn size_hint(&self) -> (usize, Option<usize>)
         ensures lower { IsWithinCount result.0 (unread_count I.remaining self.now) }
@@ -110,8 +108,8 @@ impl<I: Iterator<Item = u16>> Iterator for Utf16CharMerger<I> {
 }
 
 impl<I: Iterator<Item = u16>> Utf16CharMerger<I> {
-    /// The source, as far as it was read. After a character the merger holds no unit. After an
-    /// error it may hold one, which is lost here: `into_remaining_units` keeps it.
+    /// The source, as far as it was read. After a character the merger buffers no unit. After an error it may
+    /// buffer one, which is lost here: `into_remaining_units` keeps it.
     #[inline]
     pub fn into_inner(self) -> I
         ensures source { result ≡ self.source }
@@ -122,8 +120,7 @@ impl<I: Iterator<Item = u16>> Utf16CharMerger<I> {
         source
     }
 
-    /// All units that are not decoded yet: the one that the merger holds, and then what the source
-    /// still gives.
+    /// All units that are not decoded yet: the buffered one, and then what the source still gives.
     #[inline]
     pub fn into_remaining_units(self) -> RemainingUnits<I>
         ensures { result ≡ self }
@@ -134,8 +131,8 @@ impl<I: Iterator<Item = u16>> Utf16CharMerger<I> {
         }
     }
 
-    /// A second merger with the same units to come, where a clone of the source gives the same items. It fails
-    /// exactly where the source's `clone` fails, with that error.
+    /// A second merger with the same units to come, if a clone of the source gives the same items. It fails if
+    /// and only if the source's `clone` fails, with that error.
     ///
     /// Cost: that of the source's `clone`.
     pub fn clone(&self) -> Result<Utf16CharMerger<I>, AllocError>
@@ -155,11 +152,11 @@ impl<I: Iterator<Item = u16>> Utf16CharMerger<I> {
     }
 }
 
-/// The unit that is held, and the source.
+/// The buffered unit, and the source.
 impl<I: Iterator<Item = u16> + fmt::Debug> fmt::Debug for Utf16CharMerger<I> {
     ghost debug_output = { λ m. debug_merger (codes "Utf16CharMerger") (debug_unit m.held) (I.debug_output m.source) };
 
-    /// The unit that is held, and the source.
+    /// The buffered unit, and the source.
     fn fmt<W: fmt::Write>(&self, f: &mut fmt::Formatter<W>) -> fmt::Result {
         write_fields(
             f,
@@ -170,8 +167,8 @@ impl<I: Iterator<Item = u16> + fmt::Debug> fmt::Debug for Utf16CharMerger<I> {
     }
 }
 
-// Takes the first of the unread units: the one that is held, else one of the source. It is a number of 64
-// bits, for which a compiler has no work each time that it is used.
+// Takes the first of the unread units: the buffered one, otherwise one of the source. It is a 64-bit number,
+// which the compiler need not extend each time it is used.
 #[inline(always)]
 fn first_unit<I: Iterator<Item = u16>>(held: &mut HeldUnit, source: &mut I) -> Option<u64>
     requires can { held.old.ended ≡ false → I.can_next source.old }
@@ -194,8 +191,8 @@ fn first_unit<I: Iterator<Item = u16>>(held: &mut HeldUnit, source: &mut I) -> O
     }
 }
 
-// The second unit of the code of a unit that has left the merger, and 0 where the code has no other. What is
-// read after it is held where it is no part of the code.
+// The second unit of the code of a unit that was taken from the merger, or 0 if the code has one unit. A unit
+// that is read after it is buffered if it is not part of the code.
 #[inline(always)]
 #[tactic(auto, using(crate::proofs::UnitMerging::leads_below, crate::proofs::UnitMerging::trails_from, crate::proofs::UnitMerging::unit_last, crate::proofs::UnitMerging::unit_pair, crate::proofs::UnitMerging::unit_stands, crate::proofs::UnitMerging::unit_trails, crate::proofs::UnitMerging::unit_unmatched))]
 fn second_unit<I: Iterator<Item = u16>>(
@@ -230,9 +227,9 @@ fn second_unit<I: Iterator<Item = u16>>(
     }
 }
 
-// Whether the unit is a character by itself, which is to be no surrogate. One comparison tells of the units
-// below the surrogates and of those above, so that a processor foresees it. It counts from after the
-// surrogates: counted from the first of them, a compiler would take a mask and one instruction more.
+// Returns true if the unit is a character of its own, that is, no surrogate. One comparison covers the units
+// below the surrogates and those above, so that the branch predicts well. It counts from after the
+// surrogates: counted from the first of them, the compiler would need a mask and one more instruction.
 #[inline(always)]
 fn stands_alone(unit: u64) -> bool
     requires { unit < 0x1_0000 }
@@ -242,11 +239,10 @@ fn stands_alone(unit: u64) -> bool
     unit.wrapping_sub(0xe000) < 0xffff_ffff_ffff_f800
 }
 
-/// What a merger of units has not decoded: the unit that it held, and then those that its source
-/// still gives.
+/// The units that a merger has not decoded: the buffered one, and then those that its source still gives.
 ///
-/// Once the source has given `None`, it is not called again. Contracts see what is held, the
-/// source, and whether it has ended.
+/// Once the source has given `None`, it is not called again. Contracts see the buffered unit, the source, and
+/// whether it has ended.
 #[derive(Drop)]
 pub struct RemainingUnits<I> {
     source: I,
@@ -279,8 +275,8 @@ impl<I: Iterator<Item = u16>> Iterator for RemainingUnits<I> {
         }
     }
 
-    /// The source's bounds with the held unit added, as far as a `usize` goes. Once the source has ended, its
-    /// lower bound counts as 0.
+    /// The source's bounds plus 1 if a unit is buffered, as far as a `usize` goes. Once the source has ended,
+    /// its lower bound counts as 0.
     #[inline]
     fn size_hint(&self) -> (usize, Option<usize>)
         ensures lower { IsWithinCount result.0 (unread_count I.remaining self.now) }
@@ -293,8 +289,8 @@ impl<I: Iterator<Item = u16>> Iterator for RemainingUnits<I> {
 }
 
 impl<I: Iterator<Item = u16>> RemainingUnits<I> {
-    /// The same units once more, where a clone of the source gives the same items. It fails exactly where the
-    /// source's `clone` fails, with that error.
+    /// A copy with the same units to come, if a clone of the source gives the same items. It fails if and
+    /// only if the source's `clone` fails, with that error.
     ///
     /// Cost: that of the source's `clone`.
     pub fn clone(&self) -> Result<RemainingUnits<I>, AllocError>
@@ -314,11 +310,11 @@ impl<I: Iterator<Item = u16>> RemainingUnits<I> {
     }
 }
 
-/// The unit that is held, and the source.
+/// The buffered unit, and the source.
 impl<I: Iterator<Item = u16> + fmt::Debug> fmt::Debug for RemainingUnits<I> {
     ghost debug_output = { λ m. debug_merger (codes "RemainingUnits") (debug_unit m.held) (I.debug_output m.source) };
 
-    /// The unit that is held, and the source.
+    /// The buffered unit, and the source.
     fn fmt<W: fmt::Write>(&self, f: &mut fmt::Formatter<W>) -> fmt::Result {
         write_fields(
             f,

@@ -66,8 +66,8 @@ impl<I: Iterator<Item = Utf16Char>> Iterator for Utf16CharSplitter<I> {
         }
     }
 
-    /// Bounds of how many units come: what is left of the character that was begun, and at least
-    /// one unit and at most two for each character of the source.
+    /// Bounds of the number of units to come: those left of the character that was begun, and at least one
+    /// and at most two for each character of the source.
     #[inline]
     fn size_hint(&self) -> (usize, Option<usize>)
         ensures lower { IsWithinCount result.0 (unsent_count 2 I.remaining self.now) }
@@ -88,8 +88,8 @@ impl<I: Iterator<Item = Utf16Char>> Utf16CharSplitter<I> {
         source
     }
 
-    /// A second splitter with the same units to come, where a clone of the source gives the same items. It
-    /// fails exactly where the source's `clone` fails, with that error.
+    /// A second splitter with the same units to come, if a clone of the source gives the same items. It fails
+    /// if and only if the source's `clone` fails, with that error.
     ///
     /// Cost: that of the source's `clone`.
     pub fn clone(&self) -> Result<Utf16CharSplitter<I>, AllocError>

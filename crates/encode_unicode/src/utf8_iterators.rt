@@ -66,7 +66,7 @@ impl<'a> Iterator for Utf8CharIndices<'a> {
         self.window.next()
     }
 
-    /// Bounds of how many characters remain: (a quarter of the bytes, rounded up; all of them).
+    /// Bounds of the number of characters that remain: (a quarter of the bytes, rounded up; all of them).
     #[inline]
     fn size_hint(&self) -> (usize, Option<usize>)
         ensures lower { IsWithinCount result.0 (at_most (self.now.back - self.now.front)) }
@@ -166,7 +166,7 @@ impl<'a> Iterator for Utf8Chars<'a> {
         Some(c)
     }
 
-    /// Bounds of how many characters remain: (a quarter of the bytes, rounded up; all of them).
+    /// Bounds of the number of characters that remain: (a quarter of the bytes, rounded up; all of them).
     #[inline]
     fn size_hint(&self) -> (usize, Option<usize>)
         ensures lower { IsWithinCount result.0 (at_most (self.now.back - self.now.front)) }

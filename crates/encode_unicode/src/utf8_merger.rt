@@ -1,4 +1,4 @@
-//! Characters, and what is wrong, from the bytes of an iterator.
+//! Characters and errors from the bytes of an iterator.
 ghost use Rattle.std.specs.Prelude.{◌≡◌, ◌<◌, ◌≤◌, ℕ, List, [], ◌∷◌, codes, true, IsOk, IfErr, IfOk, IfSome, false};
 ghost use Rattle.std.specs.Iterator.{UpTo};
 ghost use Rattle.std.specs.Iterator.SizeHint.{IsWithinCount};
@@ -25,16 +25,15 @@ use utf_chars::utf8_char::Utf8Char;
 
 /// Splits the bytes of any iterator into characters and single invalid bytes: a streaming decoder.
 ///
-/// An error is of one byte, and decoding goes on at the next byte: so no error hides an ASCII
-/// character. It reads no more bytes than it needs to decide. To recognise an error it may have
-/// read up to three bytes after the invalid one. It holds these, and decodes them next. Before the
-/// first call, after a character and after `None` it holds nothing. Once the source has given
-/// `None`, it is not called again.
+/// An error is of one byte, and decoding continues at the next byte: so no error hides an ASCII character. It
+/// reads no more bytes than it needs to decide. To recognise an error it may have read up to three bytes
+/// after the invalid one. It buffers these, and decodes them next. Before the first call, after a character
+/// and after `None` it buffers nothing. Once the source has given `None`, it is not called again.
 ///
-/// The errors are those of `CharExt::from_utf8_slice_start`, with one difference. If fewer bytes are
-/// left in the source than the first byte needs, and one of them breaks the sequence, the error is
-/// `InterruptedSequence` and not `TooFewBytes`. Contracts see what is held, the source, and whether
-/// it has ended.
+/// The errors are those of `CharExt::from_utf8_slice_start`, with one difference. If fewer bytes are left in
+/// the source than the first byte needs, and one of them breaks the sequence, the error is
+/// `InterruptedSequence` and not `TooFewBytes`. Contracts see the buffered bytes, the source, and whether it
+/// has ended.
 #[derive(Drop)]
 pub struct Utf8CharMerger<I> {
     source: I,
@@ -83,8 +82,8 @@ impl<I: Iterator<Item = u8>> Iterator for Utf8CharMerger<I> {
 
     ghost remaining = { unread_count I.remaining };
 
-    /// Takes one character, or the error of one invalid byte. `None` once the source has ended and
-    /// nothing is held.
+    /// Takes one character, or the error of one invalid byte. `None` once the source has ended and nothing is
+    /// buffered.
     ///
     /// It reads only the bytes that it needs to decide.
     #[inline(always)]
@@ -100,8 +99,8 @@ impl<I: Iterator<Item = u8>> Iterator for Utf8CharMerger<I> {
         Some(Ok(Utf8Char::from_array_unchecked(code.to_array())))
     }
 
-    /// A quarter of the source's lower bound, rounded down, and its upper bound with the held bytes added. Once
-    /// the source has ended, its lower bound counts as 0.
+    /// A quarter of the source's lower bound, rounded down, and its upper bound plus the number of buffered
+    /// bytes. Once the source has ended, its lower bound counts as 0.
     #[inline]
     fn size_hint(&self) -> (usize, Option<usize>)
         ensures lower { IsWithinCount result.0 (unread_count I.remaining self.now) }
@@ -114,8 +113,8 @@ impl<I: Iterator<Item = u8>> Iterator for Utf8CharMerger<I> {
 }
 
 impl<I: Iterator<Item = u8>> Utf8CharMerger<I> {
-    /// The source, as far as it was read. After a character the merger holds no bytes. After an
-    /// error it may hold some, which are lost here: `into_remaining_bytes` keeps them.
+    /// The source, as far as it was read. After a character the merger buffers no bytes. After an error it
+    /// may buffer some, which are lost here: `into_remaining_bytes` keeps them.
     #[inline]
     pub fn into_inner(self) -> I
         ensures source { result ≡ self.source }
@@ -126,8 +125,7 @@ impl<I: Iterator<Item = u8>> Utf8CharMerger<I> {
         source
     }
 
-    /// All bytes that are not decoded yet: those that the merger holds, in order, and then what the
-    /// source still gives.
+    /// All bytes that are not decoded yet: the buffered ones, in order, and then what the source still gives.
     #[inline]
     pub fn into_remaining_bytes(self) -> RemainingBytes<I>
         ensures { result ≡ self }
@@ -135,8 +133,8 @@ impl<I: Iterator<Item = u8>> Utf8CharMerger<I> {
         RemainingBytes::new(self.source, self.held)
     }
 
-    /// A second merger with the same bytes to come, where a clone of the source gives the same items. It fails
-    /// exactly where the source's `clone` fails, with that error.
+    /// A second merger with the same bytes to come, if a clone of the source gives the same items. It fails if
+    /// and only if the source's `clone` fails, with that error.
     ///
     /// Cost: that of the source's `clone`.
     pub fn clone(&self) -> Result<Utf8CharMerger<I>, AllocError>
@@ -156,11 +154,11 @@ impl<I: Iterator<Item = u8>> Utf8CharMerger<I> {
     }
 }
 
-/// The bytes that are held, and the source.
+/// The buffered bytes, and the source.
 impl<I: Iterator<Item = u8> + fmt::Debug> fmt::Debug for Utf8CharMerger<I> {
     ghost debug_output = { λ m. debug_merger (codes "Utf8CharMerger") (debug_numbers m.held) (I.debug_output m.source) };
 
-    /// The bytes that are held, and the source.
+    /// The buffered bytes, and the source.
     fn fmt<W: fmt::Write>(&self, f: &mut fmt::Formatter<W>) -> fmt::Result {
         write_fields(
             f,
@@ -171,8 +169,8 @@ impl<I: Iterator<Item = u8> + fmt::Debug> fmt::Debug for Utf8CharMerger<I> {
     }
 }
 
-// The code that a byte begins which has left the merger. What is read after it is held where no code is found; where
-// something is held already, the byte is a continuation byte, and nothing is read.
+// The code that begins with a byte which was taken from the merger. What is read after it is buffered if no code
+// is found; if something is buffered already, the byte is a continuation byte, and nothing is read.
 #[inline(always)]
 fn code_of<I: Iterator<Item = u8>>(
     first: u8,
@@ -192,15 +190,15 @@ fn code_of<I: Iterator<Item = u8>>(
     if !is_running(state) {
         return Err(error_of_first(state));
     }
-    // It asks for others and is no continuation byte, so nothing is held after it.
+    // The byte asks for others and is no continuation byte, so nothing is buffered after it.
     if held.is_ended() {
         return Err(Utf8Error::new(Utf8ErrorKind::TooFewBytes));
     }
     second(first, state, held, source)
 }
 
-// The second byte, and those after it, each read where the state that the ones before it led to asks for it. Each
-// answer is returned where it is found: so a compiler keeps the ways to them apart.
+// Reads the second byte, and the following ones, each if the state that the previous ones led to asks for it.
+// Each result is returned where it is found: so the compiler keeps the paths to them apart.
 #[inline(always)]
 fn second<I: Iterator<Item = u8>>(
     first: u8,
@@ -235,7 +233,7 @@ fn second<I: Iterator<Item = u8>>(
     }
 }
 
-// The third, and the one after it.
+// Reads the third byte, and the one after it.
 #[inline(always)]
 fn third<I: Iterator<Item = u8>>(
     first: u8,
@@ -271,7 +269,7 @@ fn third<I: Iterator<Item = u8>>(
     }
 }
 
-// The fourth.
+// Reads the fourth byte.
 #[inline(always)]
 fn fourth<I: Iterator<Item = u8>>(
     first: u8,

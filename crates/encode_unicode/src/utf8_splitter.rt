@@ -67,8 +67,8 @@ impl<I: Iterator<Item = Utf8Char>> Iterator for Utf8CharSplitter<I> {
         }
     }
 
-    /// Bounds of how many bytes come: what is left of the character that was begun, and at least
-    /// one byte and at most four for each character of the source.
+    /// Bounds of the number of bytes to come: those left of the character that was begun, and at least one
+    /// and at most four for each character of the source.
     #[inline]
     fn size_hint(&self) -> (usize, Option<usize>)
         ensures lower { IsWithinCount result.0 (unsent_count 4 I.remaining self.now) }
@@ -80,8 +80,8 @@ impl<I: Iterator<Item = Utf8Char>> Iterator for Utf8CharSplitter<I> {
 }
 
 impl<I: Iterator<Item = Utf8Char>> Utf8CharSplitter<I> {
-    /// Writes the next bytes to the front of the buffer, as many as fit, and gives how many they
-    /// are. It never fails. The other places of the buffer stay.
+    /// Writes the next bytes to the front of the buffer, as many as fit, and returns how many they are. It
+    /// never fails. The rest of the buffer stays as it is.
     ///
     /// Condition: if the source's `next` has a condition, it holds.
     ///
@@ -120,8 +120,8 @@ impl<I: Iterator<Item = Utf8Char>> Utf8CharSplitter<I> {
         source
     }
 
-    /// A second splitter with the same bytes to come, where a clone of the source gives the same items. It
-    /// fails exactly where the source's `clone` fails, with that error.
+    /// A second splitter with the same bytes to come, if a clone of the source gives the same items. It fails
+    /// if and only if the source's `clone` fails, with that error.
     ///
     /// Cost: that of the source's `clone`.
     pub fn clone(&self) -> Result<Utf8CharSplitter<I>, AllocError>

@@ -1,4 +1,4 @@
--- What a call of `is_spent` is handed.
+-- The arguments of a call of `is_spent`.
 use Rattle.std.proofs.Common.{ℕ, List, [], ◌∷◌, refl}
 use seplogic.Ra.Ura.{Ura}
 use mir.Val.{Val, vptr}

@@ -1,10 +1,10 @@
-//! An allocator with a budget of growths.
+//! An allocator with a budget of allocations.
 use std::alloc::{AllocError, Allocator};
 use std::cell::Cell;
 
-/// An allocator that passes on as many requests for a block as are left, and refuses those after them.
+/// An allocator that passes on as many requests for a block as are left, and fails those after them.
 ///
-/// Lent to what allocates, as `&budget`, it refuses each growth of a call in turn.
+/// Borrowed as `&budget`, it makes each allocation of a call fail in turn.
 pub struct Budget<A: Allocator> {
     inner: A,
     left: Cell<u32>,
@@ -31,7 +31,7 @@ impl<A: Allocator> Drop for Budget<A> {
     }
 }
 
-// Answers whether nothing is left, and else takes one from it.
+// Returns whether nothing is left, and otherwise takes one from it.
 fn is_spent(left: &Cell<u32>) -> bool {
     match left.get().checked_sub(1) {
         Some(fewer) => {

@@ -8,10 +8,10 @@ use std::io::{ErrorKind, Read, Write};
 /// How a call fails.
 #[derive(Clone, Copy, Drop)]
 pub enum Failure {
-    /// By an error of this kind.
+    /// With an error of this kind.
     Error(ErrorKind),
 
-    /// By taking nothing. Of a reader that would be the end of its bytes, so it answers `WouldBlock`.
+    /// By taking nothing. For a reader that would be the end of its bytes, so it returns `WouldBlock`.
     Nothing,
 }
 
@@ -29,7 +29,7 @@ impl Plan {
         Plan::fail_once(u32::MAX, ErrorKind::BrokenPipe)
     }
 
-    /// So many calls pass, and all others fail.
+    /// The first `passes` calls succeed, and all others fail.
     pub fn fail(passes: u32, failure: Failure) -> Plan {
         Plan {
             passes,
@@ -38,7 +38,7 @@ impl Plan {
         }
     }
 
-    /// So many calls pass, one answers this error, and all others pass.
+    /// The first `passes` calls succeed, the next returns this error, and all others succeed.
     pub fn fail_once(passes: u32, kind: ErrorKind) -> Plan {
         Plan {
             passes,
@@ -64,20 +64,20 @@ impl Plan {
 /// A reader and a writer over memory, whose calls fail by a plan.
 #[derive(Drop)]
 pub struct Fuse<'a> {
-    /// What can still be read.
+    /// The bytes that can still be read.
     pub unread: &'a [u8],
 
-    /// What was written.
+    /// The bytes that were written.
     pub written: Vec<u8>,
     pub plan: Plan,
 
-    /// How many bytes a call passes at most.
+    /// The greatest number of bytes that a call passes.
     pub most: usize,
 
-    /// How many bytes each call was given, to be written or to be filled.
+    /// The number of bytes that each call was given, to write or to fill.
     pub given: Vec<usize>,
 
-    /// How often it was flushed.
+    /// The number of flushes.
     pub flushes: u32,
     pub flush_failure: Option<ErrorKind>,
     ghost some: { 0 < most },

@@ -1,5 +1,5 @@
-//! What tests take in place of the world: a reader and a writer over memory, which work in small parts
-//! and fail when they are told to, and an allocator with a budget. And the reader of what stands in rows of data.
+//! What tests use in place of the world: a reader and a writer over memory, which pass few bytes a call and
+//! fail as planned, an allocator with a budget, and the parser of rows of data.
 #![tactic(auto)]
 
 pub mod budget;

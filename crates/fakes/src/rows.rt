@@ -1,6 +1,6 @@
-//! Bytes and units as rows of data have them: in lower-case hexadecimal, with nothing between them.
+//! Bytes and units in the notation of rows of data: lower-case hexadecimal, with nothing between them.
 //!
-//! What is written in another way is refused with an error of the kind `InvalidData`.
+//! Any other notation is rejected with an error of the kind `InvalidData`.
 use std::alloc::Global;
 use std::io;
 use std::io::ErrorKind;
@@ -10,7 +10,7 @@ pub fn wrong_row() -> io::Error {
     io::Error::from(ErrorKind::InvalidData)
 }
 
-/// The bytes that two digits each stand for.
+/// Parses bytes of two digits each.
 pub fn bytes_of(alloc: Global, text: &str) -> io::Result<Vec<u8>> {
     let mut bytes = Vec::new(alloc);
     for digits in text.as_bytes().chunks(2) {
@@ -22,7 +22,7 @@ pub fn bytes_of(alloc: Global, text: &str) -> io::Result<Vec<u8>> {
     Ok(bytes)
 }
 
-/// The units that four digits each stand for.
+/// Parses units of four digits each.
 pub fn units_of(alloc: Global, text: &str) -> io::Result<Vec<u16>> {
     let bytes = bytes_of(alloc, text)?;
     let mut units = Vec::new(alloc);

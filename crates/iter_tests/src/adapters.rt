@@ -1,11 +1,11 @@
-//! Sources of every kind: adapters with closures that capture, what is lent, a type of the caller's own, and the
-//! types of this library over one another.
+//! Sources of every kind: adapters with closures that capture, borrowed sources, a type of the caller's own, and
+//! the types of this library over one another.
 ghost use Rattle.std.specs.Iterator.{at_most, IsFinite};
 
 use encode_unicode::{StrExt, U8IterExt, U16IterExt, Utf8Char, Utf8CharIterExt, Utf16CharIterExt};
 use std::iter;
 
-// The sum of the scalars that a source of bytes shows, where U+FFFD stands for each fault.
+// The sum of the scalars of a source of bytes, with U+FFFD for each fault.
 fn sum_of<I: Iterator<Item = u8>>(source: I) -> u32
     requires can { I.can_next source }
     requires ends { IsFinite (I.remaining source) }

@@ -1,4 +1,4 @@
-//! Clones of what stands over a source whose `clone` may fail: they fail where it fails, and only there.
+//! Clones of iterators over a source whose `clone` may fail: they fail if and only if it fails.
 ghost use Rattle.std.specs.Prelude.{◌≡◌, false};
 
 use encode_unicode::iterator::{
@@ -10,7 +10,7 @@ use encode_unicode::{
 };
 use std::alloc::AllocError;
 
-// A source that gives one item again and again, and whose `clone` fails where it refuses.
+// A source that repeats one item, and whose `clone` fails if `refuses` is set.
 #[derive(Drop)]
 struct Refusing<T> {
     item: T,
@@ -41,7 +41,7 @@ impl<T: Copy> Clone for Refusing<T> {
     }
 }
 
-// Whether a clone of each fails: exactly where that of its source does.
+// Returns true if a clone of each fails, which is if and only if the clone of its source does.
 fn bytes_fail(merger: &Utf8CharMerger<Refusing<u8>>) -> bool
     ensures { result ≡ merger.now.source.refuses }
 {

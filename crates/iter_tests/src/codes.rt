@@ -3,22 +3,22 @@ use encode_unicode::CharExt;
 use encode_unicode::iterator::{Utf8Iterator, Utf16Iterator};
 use std::test::Fail;
 
-// Whether the iterator gives these bytes.
+// Returns true if the iterator gives these bytes.
 fn gives_bytes(bytes: Utf8Iterator, code: &[u8]) -> bool {
     bytes.eq(code.iter().copied())
 }
 
-// Whether the iterator gives these units.
+// Returns true if the iterator gives these units.
 fn gives_units(units: Utf16Iterator, code: &[u16]) -> bool {
     units.eq(code.iter().copied())
 }
 
-// The iterators of a character, asked through the bound.
+// The iterators of a character, made through the trait bound.
 fn iterators_of<C: CharExt + Copy>(c: C) -> (Utf8Iterator, Utf16Iterator) {
     (c.iter_utf8_bytes(), c.iter_utf16_units())
 }
 
-// Whether each iterator over the bytes gives these.
+// Returns true if each iterator over the bytes gives these.
 fn has_bytes(c: char, code: &[u8]) -> bool {
     gives_bytes(iterators_of(c).0, code)
         && gives_bytes(Utf8Iterator::from(c), code)
@@ -26,7 +26,7 @@ fn has_bytes(c: char, code: &[u8]) -> bool {
         && gives_bytes(c.to_utf8().into_iter(), code)
 }
 
-// Whether each iterator over the units gives these.
+// Returns true if each iterator over the units gives these.
 fn has_units(c: char, code: &[u16]) -> bool {
     gives_units(iterators_of(c).1, code)
         && gives_units(Utf16Iterator::from(c), code)

@@ -1,9 +1,9 @@
-//! What stands in a collection after its characters.
+//! The contents of a collection after characters were collected or appended.
 use encode_unicode::{StrExt, U8IterExt, U16IterExt, Utf8CharIterExt, Utf16CharIterExt};
 use std::alloc::{AllocError, Global};
 use std::test::Fail;
 
-// Whether the characters of the text, of either type, are collected to its codes.
+// Returns true if the characters of the text, of either type, are collected to its bytes or units.
 fn is_collected(alloc: Global, text: &str) -> Result<bool, AllocError> {
     let bytes = text.utf8chars().collect_bytes(alloc)?;
     let units = text.utf16chars().collect_units(alloc)?;
@@ -19,7 +19,7 @@ fn is_collected(alloc: Global, text: &str) -> Result<bool, AllocError> {
     )
 }
 
-// Whether the codes of the text follow what is there.
+// Returns true if the encoded text is appended to what was in the collection.
 fn follows(alloc: Global, text: &str) -> Result<bool, AllocError> {
     let mut bytes = vec![in alloc; 0x42u8]?;
     text.utf8chars().extend_bytes(&mut bytes)?;
@@ -38,14 +38,14 @@ fn follows(alloc: Global, text: &str) -> Result<bool, AllocError> {
     )
 }
 
-// Whether what is split is merged to the same characters again.
+// Returns true if splitting and merging gives the same characters again.
 fn is_merged_again(text: &str) -> bool {
     let bytes = text.utf8chars().to_bytes().to_utf8chars();
     let units = text.utf16chars().to_units().to_utf16chars();
     bytes.eq(text.utf8chars().map(Ok)) && units.eq(text.utf16chars().map(Ok))
 }
 
-// Each character next to where the length of a code changes, and some between, twice and before `!`.
+// Each character on either side of a change in encoded length, and some between, twice and before `!`.
 const EDGES: &str = "\0\0! ;;! AA! NN! ZZ! aa! mm! zz! \u{7f}\u{7f}! \u{80}\u{80}! \u{111}\u{111}! \
                      \u{77b}\u{77b}! \u{7ff}\u{7ff}! \u{800}\u{800}! \u{20ac}\u{20ac}! \
                      \u{d7ff}\u{d7ff}! \u{e000}\u{e000}! \u{ffff}\u{ffff}! \u{10000}\u{10000}! \
@@ -79,7 +79,7 @@ fn utf16chars_to_string(rt: HostRuntime) -> Result<(), Fail> {
     Ok(())
 }
 
-// The bytes and the units of exactly these characters.
+// Collects exactly the bytes and the units of these characters.
 fn collects_exactly(alloc: Global) -> Result<bool, AllocError> {
     let bytes = "A\u{20ac}".utf8chars().collect_bytes(alloc)?;
     let units = "\u{1f4a3}".utf16chars().collect_units(alloc)?;
@@ -93,7 +93,7 @@ fn collects_exactly(alloc: Global) -> Result<bool, AllocError> {
     )
 }
 
-// The same after what is there.
+// Appends exactly the bytes and the units of these characters to a collection that is not empty.
 fn extends_exactly(alloc: Global) -> Result<bool, AllocError> {
     let mut units = vec![in alloc; 0x42u16]?;
     "A".utf16chars().extend_units(&mut units)?;

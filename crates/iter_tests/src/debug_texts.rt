@@ -1,5 +1,5 @@
-//! What `{:?}` and `{:#?}` write of each iterator. But for splitters and for what is left of a merger, which
-//! it does not show or does not have, the Rust crate wrote these texts.
+//! What `{:?}` and `{:#?}` write of each iterator. The Rust crate wrote these texts, except for splitters and
+//! for what is left of a merger, which it does not show or does not have.
 use encode_unicode::iterator::{Utf8Iterator, Utf16Iterator};
 use encode_unicode::{
     StrExt, U8IterExt, U8SliceExt, U16IterExt, U16SliceExt, Utf8CharIterExt, Utf16CharIterExt,
@@ -8,10 +8,10 @@ use std::alloc::{AllocError, Global};
 use std::fmt::Debug;
 use std::test::Fail;
 
-// A character of each length, then one that is escaped, and one that each test takes from the back.
+// A character of each length, then one that is escaped, and one that each test takes from the end.
 const TEXT: &str = "a\u{e9}\u{1f4a3}\"\n";
 
-// Whether the value is written so in one line, and so in lines of their own.
+// Returns true if `{:?}` writes this line, and `{:#?}` these lines.
 fn writes<T: Debug>(alloc: Global, value: &T, line: &str, lines: &str) -> Result<bool, AllocError> {
     let one = format!(in alloc; "{value:?}")?;
     let many = format!(in alloc; "{value:#?}")?;
@@ -100,12 +100,12 @@ fn mergers_show_what_they_hold(rt: HostRuntime) -> Result<(), Fail> {
     Ok(())
 }
 
-// Whether the text begins so.
+// Returns true if the text begins so.
 fn begins<T: Debug>(alloc: Global, value: &T, front: &str) -> Result<bool, AllocError> {
     Ok(format!(in alloc; "{value:?}")?.starts_with(front))
 }
 
-// What is shown of std's own iterator is not given here.
+// The output of std's own iterator is not compared.
 #[test]
 fn held_elements_are_shown_in_order(rt: HostRuntime) -> Result<(), Fail> {
     let alloc = rt.alloc();

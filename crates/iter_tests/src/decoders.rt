@@ -1,4 +1,4 @@
-//! The decoders as values and as iterators with two ends.
+//! The decoders as values and as double-ended iterators.
 ghost use Rattle.std.specs.Prelude.{◌-◌, ◌^◌};
 ghost use Rattle.std.specs.Iterator.{IsFinite, UpTo};
 
@@ -14,17 +14,17 @@ const DAMAGED: &[u8] = b"a\xa9\xe2\x82\xacz\xf0\x9f\x92";
 // U+0061, U+20AC, U+1F4A3 and U+10FFFF.
 const UNITS: &[u16] = &[0x0061, 0x20ac, 0xd83d, 0xdca3, 0xdbff, 0xdfff];
 
-// The decoder of a slice of bytes, asked through the bound.
+// Makes the decoder of a slice of bytes through the trait bound.
 fn decoder_of<'a, S: U8SliceExt<'a>>(slice: S) -> Utf8CharDecoder<'a> {
     slice.utf8char_indices()
 }
 
-// The decoder of a slice of units, asked through the bound.
+// Makes the decoder of a slice of units through the trait bound.
 fn unit_decoder_of<'a, S: U16SliceExt<'a>>(slice: S) -> Utf16CharDecoder<'a> {
     slice.utf16char_indices()
 }
 
-// How many items there are, asked through the bound.
+// The number of items, counted through the trait bound.
 fn count_of<T: Drop, I: Iterator<Item = T>>(items: I) -> usize
     requires can_next { I.can_next items }
     requires finite { IsFinite (I.remaining items) }
@@ -33,7 +33,7 @@ fn count_of<T: Drop, I: Iterator<Item = T>>(items: I) -> usize
     items.count()
 }
 
-// The last item of an iterator, asked through the bound.
+// The last item of an iterator, taken through the trait bound.
 fn last_of<T, I: DoubleEndedIterator<Item = T>>(items: I) -> Option<T>
     requires { I.can_next_back items }
 {
@@ -41,7 +41,7 @@ fn last_of<T, I: DoubleEndedIterator<Item = T>>(items: I) -> Option<T>
     items.next_back()
 }
 
-// The places of the pieces from the back, as the digits of a number.
+// The offsets of the pieces of bytes from the end, as the digits of a number.
 fn places_from_back(bytes: &[u8]) -> usize {
     decoder_of(bytes).rfold(
         0usize,
@@ -49,7 +49,7 @@ fn places_from_back(bytes: &[u8]) -> usize {
     )
 }
 
-// The same of units.
+// The offsets of the pieces of units from the end, as the digits of a number.
 fn unit_places_from_back(units: &[u16]) -> usize {
     unit_decoder_of(units).rfold(
         0usize,
@@ -57,7 +57,7 @@ fn unit_places_from_back(units: &[u16]) -> usize {
     )
 }
 
-// Whether the pieces of the bytes in reverse are those of repeated calls from the back.
+// Returns true if `rev` gives the pieces of the bytes that repeated calls from the end give.
 fn comes_in_reverse(bytes: &[u8]) -> bool {
     let mut decoder = Utf8CharDecoder::from(bytes);
     let mut same = true;
@@ -67,7 +67,7 @@ fn comes_in_reverse(bytes: &[u8]) -> bool {
     same && decoder.next_back().is_none() && decoder.next().is_none()
 }
 
-// The same of units.
+// Returns true if `rev` gives the pieces of the units that repeated calls from the end give.
 fn units_come_in_reverse(units: &[u16]) -> bool {
     let mut decoder = Utf16CharDecoder::from(units);
     let mut same = true;
@@ -114,7 +114,7 @@ fn counted_calls_answer_alike(rt: HostRuntime) {
     assert!(rt; plain.as_slice().is_empty());
 }
 
-// Whether two decoders of bytes have the same pieces.
+// Returns true if two decoders of bytes have the same pieces.
 fn decode_alike(one: Utf8CharDecoder<'_>, other: Utf8CharDecoder<'_>) -> bool {
     one.as_slice() == other.as_slice() && one.eq(other)
 }
@@ -158,7 +158,7 @@ fn what_is_left_is_lent(rt: HostRuntime) {
     assert!(rt; after_the_first(lent).is_empty());
 }
 
-// The scalar of the pair in the midst of stray surrogates is compared as a number.
+// The scalar of the pair between lone surrogates is compared as a number.
 #[test]
 fn a_pair_after_surrogates_is_its_scalar(rt: HostRuntime) {
     let units = [0xdcba, 0xdeff, 0xd8be, 0xdeee, 0x03bb, 0xdab1, 0xdab1];

@@ -1,4 +1,4 @@
-//! A source that promises more than there is memory.
+//! A source whose size hint promises more items than there is memory.
 ghost use Rattle.std.specs.Prelude.{◌+◌, ◌^◌};
 ghost use Rattle.std.specs.Iterator.{at_most};
 
@@ -6,7 +6,7 @@ use encode_unicode::{CharExt, Utf8Char, Utf8CharIterExt, Utf16Char, Utf16CharIte
 use fakes::budget::Budget;
 use std::test::Fail;
 
-// Gives a character some times, and promises more than can be held.
+// Gives a character some times, and promises more than can be allocated.
 #[derive(Drop)]
 struct Boaster<C> {
     c: C,

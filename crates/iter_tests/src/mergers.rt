@@ -4,7 +4,7 @@ use encode_unicode::{U8IterExt, U16IterExt};
 use std::iter;
 use std::test::Fail;
 
-// The number of the first scalar of a source of bytes, asked through the bound.
+// The first scalar of a source of bytes, as a number, taken through the trait bound.
 fn first_of<I: Iterator<Item = u8>>(source: I) -> Option<u32>
     requires { I.can_next source }
 {
@@ -14,7 +14,7 @@ fn first_of<I: Iterator<Item = u8>>(source: I) -> Option<u32>
     }
 }
 
-// Whether a source of units begins with a fault, and the first unit after it, asked through the bound.
+// The first unit after the fault that begins a source of units, taken through the trait bound.
 fn first_fault_of<I: Iterator<Item = u16>>(source: I) -> Option<u16>
     requires { I.can_next source }
 {
@@ -25,7 +25,7 @@ fn first_fault_of<I: Iterator<Item = u16>>(source: I) -> Option<u16>
     }
 }
 
-// The first of what an iterator gives, asked through the bound.
+// The first byte of an iterator, taken through the trait bound.
 fn first_byte<I: Iterator<Item = u8>>(bytes: I) -> Option<u8>
     requires { I.can_next bytes }
 {
@@ -91,7 +91,7 @@ fn what_remains_is_cloned_and_shown(rt: HostRuntime) -> Result<(), Fail> {
     Ok(())
 }
 
-// The hints of the merger of so many bytes f0, before and after its first answer, and of what remains.
+// The size hints of a merger of `count` bytes 0xf0: before and after its first result, and of what remains.
 fn byte_hints(count: usize) -> [(usize, Option<usize>); 3] {
     let mut merger = iter::repeat(0xf0).take(count).to_utf8chars();
     let before = merger.size_hint();
@@ -100,7 +100,7 @@ fn byte_hints(count: usize) -> [(usize, Option<usize>); 3] {
     [before, after, merger.into_remaining_bytes().size_hint()]
 }
 
-// The same of units d800.
+// The size hints of a merger of `count` units 0xd800: before and after its first result, and of what remains.
 fn unit_hints(count: usize) -> [(usize, Option<usize>); 3] {
     let mut merger = iter::repeat(0xd800).take(count).to_utf16chars();
     let before = merger.size_hint();

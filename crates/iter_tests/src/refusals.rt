@@ -1,4 +1,5 @@
-//! Each growth of each call is refused in turn, until none is: what then stands are whole codes.
+//! Each allocation of each call fails in turn, until none does: the collection then has whole encoded
+//! characters only.
 use encode_unicode::{StrExt, Utf8CharIterExt, Utf16CharIterExt};
 use fakes::budget::Budget;
 use std::alloc::{AllocError, Global};
@@ -8,28 +9,30 @@ use std::test::Fail;
 const TEXT: &str = "a\u{e9}\u{20ac}\u{1f4a3}a\u{e9}\u{20ac}\u{1f4a3}a\u{e9}\u{20ac}\u{1f4a3}\
                     a\u{e9}\u{20ac}\u{1f4a3}a\u{e9}\u{20ac}\u{1f4a3}";
 
-// Whether so many growths give the bytes of the text. An error where one is refused.
+// Returns true if `growths` allocations are enough to collect the bytes of the text; an error if one fails.
 fn collects_bytes(alloc: Global, growths: u32) -> Result<bool, AllocError> {
     let budget = Budget::new(alloc, growths);
     let bytes = TEXT.utf8chars().collect_bytes(&budget)?;
     Ok(bytes.as_slice() == TEXT.as_bytes())
 }
 
-// The same of its units.
+// Returns true if `growths` allocations are enough to collect the units of the text; an error if one fails.
 fn collects_units(alloc: Global, growths: u32) -> Result<bool, AllocError> {
     let budget = Budget::new(alloc, growths);
     let units = TEXT.utf16chars().collect_units(&budget)?;
     Ok(units.len() == 25 && units.iter().copied().eq(TEXT.encode_utf16()))
 }
 
-// The same of a text of `Utf8Char`.
+// Returns true if `growths` allocations are enough to collect a `String` from `Utf8Char`; an error if one
+// fails.
 fn collects_text(alloc: Global, growths: u32) -> Result<bool, AllocError> {
     let budget = Budget::new(alloc, growths);
     let text = TEXT.utf8chars().collect_string(&budget)?;
     Ok(text.as_str() == TEXT)
 }
 
-// The same of a text of `Utf16Char`.
+// Returns true if `growths` allocations are enough to collect a `String` from `Utf16Char`; an error if one
+// fails.
 fn collects_text_of_units(alloc: Global, growths: u32) -> Result<bool, AllocError> {
     let budget = Budget::new(alloc, growths);
     let text = TEXT.utf16chars().collect_string(&budget)?;
@@ -53,7 +56,7 @@ fn of_what_is_collected(rt: HostRuntime) {
     }
 }
 
-// What stands after the first element.
+// What follows the first element.
 fn after_the_first<T>(held: &[T]) -> &[T] {
     match held.split_first() {
         Some((_, added)) => added,
@@ -61,15 +64,16 @@ fn after_the_first<T>(held: &[T]) -> &[T] {
     }
 }
 
-// Whether what was added is whole codes of the text, and all of them where nothing was refused.
+// Returns true if whole encoded characters of the text were appended, and all of them if no allocation
+// failed.
 fn is_added(added: &[u8], refused: bool) -> bool {
     TEXT.as_bytes().starts_with(added)
         && str::from_utf8(added).is_ok()
         && (added.len() < TEXT.len()) == refused
 }
 
-// Whether so many growths, the first of them for what is there, add whole codes, and all of them
-// unless one is refused.
+// Returns true if `growths` allocations, the first for the initial contents, append whole characters to
+// bytes, and all of them unless one fails.
 fn extends_bytes(alloc: Global, growths: u32, refused: bool) -> Result<bool, AllocError> {
     let budget = Budget::new(alloc, growths);
     let mut bytes = vec![in &budget; b'?']?;
@@ -78,7 +82,7 @@ fn extends_bytes(alloc: Global, growths: u32, refused: bool) -> Result<bool, All
     Ok(kept && answer.is_err() == refused)
 }
 
-// The same of units.
+// Returns true if `growths` allocations append whole characters to units, and all of them unless one fails.
 fn extends_units(alloc: Global, growths: u32, refused: bool) -> Result<bool, AllocError> {
     let whole = TEXT.utf16chars().collect_units(alloc)?;
     let budget = Budget::new(alloc, growths);
@@ -92,7 +96,8 @@ fn extends_units(alloc: Global, growths: u32, refused: bool) -> Result<bool, All
     Ok(kept && answer.is_err() == refused)
 }
 
-// The same of a text to which `Utf8Char` are added.
+// Returns true if `growths` allocations append whole `Utf8Char` to a `String`, and all of them unless one
+// fails.
 fn extends_text(alloc: Global, growths: u32, refused: bool) -> Result<bool, AllocError> {
     let budget = Budget::new(alloc, growths);
     let mut text = String::from_str(&budget, "?")?;
@@ -100,7 +105,8 @@ fn extends_text(alloc: Global, growths: u32, refused: bool) -> Result<bool, Allo
     Ok(is_added(after_the_first(text.as_bytes()), refused) && answer.is_err() == refused)
 }
 
-// The same of a text to which `Utf16Char` are added.
+// Returns true if `growths` allocations append whole `Utf16Char` to a `String`, and all of them unless one
+// fails.
 fn extends_text_by_units(alloc: Global, growths: u32, refused: bool) -> Result<bool, AllocError> {
     let budget = Budget::new(alloc, growths);
     let mut text = String::from_str(&budget, "?")?;
@@ -122,7 +128,7 @@ fn of_what_is_extended(rt: HostRuntime) -> Result<(), Fail> {
     Ok(())
 }
 
-// Whether the second of two characters is refused in bytes with room for the first alone.
+// Returns true if bytes with capacity for the first of two characters keep it, and the second fails.
 fn keeps_the_first_in_bytes(alloc: Global) -> Result<bool, AllocError> {
     let budget = Budget::new(alloc, 1);
     let mut bytes = Vec::with_capacity(&budget, 4)?;
@@ -131,7 +137,8 @@ fn keeps_the_first_in_bytes(alloc: Global) -> Result<bool, AllocError> {
     Ok(answer.is_err() && bytes.as_slice() == [0x61, 0xc3, 0xa9].as_slice())
 }
 
-// The same in a text, to which characters of either type are added.
+// Returns true if a text with capacity for the first of two characters of either type keeps it, and the
+// second fails.
 fn keeps_the_first_in_text(alloc: Global, from_units: bool) -> Result<bool, AllocError> {
     let budget = Budget::new(alloc, 1);
     let mut text = String::with_capacity(&budget, 4)?;
@@ -153,7 +160,7 @@ fn after_the_first_character(rt: HostRuntime) -> Result<(), Fail> {
     Ok(())
 }
 
-// Whether no growth is needed to collect nothing.
+// Returns true if collecting nothing allocates nothing.
 fn collects_nothing(alloc: Global) -> bool {
     let budget = Budget::new(alloc, 0);
     "".utf8chars().collect_bytes(&budget).is_ok()
@@ -162,7 +169,7 @@ fn collects_nothing(alloc: Global) -> bool {
         && "".utf16chars().collect_string(&budget).is_ok()
 }
 
-// Whether no growth is needed to add nothing.
+// Returns true if appending nothing allocates nothing.
 fn adds_nothing(alloc: Global) -> bool {
     let budget = Budget::new(alloc, 0);
     let mut bytes = Vec::new(&budget);

@@ -1,7 +1,7 @@
-//! How often a source is asked.
+//! How often an iterator calls its source.
 use encode_unicode::{U8IterExt, U16IterExt};
 
-// A source that counts its calls, and gives again what it gave once it has ended.
+// A source that counts its calls, and repeats its items once it has ended.
 #[derive(Drop)]
 struct Asked<'a, T> {
     items: &'a [T],

@@ -1,12 +1,12 @@
-//! Characters of any source as the elements of their codes.
+//! Characters of any source, split into bytes or units.
 use encode_unicode::{CharExt, StrExt, Utf8Char, Utf8CharIterExt, Utf16Char, Utf16CharIterExt};
 use std::iter;
 use std::test::Fail;
 
-// The text of the tests on reads.
+// The text that the tests read.
 const TEXT: &str = "\u{c5}\u{e5}h\u{203d}";
 
-// One read of a source's bytes into nine places, asked through the bound.
+// One read of a source's bytes into a buffer of nine, through the trait bound.
 fn read_once<I: Iterator<Item = Utf8Char>>(source: I) -> (Option<usize>, [u8; 9])
     requires { I.can_next source }
 {
@@ -15,7 +15,7 @@ fn read_once<I: Iterator<Item = Utf8Char>>(source: I) -> (Option<usize>, [u8; 9]
     (count, places)
 }
 
-// The first unit of a source, asked through the bound.
+// The first unit of a source, taken through the trait bound.
 fn first_unit<I: Iterator<Item = Utf16Char>>(source: I) -> Option<u16>
     requires { I.can_next source }
 {
@@ -41,13 +41,14 @@ fn sources_of_every_kind_are_read(rt: HostRuntime) -> Result<(), Fail> {
     Ok(())
 }
 
-// Whether the hint of the bytes of so many characters of four bytes each is this one.
+// Returns true if this is the size hint of the bytes of `count` characters of four bytes each.
 fn hints(count: usize, hint: (usize, Option<usize>)) -> bool {
     let bomb = Utf8Char::from('\u{1f4a3}');
     iter::repeat(bomb).take(count).to_bytes().size_hint() == hint
 }
 
-// Whether the hint is the same after the first byte of more characters than can be counted.
+// Returns true if the size hint is unchanged after the first byte when there are more characters than `usize`
+// counts.
 fn hints_after_a_byte() -> bool {
     let bomb = Utf8Char::from('\u{1f4a3}');
     let mut bytes = iter::repeat(bomb).take(usize::MAX).to_bytes();

@@ -3,7 +3,7 @@ use encode_unicode::StrExt;
 use encode_unicode::iterator::{Utf8CharIndices, Utf8Chars, Utf16CharIndices, Utf16Chars};
 use std::test::Fail;
 
-// The four iterators of a text, asked through the bound.
+// The four iterators of a text, made through the trait bound.
 fn iterators_of<'a, S: StrExt<'a> + Copy>(
     text: S,
 ) -> (
@@ -20,7 +20,7 @@ fn iterators_of<'a, S: StrExt<'a> + Copy>(
     )
 }
 
-// Whether each iterator has as many characters, at the same places.
+// Returns true if each iterator has as many characters, at the same offsets.
 fn has_characters(text: &str, count: usize) -> bool {
     let (indices, chars, unit_indices, unit_chars) = iterators_of(text);
     let plain = text.char_indices();
@@ -32,7 +32,7 @@ fn has_characters(text: &str, count: usize) -> bool {
         && unit_chars.map(|c| c.to_char()).eq(text.chars())
 }
 
-// Whether the characters come in reverse too.
+// Returns true if the characters come in reverse too.
 fn comes_in_reverse(text: &str) -> bool {
     let (indices, _, _, unit_chars) = iterators_of(text);
     indices

@@ -1,4 +1,4 @@
-//! Tests of what programs say, and of streams that fail: each read, write and allocation refused in turn.
+//! Tests of what programs print, and of streams that fail: each read, write and allocation fails in turn.
 #![tactic(auto)]
 
 #[cfg(test)]

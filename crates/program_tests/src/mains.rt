@@ -1,4 +1,4 @@
-//! The programs over words and streams, and words that cannot be had.
+//! The programs over arguments and streams, and arguments that cannot be read.
 use crate::programs::words_of;
 use cuts::Counted;
 use cuts::programs::mains::{pieces, recode, words};
@@ -8,7 +8,7 @@ use std::io;
 use std::io::ErrorKind;
 use std::test::Fail;
 
-// What a program was started with.
+// The arguments that a program was started with.
 #[derive(Drop)]
 struct Started {
     words: &'static [&'static [u8]],

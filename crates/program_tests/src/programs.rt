@@ -1,4 +1,4 @@
-//! What programs say, and what comes of their words.
+//! What programs print, and the effects of their arguments.
 use cuts::programs::mains::arguments_of;
 use cuts::programs::pieces_program::finish_run;
 use cuts::programs::stops::Stop;
@@ -86,7 +86,7 @@ fn standard_error_may_fail(rt: HostRuntime) {
     }
 }
 
-// No count sees the writes to standard error.
+// Writes to standard error are not counted.
 #[test]
 fn an_interrupted_write_is_not_made_again(rt: HostRuntime) {
     let mut stderr = Fuse::ample(rt.alloc());

@@ -1,4 +1,4 @@
-//! Bytes and units as rows of data have them.
+//! Bytes and units in the notation of the rows.
 use fakes::rows::{bytes_of, units_of};
 use std::io::ErrorKind;
 use std::test::Fail;

@@ -1,4 +1,4 @@
-//! Streams that answer an error of the kind `OutOfMemory`: they failed, and no growth was refused.
+//! Streams that return an error of the kind `OutOfMemory`: they failed, and no allocation did.
 use cuts::{Counted, Form, RecodeFault, recode, run_pieces, run_recode};
 use fakes::fuse::{Failure, Fuse, Plan};
 use std::alloc::{AllocError, Global};
@@ -7,7 +7,7 @@ use std::test::Fail;
 
 const OUT_OF_MEMORY: Failure = Failure::Error(ErrorKind::OutOfMemory);
 
-// A reader of three bytes that passes so many reads and then is out of memory.
+// A reader of three bytes that passes some reads and is then out of memory.
 fn failing_reader<'a>(alloc: Global, passes: u32) -> Fuse<'a> {
     let mut reader = Fuse::over(alloc, b"abc");
     reader.plan = Plan::fail(passes, OUT_OF_MEMORY);

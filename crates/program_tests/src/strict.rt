@@ -1,5 +1,6 @@
-//! Strict recoding: each input cut everywhere, with small rooms and large ones, and from a reader. Where the first fault is in nine
-//! of them, as Python's decoders say, and in the others by the same rules; kinds as the README's table has them.
+//! Strict transcoding: each input cut everywhere, with small and large buffers, and from a reader. For nine of them
+//! Python's decoders give the offset of the first fault, for the others the same rules do; the kinds are those of the
+//! README's table.
 use cuts::{Counted, FaultAt, FaultKind, Form, Outcome, Recoder, StrictError, recode_strict};
 use encode_unicode::error::{Utf8ErrorKind, Utf16PairError};
 use fakes::fuse::{Failure, Fuse, Plan};
@@ -8,7 +9,7 @@ use std::io::ErrorKind;
 use std::test::Fail;
 use uses_runs::strict::{feed_strictly, finish_strictly};
 
-// An input, where it is faulty and why, and the text before that in the other form.
+// An input, whether and why it is invalid, and the text before the fault in the other encoding.
 type Row = (
     Form,
     Form,
@@ -158,7 +159,7 @@ fn rows() -> [Row; 20] {
     ]
 }
 
-// Feeds a part in rooms of one size, and says where a fault is among all bytes that were read.
+// Feeds a part into buffers of one size, and returns whether the bytes that were read have a fault.
 fn feed(
     recoder: &mut Recoder,
     part: &[u8],
@@ -183,7 +184,7 @@ fn feed(
     Ok(None)
 }
 
-// The same of the end.
+// Finishes into buffers of one size, and returns whether the bytes that were read have a fault.
 fn finish(
     recoder: &mut Recoder,
     room: &mut [u8],
@@ -204,7 +205,7 @@ fn finish(
     Ok(None)
 }
 
-// Two parts and the end, in rooms of one size.
+// Feeds two parts and finishes, into buffers of one size.
 fn in_two_parts(
     alloc: Global,
     row: &Row,
@@ -314,7 +315,7 @@ fn an_input_that_ends_inside_a_character_is_faulty(rt: HostRuntime) -> Result<()
     Ok(())
 }
 
-// After each fault the calls go on, and strict calls and others take turns.
+// After each fault the calls continue, strict and lossy in turn.
 #[test]
 fn calls_go_on_after_a_fault(rt: HostRuntime) {
     let mut recoder = Recoder::new(Form::Utf8, Form::Utf8);

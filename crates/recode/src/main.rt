@@ -1,5 +1,5 @@
-//! Recodes standard input from one form of text into another, of UTF-8 and the two forms of UTF-16 in
-//! bytes, with one U+FFFD for each fault.
+//! Transcodes standard input from one encoding into another, of UTF-8, UTF-16LE and UTF-16BE, with one U+FFFD
+//! for each fault.
 #![tactic(auto)]
 
 use cuts::Counted;

@@ -1,4 +1,4 @@
--- How many faults a recoder replaced, and how many it counted in all.
+-- The number of faults that a recoder replaced, and its count in all.
 use Rattle.std.specs.Prelude.{◌^◌, min}
 use Rattle.std.proofs.Common.{◌≡◌, ℕ, ◌+◌, ◌-◌, List, [], ◌++◌, arith, ap, ap₂, sym, ◌∙◌, append_assoc}
 use Rattle.std.proofs.lemmas.List.{append-nil}
@@ -15,7 +15,7 @@ Replaces-of r s from part bytes held n e f b h c later =
     let left : fault_count from (held ++ later) ≡ fault_count s.from (s.held ++ later) = ap₂ (λ x xs. fault_count x (xs ++ later)) (e ∙ sym f) (sym h) in
     all ∙ c later ∙ ap (λ k. n + k) left
 
--- In all, as far as 64 bits count.
+-- The count in all, as far as 64 bits count.
 
 pub keeps_count : (r s : Recoding) (part : List ℕ) (n : ℕ) → Replaces r part n s → AddsUp r n s → KeepsCount r part s
 unfolding replaced_in_all
@@ -36,7 +36,3 @@ counts_last r s n f total none =
 pub counts_all : (r : Recoding) (n : ℕ) → n ≡ min (2 ^ 64 - 1) (r.replaced + fault_count r.from r.held) → n ≡ replaced_in_all r []
 unfolding replaced_in_all
 counts_all r n e = rw (append-nil r.held) e
-
--- where nothing is held, nothing more is
-pub counts_none : (r : Recoding) → r.held ≡ [] → AddsUp r 0 r → r.replaced ≡ min (2 ^ 64 - 1) (r.replaced + fault_count r.from r.held)
-counts_none r none total = omega (arith, total, ap (fault_count r.from) none, none_in_nothing r.from)

@@ -1,4 +1,4 @@
--- Texts of ASCII alone: what they show, and their units.
+-- Texts of only ASCII: their scalars, and their units.
 use Rattle.std.proofs.Common.{◌≡◌, ℕ, zero, suc, ◌+◌, ◌*◌, ◌/◌, ◌%◌, ◌<◌, ◌≤◌, Bool, true, false, List, [], ◌∷◌, ◌++◌, length, get_or, take, drop, flat_map, arith, refl, sym, ap, ap₂, ◌∙◌, drop-cons, take-add, take-append-drop, length-append, length-take}
 use Rattle.std.proofs.lemmas.Grind.{flat_map-append}
 use Rattle.std.proofs.lemmas.List.{append-nil, get_or-take, take_all}
@@ -19,14 +19,14 @@ use Rattle.utf_lanes.proofs.Joined.{joined_add}
 use Rattle.utf_lanes.specs.BytePairs.{bytes_of}
 use Rattle.recoding.proofs.CopiedUnits.{as_written}
 
--- What was written.
+-- The bytes that were written.
 
 -- one after another
 pub appended_twice : {O : Type 0} {appends : O → List ℕ → O → Type 0} → ((a b c : O) (xs ys : List ℕ) → appends a xs b → appends b ys c → appends a (xs ++ ys) c)
     → {a b c : O} {xs ys : List ℕ} → appends a xs b → appends b ys c → appends a (xs ++ ys) c
 appended_twice more {a} {b} {c} {xs} {ys} f g = more a b c xs ys f g
 
--- so many bytes and then more
+-- the units of some bytes, followed by those of more
 pub widened_more : (high : Bool) (xs : List ℕ) (p n : ℕ) → widened high (take p xs) ++ widened high (take n (drop p xs)) ≡ widened high (take (p + n) xs)
 widened_more high xs p n = sym (flat_map-append (λ b. halves high b 0) (take p xs) (take n (drop p xs))) ∙ ap (widened high) (sym (take-add p n xs))
 
@@ -57,7 +57,7 @@ joined_widened high v p (suc n) le =
     let next : drop p v ≡ get_or v p 0 ∷ drop (suc p) v = drop-cons v p 0 (omega arith) in
     rw next (ap (λ ys. halves high (get_or v p 0) 0 ++ ys) (joined_widened high v (suc p) n (omega arith)))
 
--- two halves of the lanes
+-- the two halves of the lanes
 pub block_widened : (high : Bool) (v first second : List ℕ) (n : ℕ) → length v ≡ n + n → first ≡ concat_range (λ k. halves high (get_or v k 0) 0) 0 n
     → second ≡ concat_range (λ k. halves high (get_or v k 0) 0) n n → first ++ second ≡ widened high v
 block_widened high v first second n long e f =
@@ -66,7 +66,7 @@ block_widened high v first second n long e f =
     let at : 0 + n ≡ n = omega arith in
     ap₂ (λ xs ys. xs ++ ys) e f ∙ sym (rw at at whole) ∙ joined_widened high v 0 (n + n) (omega (arith, long)) ∙ ap (widened high) all
 
--- Its codes.
+-- The codes of ASCII bytes.
 
 unit_bytes : (high : Bool) (b : ℕ) → b < 0x80 → flat_map (bytes_of high) (b ∷ []) ≡ halves high b 0
 unit_bytes true b lt = let high_byte : b / 256 ≡ 0 = omega arith in let low_byte : b % 256 ≡ b = omega arith in rw (high_byte, low_byte) refl
@@ -90,11 +90,11 @@ ascii_scalars [] low k d lt = absurd (omega arith)
 ascii_scalars (x ∷ xs) low zero d lt = ascii_is_scalar x (low 0 (omega arith) (omega arith))
 ascii_scalars (x ∷ xs) low (suc k) d lt = ascii_scalars xs (λ j ge le. low (suc j) (omega arith) (omega arith)) k d (omega arith)
 
--- the first bytes of some, as far as they are ASCII
+-- the first of some bytes, as far as they are ASCII
 pub ascii_front : (xs : List ℕ) (n : ℕ) → AreAscii xs 0 n → AreAscii (take n xs) 0 (length (take n xs))
 ascii_front xs n low k ge lt = let less : k < n = omega (arith, length-take n xs) in rw (get_or-take n xs k 0 less) (low k ge less)
 
--- So a text of ASCII is recoded as its units.
+-- A text of ASCII is transcoded to its units.
 pub PutsText-widened : {O : Type 0} {appends : O → List ℕ → O → Type 0} {old new : O} {to : Form} {bytes : List ℕ} {n : ℕ} (high : Bool) → HasByteOrder high to → n ≤ length bytes
     → AreAscii (take n bytes) 0 (length (take n bytes)) → appends old (widened high (take n bytes)) new → PutsText appends Utf8 to bytes old new n
 PutsText-widened {to} {bytes} {n} high form within low put = record {

@@ -1,4 +1,4 @@
--- What bytes become, step by step, in either way of replacing.
+-- The output for some bytes, step by step, in either way of replacing.
 use Rattle.std.proofs.Common.{◌≡◌, ℕ, ◌+◌, ◌-◌, ◌<◌, ◌≤◌, List, [], ◌∷◌, ◌++◌, length, take, drop, arith, refl, ap, ap₂, sym, ◌∙◌, subst, append_assoc, length-take}
 use Rattle.std.proofs.lemmas.List.{append-nil, drop-drop}
 use Rattle.recoding.specs.declared.form.Form.{Form}
@@ -36,7 +36,7 @@ list_text Faults from to text out later t =
     sym (same_list from to (text ++ later) (out ++ recoded from to later) (text_is_recoded from to text out later (recoded from to later) t (recoded_is from to later)))
 list_text Subparts from to text out later t = text_is_lossy from to text out later t
 
--- what begins the bytes whatever follows does where nothing does
+-- a piece that begins the bytes whatever follows begins them if nothing does
 pub BeginsLast-of : {way : Way} {from : Form} {w : List ℕ} {s n k : ℕ} → BeginsBy way from w s n k → BeginsLast way from w s n k
 BeginsLast-of {w = w} {n = n} begins = record {
   ends = Ends-from_decides begins.decides;
@@ -44,11 +44,11 @@ BeginsLast-of {w = w} {n = n} begins = record {
   counts = λ on. rw (append-nil w, append-nil (drop n w)) at (begins.counts on []);
 }
 
--- what begins so is longer than the room
+-- the piece that begins them is longer than the buffer
 pub NextIsLonger-of : (way : Way) {from to : Form} (w x : List ℕ) {c n k room : ℕ} → BeginsBy way from w c n k → room < length (written to c) → NextIsLonger way from to (w ++ x) room
 NextIsLonger-of way {from} w x {c} {n} begins long = record { scalar = c; len = n; begins = Decides-more (reads_by way from) w x c n begins.decides; longer = long }
 
--- What bytes become, whatever follows them.
+-- The output for some bytes, whatever follows them.
 
 none_before : (n : ℕ) → n ≡ 0 + n
 none_before n = omega arith
@@ -62,7 +62,7 @@ Becomes-then {way} {from} {to} {a} {g} {b} {k} {c} h i = record {
   counts = λ on later. omega (arith, h.counts on later, i.counts on later);
 }
 
--- the same bytes after both
+-- the same bytes after both outputs
 pub Becomes-more : {way : Way} {from to : Form} {a g b : List ℕ} {n : ℕ} (x : List ℕ) → Becomes way from to a g n b → Becomes way from to (a ++ x) g n (b ++ x)
 Becomes-more {way} {from} {to} {a} {g} {b} x h = record {
   same = λ later. ap (list_by way from to) (append_assoc a x later) ∙ h.same (x ++ later) ∙ ap (λ xs. g ++ list_by way from to xs) (sym (append_assoc b x later));
@@ -81,14 +81,14 @@ Becomes-text {way} {from} {to} {text} {out} t = record {
 pub Becomes-where : {way : Way} {from to : Form} {a g b : List ℕ} {n : ℕ} (c d : List ℕ) → a ≡ c → b ≡ d → Becomes way from to a g n b → Becomes way from to c g n d
 Becomes-where {way} {from} {to} {a} {g} {b} {n} c d e f h = subst (λ xs. Becomes way from to xs g n d) e (subst (λ ys. Becomes way from to a g n ys) f h)
 
--- By the three bytes that follow.
+-- Steps that the next three bytes decide.
 
 -- text
 pub next_text : {way : Way} {from to : Form} {grown : List ℕ} (bytes : List ℕ) (n : ℕ) → Transcodes from to (take n bytes) grown
     → Becomes way from to (take (n + 3) bytes) grown 0 (take 3 (drop n bytes))
 next_text bytes n t = Becomes-where (take (n + 3) bytes) (take 3 (drop n bytes)) (take_more n 3 bytes) refl (Becomes-more (take 3 (drop n bytes)) (Becomes-text t))
 
--- a piece that four bytes tell
+-- a piece that four bytes decide
 pub next_piece : {way : Way} {from to : Form} (xs : List ℕ) (s n : ℕ) {k : ℕ} → BeginsBy way from (take 4 xs) s n k
     → Becomes way from to (take (n + 3) xs) (written to s) k (take 3 (drop n xs))
 next_piece {way} {from} {to} xs s n begins =
@@ -118,7 +118,7 @@ run_after {way} {from} {to} {g} {k} {i} {j} bytes p n f h =
     let left : Becomes way from to (take (n + 3) xs) k j (take 3 (drop (p + n) bytes)) = Becomes-where (take (n + 3) xs) (take 3 (drop (p + n) bytes)) refl (ap (take 3) (drop-drop n p bytes)) h in
     Becomes-then (Becomes-where (take (p + n + 3) bytes) (take (n + 3) xs) whole looked (Becomes-more more f)) left
 
--- What is recoded so.
+-- The transcoded bytes.
 
 recoded_then : (from to : Form) (a g b rest : List ℕ) → recoded from to a ≡ g ++ recoded from to b → IsRecoded from to b rest → IsRecoded from to a (g ++ rest)
 recoded_then from to a g b rest h r = subst (λ xs. IsRecoded from to a xs) (h ∙ ap (λ xs. g ++ xs) (sym (same_list from to b rest r))) (recoded_is from to a)

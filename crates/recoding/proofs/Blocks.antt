@@ -1,11 +1,11 @@
--- Blocks of eight units of ASCII, and what bytes of units show.
+-- Blocks of eight units of ASCII, and the scalars of bytes of units.
 use Rattle.std.proofs.Common.{◌≡◌, ℕ, zero, suc, ◌-◌, ◌*◌, ◌%◌, ◌<◌, Bool, List, [], ◌∷◌, ◌++◌, map, length, get_or, arith, refl, ap, ap₂, ◌∙◌}
 use Rattle.utf_lanes.specs.AsciiTexts.{AreAscii}
 use Rattle.recoding.specs.Recoded.{odd_end}
 use Rattle.utf_lanes.specs.BytePairs.{unit_of, units_of}
 use Rattle.recoding.proofs.Listed.{listed}
 
--- What bytes of units show.
+-- The scalars of bytes of units.
 
 pub units_append : (high : Bool) (v later : List ℕ) (k : ℕ) → length v ≡ 2 * k → units_of high (v ++ later) ≡ units_of high v ++ units_of high later
 units_append high [] later k h = refl
@@ -32,13 +32,13 @@ low_bytes (u ∷ us) low =
     let same : u % 256 ≡ u = omega arith in
     ap₂ (λ x xs. x ∷ xs) same (low_bytes us (λ k ge lt. low (suc k) (omega arith) (omega arith)))
 
--- the same numbers as bytes
+-- eight units of ASCII as bytes
 pub eight_bytes : (us : List ℕ) → length us ≡ 8 → AreAscii us 0 8
     → get_or us 0 0 % 256 ∷ get_or us 1 0 % 256 ∷ get_or us 2 0 % 256 ∷ get_or us 3 0 % 256 ∷ get_or us 4 0 % 256 ∷ get_or us 5 0 % 256 ∷ get_or us 6 0 % 256 ∷ get_or us 7 0 % 256 ∷ []
     ≡ us
 eight_bytes us h low = ap (map (λ u. u % 256)) (listed 8 us h) ∙ low_bytes us (λ k ge lt. low k ge (omega arith))
 
--- each of eight
+-- each of eight units
 pub all_eight : (w : List ℕ) → get_or w 0 0 < 0x80 → get_or w 1 0 < 0x80 → get_or w 2 0 < 0x80 → get_or w 3 0 < 0x80 → get_or w 4 0 < 0x80 → get_or w 5 0 < 0x80 → get_or w 6 0 < 0x80 → get_or w 7 0 < 0x80
     → AreAscii w 0 8
 all_eight w a b c d e f g h zero ge lt = a

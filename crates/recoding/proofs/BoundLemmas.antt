@@ -1,4 +1,4 @@
--- How many bytes come of some bytes at most.
+-- Upper bounds of the output size for some bytes.
 use Rattle.std.proofs.Common.{◌≡◌, ℕ, zero, suc, ◌+◌, ◌*◌, ◌/◌, ◌<◌, ◌≤◌, ⊎_elim, Bool, List, [], ◌∷◌, ◌++◌, length, drop, flat_map, Option, Some, None, IfSome, arith, sym, subst, length-append, length-drop}
 use Rattle.std.proofs.lemmas.Grind.{common_steps}
 use Rattle.std.proofs.Math.Nat.{mul-le-mul_left}
@@ -21,7 +21,7 @@ use Rattle.recoding.specs.Recoded.{Reads, odd_end, written, IsRecoded}
 use Rattle.recoding.specs.Rooms.{widest, parts_of, most_bytes, IsRoomFor}
 use Rattle.recoding.proofs.Growing.{length_units, length_written, two_bytes, two_units}
 
--- How long one code is.
+-- The length of one code.
 
 within_widest : (to : Form) (s n : ℕ) → 0 < n → (0x1_0000 ≤ s → 2 ≤ n) → length (written to s) ≤ widest to * n
 within_widest =
@@ -39,7 +39,7 @@ wide_utf8 s h = grind (arith, common_steps)
 wide_utf16 : IsWide utf16
 wide_utf16 s h = omega (arith, two_units s h)
 
--- What a list shows, by its first piece and the rest.
+-- The scalars of a list, by its first piece and the rest.
 
 scaled : (w a b x y n : ℕ) → a ≤ w * x → b ≤ w * y → x + y ≤ n → a + b ≤ w * n
 scaled w a b x y n h i le = omega (arith, mul-le-mul_left w le)
@@ -108,7 +108,7 @@ recoded_bound from to bytes out (ss, r, e) = rw e (shown_bytes from to bytes ss 
         by_form _ (λ to bytes ss r. shown_bound utf8 utf8_is_code utf8_finds wide_utf8 to (length bytes) bytes ss (omega arith) r)
         (λ high. rw (is_units high, Reads, parts_of) (λ to bytes ss (ts, r, f). rw f (units_bound high to bytes ts r)))
 
--- more bytes take no less room
+-- more bytes need at least as much capacity
 parts_grow : (from : Form) (m n : ℕ) → m ≤ n → parts_of from m ≤ parts_of from n
 parts_grow = by_form _ (λ m n le. le) (λ high. rw (is_units high, parts_of) (λ m n le. omega arith))
 

@@ -15,7 +15,7 @@ use Rattle.utf_base.proofs.Utf8Code.{utf8-1}
 use Rattle.recoding.specs.Recoded.{IsProperFront}
 use Rattle.recoding.specs.NextScalars.{MayBeSecond}
 
--- nothing is the front of every code
+-- the empty list is the front of every code
 pub front_of_nothing : IsProperFront utf8 []
 front_of_nothing = record {
   char = 0;
@@ -31,7 +31,7 @@ asks_for_more w e some = grind (arith, common_steps)
 
 -- The front of a code.
 
--- what begins bytes of the grammar, and is not all of them
+-- a proper front of bytes of the grammar
 proper_front : (w v : List ℕ) → IsUtf8Char v → length w < length v → take (length w) v ≡ w → IsProperFront utf8 w
 proper_front w v h longer front =
     let x = char_encodes v h in
@@ -108,7 +108,8 @@ front_of_three a b c asks m c1 c2 =
     (λ h. proper_front (a ∷ b ∷ c ∷ []) (a ∷ b ∷ c ∷ 0x80 ∷ []) (four_are_char a b c 0x80 h.0 h.1 m c1 c2 (lit< tt) (lit< tt)) (lit< tt) refl)))
     (asked_cases a (omega arith))
 
--- The first byte asks for more than are there. If there are two, a code may have the second; if there are three, the third continues.
+-- The first byte asks for more than are there. If there are two, a code may have the second; if there are three, the
+-- third continues.
 pub front_of_few : (w : List ℕ) → fault_kind w ≡ Some TooFewBytes → (1 < length w → MayBeSecond (get_or w 0 0) (get_or w 1 0))
     → (2 < length w → (0x80 ≤ get_or w 2 0) × (get_or w 2 0 < 0xC0)) → IsProperFront utf8 w
 front_of_few [] e second third = front_of_nothing
@@ -121,7 +122,7 @@ front_of_few (a ∷ b ∷ c ∷ d ∷ w) e second third =
     let more = asks_for_more (a ∷ b ∷ c ∷ d ∷ w) e (omega arith) in
     absurd (omega (arith, asked_le a))
 
--- No code.
+-- Cases in which no code begins the bytes.
 
 -- the second byte of a code of three or four, and the third
 pub record Followed (w : List ℕ) : Type 0 where
@@ -181,7 +182,7 @@ followed_in_four w d a1 a2 =
       high = c2;
     }
 
--- so it is of bytes with which a code begins, where their first asks for three or four
+-- the same holds for bytes that begin with a code, if their first asks for three or four
 followed_in_code : (w later : List ℕ) (s : ℕ) → 2 < asked_by w → 1 < length w → Stands utf8 (w ++ later) 0 s → Followed (w ++ later)
 followed_in_code w later s asks two h =
     let d = (decodes_from_stands (w ++ later) s h).0 in
@@ -192,7 +193,7 @@ followed_in_code w later s asks two h =
     (λ k. followed_in_four (w ++ later) d (rw first k.0) (rw first k.1))))
     (asked_cases (get_or w 0 0) (omega arith))
 
--- where a code may not have the second byte, none begins with them
+-- if a code may not have the second byte, none begins with them
 pub decided_by_second : (w : List ℕ) → fault_kind w ≡ Some TooFewBytes → 1 < length w → (MayBeSecond (get_or w 0 0) (get_or w 1 0) → ⊥) → IsDecided utf8 w
 decided_by_second w e two not_second =
     let more = asks_for_more w e (omega arith) in
@@ -200,7 +201,7 @@ decided_by_second w e two not_second =
     let second = (followed_in_code w later s (omega arith) two h).second in
     not_second (rw (get_or_append_left w later 0 0 (omega arith), get_or_append_left w later 0 1 two) at second))
 
--- nor where the third does not continue
+-- if the third byte does not continue, none begins with them
 pub decided_by_third : (w : List ℕ) → fault_kind w ≡ Some TooFewBytes → 2 < length w → ((0x80 ≤ get_or w 2 0) × (get_or w 2 0 < 0xC0) → ⊥) → IsDecided utf8 w
 decided_by_third w e three not_third =
     let more = asks_for_more w e (omega arith) in

@@ -1,4 +1,4 @@
--- Well-formed units recoded as they stand, or with the bytes of each swapped.
+-- Well-formed units transcoded as they are, or with the bytes of each swapped.
 use Rattle.std.proofs.Common.{drop, subst, ◌≡◌, ℕ, zero, suc, ◌+◌, ◌-◌, ◌*◌, ◌/◌, ◌%◌, ◌<◌, Bool, true, false, not, List, [], ◌∷◌, ◌++◌, length, get_or, take, flat_map, refl, sym, ap, ap₂, ◌∙◌, arith, append_assoc, w8, Fits}
 use Rattle.std.proofs.lemmas.List.{get_or-drop}
 use Rattle.std.proofs.lemmas.List.Concat.{flat_map-append}
@@ -36,7 +36,7 @@ joined_bytes high (s ∷ cs) = ap (λ ys. flat_map (bytes_of high) (utf16 s) ++ 
 pub all_written : (high : Bool) (to : Form) (cs : List ℕ) → HasByteOrder high to → flat_map (written to) cs ≡ flat_map (bytes_of high) (flat_map utf16 cs)
 all_written high to cs form = rw (form, is_units high, written) (joined_bytes high cs)
 
--- The bytes of a unit, as they stand or swapped.
+-- The bytes of a unit, as they are or swapped.
 
 pub same_pair : (high : Bool) (a b : ℕ) → a < 256 → b < 256 → bytes_of high (unit_of high a b) ≡ a ∷ b ∷ []
 same_pair true a b A B = let first : (a * 256 + b) / 256 ≡ a = omega arith in let second : (a * 256 + b) % 256 ≡ b = omega arith in ap₂ (λ x y. x ∷ y ∷ []) first second

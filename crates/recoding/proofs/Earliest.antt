@@ -1,4 +1,4 @@
--- Nothing can be put out before a recoder puts it out that holds the front of a code.
+-- No output can be written before a recoder writes it that carries over the front of a code.
 use Rattle.std.proofs.Common.{◌≡◌, ℕ, suc, ◌+◌, ◌-◌, ◌*◌, ◌/◌, ◌%◌, ◌<◌, ◌≤◌, ⊎_elim, Bool, true, false, List, [], ◌∷◌, ◌++◌, length, get_or, take, drop, map, flat_map, arith, refl, ap, sym, ◌∙◌, Some, None, Option, lit<, take-append-drop, append_assoc, length-append, length-drop}
 use Rattle.std.proofs.lemmas.Bool.{cases_lt}
 use Rattle.std.proofs.lemmas.List.{append-nil, drop_all, get_or_append_left, get_or-append_right, take-append-le}
@@ -20,7 +20,7 @@ use Rattle.recoding.proofs.FrontBytes.{replacement}
 use Rattle.recoding.proofs.Growing.{one_unit, recoded_nothing, recoded_once, two_bytes, two_units}
 use Rattle.recoding.proofs.HeldFronts.{fronts_are_undecided}
 
--- All that is shown is scalars.
+-- All scalars of the pieces are Unicode scalar values.
 
 scalar_of_piece : (code : ℕ → List ℕ) (xs : List ℕ) (p n : ℕ) (a : Option ℕ) → IsPieceAt code xs p n a → IsScalar (unwrap_or a 0xFFFD)
 scalar_of_piece code xs p n (Some s) h = h.0.scalar
@@ -146,7 +146,7 @@ units_inside high s t front ts hs ht e =
 code_inside : (to : Form) (s t : ℕ) (front ts : List ℕ) → IsScalar s → IsScalar t → front ++ (written to t ++ flat_map (written to) ts) ≡ written to s → front ≡ []
 code_inside = by_form _ (λ s t front ts hs ht e. utf8_inside s t front (flat_map utf8 ts) hs ht e) (λ high. rw (is_units high, written) (units_inside high))
 
--- Two lists that begin with codes are the same only where the codes are.
+-- Two lists that begin with codes are the same only if the codes are.
 
 utf8_alike : (s t : ℕ) (x y : List ℕ) → IsScalar s → IsScalar t → utf8 s ++ x ≡ utf8 t ++ y → s ≡ t
 utf8_alike s t x y hs ht e =
@@ -197,7 +197,7 @@ units_alike high s x y hs e =
 replacement_alike : (to : Form) (s : ℕ) (x y : List ℕ) → IsScalar s → written to s ++ x ≡ written to 0xFFFD ++ y → s ≡ 0xFFFD
 replacement_alike = by_form _ (λ s x y hs e. utf8_alike s 0xFFFD x y hs replacement e) (λ high. rw (is_units high, written) (units_alike high))
 
--- Nothing of the front of a code can be put out.
+-- No output for the front of a code can be written.
 
 same_output : (from to : Form) (bytes out other : List ℕ) → IsRecoded from to bytes out → IsRecoded from to bytes other → out ≡ other
 same_output from to bytes out other h k = let o = recoded_once from to bytes in o.2 out h ∙ sym (o.2 other k)
@@ -206,7 +206,7 @@ front_of_none : (xs ys : List ℕ) → xs ++ ys ≡ [] → xs ≡ []
 front_of_none [] ys e = refl
 front_of_none (x ∷ xs) ys e = absurd cc
 
--- what was put out, before what is shown of the rest, is one code: so it is nothing, or that code
+-- the output before that of the rest is part of one code: so it is empty, or that code
 before_one_code : (from to : Form) (bytes out later : List ℕ) (s : ℕ) → IsScalar s → IsRecoded from to bytes later → out ++ later ≡ written to s → (out ≡ written to s → ⊥) → out ≡ []
 before_one_code from to bytes out later s hs ([], h, f) e not_all = absurd (not_all (sym (append-nil out) ∙ ap (λ ys. out ++ ys) (sym f) ∙ e))
 before_one_code from to bytes out later s hs (t ∷ ts, h, f) e not_all = code_inside to s t out ts hs (read_are_scalars from bytes (t ∷ ts) h 0 0 (omega arith)) (ap (λ ys. out ++ ys) (sym f) ∙ e)
@@ -231,7 +231,7 @@ nothing_of_front from to w out left f c =
     front_of_none out alone.0 (same_output from to [] (out ++ alone.0) [] whole (recoded_nothing from to)))
     (cases_lt 0 (length w))
 
--- So no output is ahead.
+-- No output is ahead of a recoder's.
 
 joined_back : (old more rest : List ℕ) (n : ℕ) → n ≡ length old → take n more ≡ old → old ++ (drop n more ++ rest) ≡ more ++ rest
 joined_back old more rest n len front =

@@ -1,4 +1,4 @@
--- Where all that comes of some bytes fits into the room, no call ends full.
+-- If the whole output for some bytes fits into the buffer, no call ends full.
 use Rattle.std.proofs.Common.{◌≡◌, ℕ, ◌-◌, ◌*◌, ◌<◌, ◌≤◌, List, [], ◌∷◌, ◌++◌, length, take, drop, flat_map, refl, sym, subst, append_assoc, arith, length-append, length-take, take-append-drop}
 use Rattle.std.proofs.lemmas.List.{append-nil}
 use Rattle.std.proofs.lemmas.Nat.{mul-le}
@@ -16,7 +16,7 @@ use Rattle.recoding.specs.RecodedBytes.{recoded}
 pub lossy_is_bounded : LossyIsBounded
 lossy_is_bounded bytes out r = recoded_bound Utf8 Utf8 bytes out r
 
--- what bytes are recoded as that begin with a scalar
+-- the output for bytes that begin with a scalar
 record IsLonger (from to : Form) (bytes : List ℕ) (room : ℕ) : Type 0 where
   out : List ℕ
   recoded : IsRecoded from to bytes out
@@ -40,7 +40,7 @@ last_is_longer s left room full =
     let rest = (recoded_once s.from s.to (drop full.len left)).1 in
     longer_of s.from s.to left rest.0 full.scalar room (full.begins.first rest.0 rest.1) full.longer
 
--- what comes of the held bytes, and of those that are not read, comes after what was written
+-- the output for the carried-over bytes, and for those that are not read, follows what was written
 after_written : (r s : Recoding) (part old new out later : List ℕ) (read wrote : ℕ) → FeedsInto r part old new read wrote s
     → IsRecoded s.from s.to (s.held ++ later) out → IsRecoded r.from r.to (r.held ++ (take read part ++ later)) (take wrote new ++ out)
 after_written r s part old new out later read wrote f h =
@@ -79,7 +79,7 @@ finishes_in_room r s old new wrote f same room full =
     let le = room_after old new long.out wrote f.fits same (room (take wrote new ++ long.out) (f.leaves long.out held)) in
     omega arith
 
--- three bytes for each byte are enough, whatever the forms
+-- three bytes for each byte are enough, whatever the encodings
 pub three_each : (from to : Form) (n : ℕ) → most_bytes from to n ≤ 3 * n
 three_each from to n = mul-le (widest to) (parts_of from n) 3 n (at_most_three to) (no_more_parts from n)
   where

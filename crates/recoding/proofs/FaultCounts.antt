@@ -1,4 +1,4 @@
--- How many faults bytes have, piece by piece.
+-- The number of faults in bytes, piece by piece.
 use Rattle.std.proofs.Common.{◌≡◌, ℕ, suc, ◌+◌, ◌<◌, Bool, cond, List, [], ◌∷◌, ◌++◌, length, drop, map, flat_map, arith, refl, ap, sym, ◌∙◌, subst, append_assoc, Some, None, Option}
 use Rattle.std.proofs.lemmas.List.{append-nil, drop_all, drop-append-le}
 use Rattle.std.proofs.lemmas.List.Sums.{sum_by-cons}
@@ -21,7 +21,7 @@ use Rattle.recoding.specs.Recoded.{odd_end}
 use Rattle.recoding.specs.NextScalars.{HasByteOrder}
 use Rattle.recoding.specs.Faults.{Faults, FaultCountIsOne, HasFaults, HasUnitFaults, fault_count, faults_in}
 
--- There is one number.
+-- The number of faults is unique.
 
 has_one : (code : ℕ → List ℕ) → IsCode code → (xs : List ℕ) (m n : ℕ) → HasFaults code xs m → HasFaults code xs n → m ≡ n
 has_one code c xs m n (ps, a, e) (qs, b, f) = e ∙ ap faults_in (cut_is_unique code c xs ps qs a b) ∙ sym f
@@ -42,7 +42,7 @@ same_count from bytes n h = one from bytes n (fault_count from bytes) h (counted
 pub fault_count_is_one : FaultCountIsOne
 fault_count_is_one from bytes n = (same_count from bytes n, λ e. subst (λ k. Faults from bytes k) (sym e) (counted from bytes))
 
--- The first piece, and those of the rest.
+-- The first piece, and the pieces of the rest.
 
 -- whether a piece is a fault, as a number
 abbrev is_fault : Piece → ℕ
@@ -67,21 +67,21 @@ whole_code_counts code c s later m h r =
     let none : 0 + m ≡ m = omega arith in
     rw none at (faults_first code c (code s ++ later) (length (code s)) (Some s) m (code_begins code c (code s) later s stands) (rw rest r))
 
--- codes are no faults
+-- codes have no faults
 pub codes_count : (code : ℕ → List ℕ) → IsCode code → (cs later : List ℕ) (m : ℕ) → All IsScalar cs → HasFaults code later m → HasFaults code (flat_map code cs ++ later) m
 codes_count code c [] later m all r = r
 codes_count code c (s ∷ cs) later m all r =
     rw (append_assoc (code s) (flat_map code cs) later)
     (whole_code_counts code c s (flat_map code cs ++ later) m (all 0 s (omega arith)) (codes_count code c cs later m (λ k d lt. all (suc k) d (omega arith)) r))
 
--- an element that begins no code is one
+-- an element that begins no code is one fault
 pub fault_counts : (code : ℕ → List ℕ) → IsCode code → (w later : List ℕ) (m : ℕ) → 0 < length w → ((s : ℕ) → Stands code (w ++ later) 0 s → ⊥) → HasFaults code (drop 1 w ++ later) m
     → HasFaults code (w ++ later) (1 + m)
 fault_counts code c w later m some none r =
     let e : drop 1 (w ++ later) ≡ drop 1 w ++ later = drop-append-le 1 w later (omega arith) in
     faults_first code c (w ++ later) 1 None m (fault_begins code c w later some none) (rw e r)
 
--- Bytes of a form that have so many faults more than others.
+-- Bytes of an encoding that have k more faults than others.
 
 pub counts_more : (bytes rest : List ℕ) (k : ℕ) → ((m : ℕ) → HasFaults utf8 rest m → HasFaults utf8 bytes (k + m)) → fault_count Utf8 bytes ≡ k + fault_count Utf8 rest
 counts_more bytes rest k more = sym (same_count Utf8 bytes (k + fault_count Utf8 rest) (more (fault_count Utf8 rest) (counted Utf8 rest)))
@@ -98,7 +98,7 @@ units_count_more high from bytes rest i j form more odd =
     let (m, h, e) = as_units high from rest (fault_count from rest) form (counted from rest) in
     sym (same_count from bytes (i + j + fault_count from rest) (of_units high from bytes (i + j + fault_count from rest) form (i + m, more m h, omega (arith, e, odd))))
 
--- Nothing has none.
+-- No bytes have no fault.
 nothing_has_none : (code : ℕ → List ℕ) → HasFaults code [] 0
 nothing_has_none code = ([], cut_none code [] 0, refl)
 

@@ -1,4 +1,4 @@
--- The first fault of a list, looked for one character after another.
+-- The first fault of a list, searched one character after another.
 use Rattle.std.proofs.Common.{◌≡◌, ℕ, ◌+◌, ◌<◌, ◌≤◌, ⊎_elim, List, length, drop, arith, ap, ◌∙◌, Option, Some, None}
 use Rattle.std.proofs.lemmas.Bool.{cases_lt}
 use Rattle.std.proofs.lemmas.List.{take_rest}
@@ -19,11 +19,11 @@ use Rattle.utf_base.proofs.Utf8Code.{utf8_is_code}
 use Rattle.utf_base.proofs.Utf16Code.{utf16_is_code}
 use Rattle.recoding.specs.FirstFaults.{IsFirstFault}
 
--- elements that have a kind are begun by no code
+-- no code begins elements that have a kind
 abbrev pub Excludes : {E : Type 0} → (ℕ → List ℕ) → (List ℕ → Option E) → Type 0
 Excludes {E} code kind = (w : List ℕ) (k : E) (s : ℕ) → kind w ≡ Some k → Stands code w 0 s → ⊥
 
--- no fault begins before the place, and no code lies over it
+-- no fault begins before the offset, and no code covers it
 pub record IsGoodTo (code : ℕ → List ℕ) (xs : List ℕ) (i : ℕ) : Type 0 where
   pub within : i ≤ length xs
   pub none : (x : Piece) → IsPiece code xs x → x.char ≡ None → i ≤ x.start
@@ -64,7 +64,7 @@ good_fault code kind apart xs i k g lt e =
 pub good_all : (code : ℕ → List ℕ) (xs : List ℕ) (i : ℕ) → IsGoodTo code xs i → length xs ≤ i → IsFirstFault code xs i
 good_all code xs i g le = record { within = g.within; none = g.none; fault = λ lt. absurd (omega arith) }
 
--- The same of bytes, and of units.
+-- No fault of bytes, and of units, begins before the offset after one more character.
 
 pub good_bytes : (xs : List ℕ) (i s n : ℕ) → IsGoodTo utf8 xs i → BeginsWith utf8 (drop i xs) s n → IsGoodTo utf8 xs (i + n)
 good_bytes = good_step utf8 utf8_is_code
@@ -78,6 +78,6 @@ first_fault = good_fault utf8 fault_kind no_code_where_fault
 pub first_unit_fault : (xs : List ℕ) (i : ℕ) (k : Utf16SliceError) → IsGoodTo utf16 xs i → i < length xs → slice_fault (drop i xs) ≡ Some k → IsFirstFault utf16 xs i
 first_unit_fault = good_fault utf16 slice_fault no_units_where_fault
 
--- the same by the kind that a decoder of pairs names
+-- the first fault, by the kind that a decoder of pairs gives
 pub first_pair_fault : (xs : List ℕ) (i : ℕ) (k : Utf16PairError) → IsGoodTo utf16 xs i → i < length xs → unit_fault_kind (drop i xs) ≡ Some k → IsFirstFault utf16 xs i
 first_pair_fault = good_fault utf16 unit_fault_kind no_units_where_kind

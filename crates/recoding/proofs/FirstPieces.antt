@@ -1,4 +1,4 @@
--- The piece that begins some bytes, from the answer of a decoder.
+-- The piece that begins some bytes, derived from the result of a decoder.
 use Rattle.std.proofs.Common.{◌≡◌, ◌≢◌, ℕ, ◌+◌, ◌-◌, ◌<◌, ◌≤◌, eqb, Bool, true, false, List, [], ◌∷◌, ◌++◌, length, get_or, take, drop, flat_map, arith, refl, ap, ap₂, sym, ◌∙◌, Some, Fits, w8}
 use Rattle.std.proofs.lemmas.Grind.{common_steps}
 use Rattle.std.specs.Option.{option_map}
@@ -113,7 +113,7 @@ module _ (high : Bool) (from : Form) (w : List ℕ) (form : HasByteOrder high fr
       unit_fault UnmatchedLeadingSurrogate (omega arith)
       (λ later. let two : 2 ≤ length w = omega arith in rw (units_two high w later two, units_next high w later four) (unmatched_units (first_unit high w ∷ second_unit high w ∷ units_of high (drop 4 w ++ later)) (omega arith) l t))
 
-  -- the characters
+  -- The characters.
 
   pub BeginsChar-unit : (s : ℕ) → 2 ≤ length w → ((j : ℕ) → Fits w8 (get_or w j 0)) → IsScalar s → first_unit high w ∷ [] ≡ utf16 s → BeginsChar from w s 2
   BeginsChar-unit s two fits scalar e = record {

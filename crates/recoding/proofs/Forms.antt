@@ -1,4 +1,4 @@
--- What is so of each form, and the form of UTF-16 in an order of bytes, as a type has it.
+-- Properties of each encoding, and the encoding of UTF-16 for a byte order as a type.
 use Rattle.std.proofs.Common.{◌≡◌, ℕ, Bool, true, false, flat_map, refl, ap}
 use Rattle.utf_base.specs.Code.{utf16}
 use Rattle.utf_base.specs.declared.errors.units.Utf16PairError.TheVariants.{Incomplete}
@@ -10,8 +10,8 @@ pub use Rattle.recoding.specs.TextForms.{by_form}
 use Rattle.recoding.specs.TextForms.{text_form, units_form, utf16_form}
 use Rattle.recoding.specs.declared.faults.FaultKind.TheVariants as kind
 
--- What is proved of UTF-8, and of units in any order of bytes, is so of each form: `by_form`. Of units `rw (is_units high, Reads)` opens the
--- goal where it says `Reads`, and so of other words of a form.
+-- A proof for UTF-8, and for units in any byte order, is a proof for each encoding: `by_form`. For units `rw
+-- (is_units high, Reads)` unfolds `Reads` in the goal, and so other words of an encoding.
 pub is_units : (high : Bool) → text_form (utf16_form high) ≡ units_form high
 is_units true = refl
 is_units false = refl

@@ -1,6 +1,5 @@
--- What the front of some bytes shows, from the answer of a decoder.
+-- The scalar at the front of some bytes, from the result of a decoder.
 use Rattle.std.proofs.Common.{◌≡◌, ◌≢◌, ℕ, ◌+◌, ◌<◌, ◌≤◌, ⊎_elim, List, [], ◌∷◌, ◌++◌, length, get_or, drop, arith, refl, ap, sym, ◌∙◌, Some, None, Bool, true, false, not, if◌then◌else◌, lit<, length-drop}
-use Rattle.std.proofs.lemmas.Grind.{common_steps}
 use Rattle.std.proofs.lemmas.Bool.{cases_lt}
 use Rattle.std.proofs.lemmas.List.{append-nil}
 use Rattle.utf_base.specs.declared.errors.Utf8ErrorKind.{Utf8ErrorKind}
@@ -19,6 +18,7 @@ use Rattle.utf_base.specs.Units.{is_leading_surrogate, is_trailing_surrogate, tu
 use Rattle.utf_base.proofs.KindCases.{kind-empty}
 use Rattle.utf_base.proofs.LaterLemmas.{no_code_at_last}
 use Rattle.utf_base.proofs.Rests.{fault_shows_first, shows_none, shows_one}
+use Rattle.utf_base.proofs.UnitLemmas.{no_both}
 use Rattle.utf_base.proofs.Utf16Code.{utf16_is_code}
 use Rattle.recoding.specs.Recoded.{ShowsUnits, odd_end, Lacks}
 use Rattle.recoding.specs.Faults.{fault_count}
@@ -33,7 +33,7 @@ replacement = record { below = lit< tt; no_surrogate = λ h. omega arith }
 pub fault_is_some : (from : Form) → 0 < fault_len from
 fault_is_some = by_form _ (omega arith) (λ high. rw (is_units high, fault_len) (omega arith))
 
--- what the bytes show whatever follows, they show where nothing does
+-- the scalar that the bytes show whatever follows is the one they show if nothing does
 pub Ends-from_decides : {reads : List ℕ → List ℕ → Type 0} {w : List ℕ} {s n : ℕ} → Decides reads w s n → Ends reads w s n
 Ends-from_decides {reads} {w} {s} {n} d = record {
   some = d.some;
@@ -150,19 +150,16 @@ leading_counts high from w form two few l =
     units_count_more high from w (drop 2 w) 1 0 form
     (λ m r. rw last.units (fault_counts utf16 utf16_is_code (first_unit high w ∷ []) (units_of high (drop 2 w)) m (lit< tt) last.none r)) (ap length last.odd ∙ omega arith)
 
--- Such bytes lack elements.
+-- Bytes that lack elements.
 
 pub lacks_byte : (high : Bool) (w : List ℕ) → length w < 2 → unit_fault_kind (units_of high w) ≡ Some Incomplete
 unfolding unit_fault_kind
 lacks_byte high w few = rw (few_units high w few) refl
 
-leading_is_not_trailing : (u : ℕ) → is_leading_surrogate u ≡ true → is_trailing_surrogate u ≡ false
-leading_is_not_trailing u l = grind (arith, common_steps)
-
--- a leading surrogate by itself
+-- a lone leading surrogate
 alone : (u : ℕ) → is_leading_surrogate u ≡ true → unit_fault_kind (u ∷ []) ≡ Some Incomplete
 unfolding unit_fault_kind
-alone u l = rw (leading_is_not_trailing u l, l) refl
+alone u l = rw (no_both u l, l) refl
 
 pub lacks_second : (high : Bool) (w : List ℕ) → 2 ≤ length w → length w < 4 → is_leading_surrogate (first_unit high w) ≡ true
     → unit_fault_kind (units_of high w) ≡ Some Incomplete
@@ -171,11 +168,11 @@ lacks_second high w two few l =
     let rest : units_of high (drop 2 w) ≡ [] = few_units high (drop 2 w) (omega (arith, length-drop 2 w)) in
     rw (units, rest) (alone (first_unit high w) l)
 
--- and so does nothing at all
+-- no bytes lack elements too
 pub lacks_all : (from : Form) → Lacks from []
 lacks_all = by_form _ front_of_nothing (λ high. rw (is_units high, Lacks) (lacks_byte high [] (lit< tt)))
 
--- What the decoding of one or two units answers.
+-- The result of decoding one or two units.
 
 trailing_by_tests : (t l : Bool) (e : Utf16TupleError) → l ≡ false → (if t then Some FirstIsTrailingSurrogate else if l then Some MissingSecond else None) ≡ Some e → t ≡ true
 trailing_by_tests true l e f h = refl
@@ -193,4 +190,4 @@ unmatched_by_tests false false true e f g h = cc
 unmatched_by_tests false true true e f g h = cc
 
 pub unmatched_where_fault : (u v : ℕ) (e : Utf16TupleError) → is_leading_surrogate u ≡ true → tuple_fault u (Some v) ≡ Some e → is_trailing_surrogate v ≡ false
-unmatched_where_fault u v e l h = unmatched_by_tests (is_trailing_surrogate u) (is_leading_surrogate u) (is_trailing_surrogate v) e l (leading_is_not_trailing u l) h
+unmatched_where_fault u v e l h = unmatched_by_tests (is_trailing_surrogate u) (is_leading_surrogate u) (is_trailing_surrogate v) e l (no_both u l) h

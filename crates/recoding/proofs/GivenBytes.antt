@@ -1,4 +1,4 @@
--- What the places of some text give, appended to any output.
+-- The units of the offsets of some text, appended to any output.
 use borrow.Rule.Slice.PartMut.{put_mid}
 use Rattle.std.proofs.Common.{◌≡◌, ℕ, zero, suc, ◌+◌, ◌-◌, ◌*◌, ◌≤◌, Bool, true, false, cond, List, [], ◌∷◌, ◌++◌, length, take, drop, arith, sym, ap, ◌∙◌, length-append, length-take, take-append-drop}
 use Rattle.std.proofs.lemmas.List.{append-nil}
@@ -7,7 +7,7 @@ use Rattle.std.proofs.Math.ListN.{drop_of_length-le}
 use Rattle.std.proofs.Math.Seq.{take-append-add}
 use Rattle.utf_lanes.specs.Utf8ToUtf16.{concat_range, utf16_bytes, utf16_bytes_at, halves}
 
--- Each place gives two bytes at most.
+-- Each offset gives at most two bytes.
 
 length_halves : (high : Bool) (low top : ℕ) → length (halves high low top) ≤ 2
 length_halves true low top = omega arith
@@ -32,7 +32,7 @@ length_given high xs p n = length_joined (utf16_bytes_at high (0 ∷ 0 ∷ 0 ∷
 pub few_given : (high : Bool) (xs ys : List ℕ) (p n : ℕ) → ys ≡ utf16_bytes high xs p n → length ys ≤ 2 * n
 few_given high xs ys p n e = rw e (length_given high xs p n)
 
--- Room after its rest, from a place on, was written.
+-- The rest of a buffer, from an offset on, was written.
 module _ (room rest : List ℕ) (place : ℕ) (le : place ≤ length room) (same : length rest ≡ length room - place) where
   put_rest : put_mid place (length room - place) room rest ≡ take place room ++ rest
   put_rest =

@@ -1,4 +1,4 @@
--- Text recoded: as itself, or as what its places give, the codes in UTF-16 of what it shows.
+-- Text transcoded: unchanged, or to the units of its offsets, the codes in UTF-16 of its scalars.
 use Rattle.std.proofs.Common.{◌≡◌, ℕ, suc, Bool, List, [], ◌∷◌, ◌++◌, length, flat_map, arith, refl, sym, ap, ◌∙◌, append_assoc}
 use Rattle.std.specs.Prelude.{All}
 use Rattle.utf_base.specs.Code.{utf8}
@@ -20,7 +20,7 @@ shows_each (s ∷ cs) all later ss h =
     rw (append_assoc (utf8 s) (flat_map utf8 cs) later)
     (whole_code_shows_first utf8 utf8_is_code (utf8 s) (flat_map utf8 cs ++ later) s (cs ++ ss) (all 0 s (omega arith)) refl (shows_each cs (λ j d lt. all (suc j) d (omega arith)) later ss h))
 
--- What the places of a text give are the codes of its characters.
+-- The units of the offsets of a text are the codes of its characters.
 pub given_codes : (high : Bool) (to : Form) → HasByteOrder high to → (text cs : List ℕ) → All IsScalar cs → text ≡ flat_map utf8 cs → flat_map (written to) cs ≡ utf16_bytes high text 0 (length text)
 given_codes high to form text cs all e =
     rw (form, is_units high, written) (sym (text_given high cs all) ∙ ap (λ ys. utf16_bytes high ys 0 (length ys)) (sym e))

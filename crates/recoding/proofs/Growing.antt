@@ -1,4 +1,4 @@
--- An output that grows by what bytes are recoded as, step by step.
+-- An output that grows by the transcoded bytes, step by step.
 use Rattle.std.proofs.Common.{◌≡◌, ℕ, ◌*◌, ◌<◌, ◌≤◌, ⊎_elim, Bool, true, false, List, [], ◌∷◌, ◌++◌, length, flat_map, arith, refl, ap, sym, ◌∙◌, append_assoc}
 use Rattle.std.proofs.lemmas.Grind.{common_steps}
 use Rattle.std.proofs.lemmas.Bool.{cases_lt}
@@ -12,7 +12,7 @@ use Rattle.recoding.proofs.Forms.{by_form, is_units}
 use Rattle.recoding.specs.Recoded.{Reads, ShowsUnits, odd_end, written, IsRecoded, Continues, RecodedOnce, Grows}
 use Rattle.utf_lanes.specs.BytePairs.{units_of, bytes_of}
 
--- Bytes show one list.
+-- Bytes have one list of scalars.
 
 units_one : (high : Bool) (bytes ss ts : List ℕ) → ShowsUnits high bytes ss → ShowsUnits high bytes ts → ss ≡ ts
 units_one high bytes ss ts (xs, a, e) (ys, b, f) =
@@ -38,7 +38,7 @@ recoded_once from to bytes =
 pub recoded_nothing : (from to : Form) → IsRecoded from to [] []
 recoded_nothing from to = ([], reads_none from, refl)
 
--- What continues.
+-- Output that later bytes continue.
 
 pub Continues-none : (from to : Form) (bytes : List ℕ) → Continues from to bytes [] bytes
 Continues-none from to bytes later rest h = h
@@ -46,7 +46,7 @@ Continues-none from to bytes later rest h = h
 pub Continues-trans : (from to : Form) (a g b k c : List ℕ) → Continues from to a g b → Continues from to b k c → Continues from to a (g ++ k) c
 Continues-trans from to a g b k c h i later rest r = rw (append_assoc g k rest) (h later (k ++ rest) (i later rest r))
 
--- the same bytes after both
+-- the same bytes after both outputs
 pub Continues-append : (from to : Form) (a g b x : List ℕ) → Continues from to a g b → Continues from to (a ++ x) g (b ++ x)
 Continues-append from to a g b x h later rest r = rw (append_assoc a x later) (h (x ++ later) rest (rw (append_assoc b x later) at r))
 
@@ -60,7 +60,7 @@ Grows-trans from to a b c old mid new g h = record {
 pub Grows-append : (from to : Form) (a b x old new : List ℕ) → Grows from to a old new b → Grows from to (a ++ x) old new (b ++ x)
 Grows-append from to a b x old new g = record { grown = g.grown; appended = g.appended; continues = Continues-append from to a g.grown b x g.continues }
 
--- How long codes are.
+-- The length of codes.
 
 short_utf8 : (s : ℕ) → s < 0x1_0000 → length (utf8 s) ≤ 3
 unfolding utf8
@@ -81,7 +81,7 @@ pub length_units : (s n : ℕ) → 0 < n → (0x1_0000 ≤ s → 2 ≤ n) → le
 length_units s n some wide =
     ⊎_elim (λ (low : s < 0x1_0000). let one = one_unit s low in omega arith) (λ (high : 0x1_0000 ≤ s). let two = wide high in let len = two_units s high in omega arith) (cases_lt s 0x1_0000)
 
--- no more than three bytes come of one
+-- at most three bytes are written for one
 pub length_written : (to : Form) (s n : ℕ) → 0 < n → (0x1_0000 ≤ s → 2 ≤ n) → length (written to s) ≤ 3 * n
 length_written =
     by_form _

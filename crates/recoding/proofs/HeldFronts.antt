@@ -1,4 +1,5 @@
--- What is held is not decided: the front of a code shows U+FFFD where nothing follows, and another scalar before the rest of its code.
+-- The carried-over bytes are undecided: the front of a code shows U+FFFD if nothing follows, and another scalar
+-- before the rest of its code.
 use Rattle.std.proofs.Common.{◌≡◌, ◌≢◌, ℕ, zero, suc, ◌+◌, ◌-◌, ◌*◌, ◌/◌, ◌%◌, ◌<◌, ◌≤◌, ⊎_elim, Bool, true, false, not, if◌then◌else◌, List, [], ◌∷◌, ◌++◌, length, get_or, take, drop, flat_map, arith, refl, ap, ap₂, sym, ◌∙◌, Some, None, lit<, take-append-drop}
 use Rattle.std.proofs.lemmas.Grind.{common_steps}
 use Rattle.std.proofs.lemmas.Bool.{cases_lt}
@@ -9,6 +10,7 @@ use Rattle.utf_base.specs.Code.{utf8, utf16, IsCode}
 use Rattle.utf_base.specs.Piece.{Stands}
 use Rattle.utf_base.specs.Units.{is_leading_surrogate, is_trailing_surrogate, unit_fault_kind}
 use Rattle.utf_base.proofs.Rests.{fault_shows_first}
+use Rattle.utf_base.proofs.SubpartLemmas.{element_of_front}
 use Rattle.utf_base.proofs.Standing.{Stands-at}
 use Rattle.utf_base.proofs.Utf8Code.{utf8_is_code}
 use Rattle.utf_base.proofs.Utf16Code.{utf16-1, utf16-2}
@@ -46,9 +48,6 @@ record Leads (high : Bool) (w : List ℕ) : Type 0 where
   pub few : length w < 4
   pub leading : is_leading_surrogate (first_unit high w) ≡ true
 
-element : (w code : List ℕ) (k : ℕ) → k < length w → take (length w) code ≡ w → get_or w k 0 ≡ get_or code k 0
-element w code k lt front = ap (λ xs. get_or xs k 0) (sym front) ∙ get_or-take (length w) code k 0 lt
-
 is_leading : (t : ℕ) → 0x1_0000 ≤ t → t < 0x11_0000 → is_leading_surrogate (0xD800 + (t - 0x1_0000) / 1024) ≡ true
 is_leading t low high = grind (arith, common_steps)
 
@@ -61,8 +60,8 @@ leads true w t scalar two longer front =
     let u = 0xD800 + (t - 0x1_0000) / 1024 in
     let few : length w < 4 = rw (utf16-2 t wide) at longer in
     let code = rw (utf16-2 t wide) at front in
-    let a : get_or w 0 0 ≡ u / 256 = element w _ 0 (omega arith) code in
-    let b : get_or w 1 0 ≡ u % 256 = element w _ 1 (omega arith) code in
+    let a : get_or w 0 0 ≡ u / 256 = element_of_front w _ 0 (omega arith) code in
+    let b : get_or w 1 0 ≡ u % 256 = element_of_front w _ 1 (omega arith) code in
     let e : first_unit true w ≡ u = omega arith in
     record { few = few; leading = rw e (is_leading t wide scalar.below) })
     (cases_lt t 0x1_0000)
@@ -73,8 +72,8 @@ leads false w t scalar two longer front =
     let u = 0xD800 + (t - 0x1_0000) / 1024 in
     let few : length w < 4 = rw (utf16-2 t wide) at longer in
     let code = rw (utf16-2 t wide) at front in
-    let a : get_or w 0 0 ≡ u % 256 = element w _ 0 (omega arith) code in
-    let b : get_or w 1 0 ≡ u / 256 = element w _ 1 (omega arith) code in
+    let a : get_or w 0 0 ≡ u % 256 = element_of_front w _ 0 (omega arith) code in
+    let b : get_or w 1 0 ≡ u / 256 = element_of_front w _ 1 (omega arith) code in
     let e : first_unit false w ≡ u = omega arith in
     record { few = few; leading = rw e (is_leading t wide scalar.below) })
     (cases_lt t 0x1_0000)
@@ -98,7 +97,7 @@ front_alone =
     (rest.0, rw (append-nil w) at (fault_shows_first utf8 utf8_is_code w [] rest.0 some none (rw (append-nil (drop 1 w)) rest.1))))
     (λ high. rw (is_units high, Reads, written) (λ w some f. units_alone high w some f.char f.scalar f.longer f.front))
 
--- It is also the front of a code that is not that of U+FFFD.
+-- The bytes are also the front of a code that is not that of U+FFFD.
 
 record IsOtherFront (code : ℕ → List ℕ) (w : List ℕ) : Type 0 where
   pub char : ℕ

@@ -1,8 +1,8 @@
--- Shards that are recoded by themselves, and joined.
-use Rattle.std.proofs.Common.{◌≡◌, ℕ, zero, suc, ◌+◌, ◌-◌, ◌*◌, ◌/◌, ◌<◌, ◌≤◌, ⊎_elim, Bool, List, [], ◌∷◌, ◌++◌, length, take, drop, arith, refl, ap, sym, ◌∙◌, append_assoc, take-append-drop, length-append, length-drop}
+-- Shards that are transcoded separately, and joined: with one U+FFFD for each fault.
+use Rattle.std.proofs.Common.{◌≡◌, ℕ, zero, suc, ◌+◌, ◌-◌, ◌*◌, ◌/◌, ◌<◌, ◌≤◌, ⊎_elim, Bool, List, [], ◌∷◌, ◌++◌, length, take, drop, arith, refl, sym, ◌∙◌, append_assoc, take-append-drop, length-append, length-drop}
 use Rattle.std.proofs.lemmas.Bool.{cases_lt}
 use Rattle.std.proofs.lemmas.Grind.{common_steps}
-use Rattle.std.proofs.lemmas.List.{append-nil, drop-drop, drop-append-le, take_rest, take_all, drop_all, length-take-le}
+use Rattle.std.proofs.lemmas.List.{append-nil, drop-append-le, take_rest, length-take-le}
 use Rattle.std.proofs.lemmas.List.Concat.{flat_map-append}
 use Rattle.std.specs.List.{concat}
 use Rattle.std.specs.Prelude.{slice_range}
@@ -20,11 +20,13 @@ use Rattle.recoding.specs.declared.form.Form.{Form}
 use Rattle.recoding.proofs.Forms.{by_form, is_units}
 use Rattle.recoding.specs.Recoded.{Reads, ShowsUnits, odd_end, written, IsRecoded}
 use Rattle.utf_lanes.specs.BytePairs.{units_of}
-use Rattle.recoding.specs.Shards.{IsUnitsEnd, IsShardEnd, shards, AreShardEnds, AreRecoded, ShardsJoin}
+use Rattle.recoding.specs.Boundaries.{IsBoundary, IsUnitsEnd}
+use Rattle.recoding.specs.Shards.{ShardsJoin}
 use Rattle.recoding.proofs.Blocks.{units_append, odd_append}
 use Rattle.recoding.proofs.Growing.{recoded_once, recoded_nothing}
+use Rattle.recoding.proofs.ShardLists.{Joins, shards_of}
 
--- no code lies over a place of the rest, where none lies over that of the list
+-- no code covers an offset of the rest, if none covers that of the list
 outside_rest : (code : ℕ → List ℕ) (xs : List ℕ) (i n : ℕ) → i ≤ length xs → i ≤ n → (Inside code xs n → ⊥) → Inside code (drop i xs) (n - i) → ⊥
 outside_rest code xs i n le lo out v =
     let begins = v.begins in
@@ -33,9 +35,9 @@ outside_rest code xs i n le lo out v =
     let whole = stands_in_whole code xs i (length xs) v.from (i + v.from) v.char refl le (omega arith) part in
     out (record { from = i + v.from; char = v.char; stands = whole.0; begins = omega arith; ends = omega arith })
 
--- What two parts show, where no code lies over the place between them.
+-- The scalars of two parts, if no code covers the offset between them.
 module _ (code : ℕ → List ℕ) (c : IsCode code) (find : Finds code) where
-  -- where no code begins the first part, none begins both
+  -- if no code begins the first part, none begins both
   none_begins : (w later : List ℕ) → 0 < length w → (Inside code (w ++ later) (length w) → ⊥) → ((s : ℕ) → Stands code w 0 s → ⊥)
       → (s : ℕ) → Stands code (w ++ later) 0 s → ⊥
   none_begins w later some out none s h =
@@ -82,7 +84,7 @@ module _ (code : ℕ → List ℕ) (c : IsCode code) (find : Finds code) where
       rw same (fault_shows_first code c (x ∷ w) later (rest.0 ++ ts) some (none_begins (x ∷ w) later some out none) both))
       (find (x ∷ w))
 
--- The same of a list and a place in it.
+-- The scalars of a list that is cut at an offset.
 parts_show : (code : ℕ → List ℕ) → IsCode code → Finds code → (xs : List ℕ) (n : ℕ) (ss ts : List ℕ) → n ≤ length xs → (Inside code xs n → ⊥)
     → Shows code (take n xs) ss → Shows code (drop n xs) ts → Shows code xs (ss ++ ts)
 parts_show code c find xs n ss ts le out a b =
@@ -100,7 +102,7 @@ count_of_units high (a ∷ b ∷ v) k h = let rest = count_of_units high v (k - 
 odd_none : (v : List ℕ) (k : ℕ) → length v ≡ 2 * k → odd_end v ≡ []
 odd_none v k h = rw (append-nil v) at (odd_append v [] k h)
 
--- where a place is even the units up to it and from it on are those of the bytes
+-- if an offset is even the units up to it and from it on are those of the bytes
 pub even_units : (high : Bool) (bytes : List ℕ) (n k : ℕ) → n ≤ length bytes → n ≡ 2 * k
     → (units_of high (take n bytes) ≡ take k (units_of high bytes)) × (units_of high (drop n bytes) ≡ drop k (units_of high bytes))
 even_units high bytes n k le e =
@@ -124,7 +126,7 @@ units_within high (a ∷ []) n k le e = omega arith
 units_within high (a ∷ b ∷ v) n zero le e = omega arith
 units_within high (a ∷ b ∷ v) n (suc k) le e = let rest = units_within high v (n - 2) k (omega arith) (omega arith) in omega arith
 
--- What parts of bytes show.
+-- The scalars of parts of bytes.
 
 units_show : (high : Bool) (bytes : List ℕ) (n : ℕ) (ss ts : List ℕ) → n < length bytes → IsUnitsEnd high bytes n
     → ShowsUnits high (take n bytes) ss → ShowsUnits high (drop n bytes) ts → ShowsUnits high bytes (ss ++ ts)
@@ -140,31 +142,18 @@ units_show high bytes n ss ts lt ends (us, a, e) (vs, b, f) =
       rw (e, f, none, odd, append-nil us) (sym (append_assoc us vs (odd_end (drop n bytes)))),
     )
 
-reads_parts : (from : Form) (bytes : List ℕ) (n : ℕ) (ss ts : List ℕ) → n < length bytes → IsShardEnd from bytes n
+reads_parts : (from : Form) (bytes : List ℕ) (n : ℕ) (ss ts : List ℕ) → n < length bytes → IsBoundary from bytes n
     → Reads from (take n bytes) ss → Reads from (drop n bytes) ts → Reads from bytes (ss ++ ts)
 reads_parts =
     by_form _ (λ bytes n ss ts lt out a b. parts_show utf8 utf8_is_code utf8_finds bytes n ss ts (omega arith) out a b)
-    (λ high. rw (is_units high, IsShardEnd, Reads) (units_show high))
+    (λ high. rw (is_units high, IsBoundary, Reads) (units_show high))
 
-recoded_parts : (from to : Form) (bytes front rest : List ℕ) (n : ℕ) → n < length bytes → IsShardEnd from bytes n
+recoded_parts : (from to : Form) (bytes front rest : List ℕ) (n : ℕ) → n < length bytes → IsBoundary from bytes n
     → IsRecoded from to (take n bytes) front → IsRecoded from to (drop n bytes) rest → IsRecoded from to bytes (front ++ rest)
 recoded_parts from to bytes front rest n lt out (ss, a, e) (ts, b, f) =
     (ss ++ ts, reads_parts from bytes n ss ts lt out a b, rw (e, f) (sym (flat_map-append (written to) ss ts)))
 
--- the end of the bytes is a shard's too
-recoded_two : (from to : Form) (bytes front rest : List ℕ) (n : ℕ) → n ≤ length bytes → IsShardEnd from bytes n
-    → IsRecoded from to (take n bytes) front → IsRecoded from to (drop n bytes) rest → IsRecoded from to bytes (front ++ rest)
-recoded_two from to bytes front rest n le out a b =
-    ⊎_elim
-    (λ (lt : n < length bytes). recoded_parts from to bytes front rest n lt out a b)
-    (λ (ge : length bytes ≤ n).
-    let nothing : IsRecoded from to [] rest = rw (drop_all n bytes ge) at b in
-    let none : rest ≡ [] = (recoded_once from to []).2 rest nothing ∙ sym ((recoded_once from to []).2 [] (recoded_nothing from to)) in
-    let whole : IsRecoded from to bytes front = rw (take_all n bytes ge) at a in
-    rw (none, append-nil front) whole)
-    (cases_lt n (length bytes))
-
--- Places of the whole and of its rest.
+-- Offsets of the whole and of its rest.
 
 units_end_of_rest : (high : Bool) (bytes : List ℕ) (i n : ℕ) → i < length bytes → i ≤ n → n ≤ length bytes → IsUnitsEnd high bytes i → IsUnitsEnd high bytes n
     → IsUnitsEnd high (drop i bytes) (n - i)
@@ -178,57 +167,29 @@ units_end_of_rest high bytes i n lt lo le first end =
       outside = rw (units.1, place) (outside_rest utf16 (units_of high bytes) (i / 2) (n / 2) count (omega arith) end.outside);
     }
 
-end_of_rest : (from : Form) (bytes : List ℕ) (i n : ℕ) → i < length bytes → i ≤ n → n ≤ length bytes → IsShardEnd from bytes i → IsShardEnd from bytes n
-    → IsShardEnd from (drop i bytes) (n - i)
+pub end_of_rest : (from : Form) (bytes : List ℕ) (i n : ℕ) → i < length bytes → i ≤ n → n ≤ length bytes → IsBoundary from bytes i → IsBoundary from bytes n
+    → IsBoundary from (drop i bytes) (n - i)
 end_of_rest =
     by_form _ (λ bytes i n lt lo le first end. outside_rest utf8 bytes i n (omega arith) lo end)
-    (λ high. rw (is_units high, IsShardEnd) (units_end_of_rest high))
+    (λ high. rw (is_units high, IsBoundary) (units_end_of_rest high))
 
-end_at_front : (from : Form) (bytes : List ℕ) → IsShardEnd from bytes 0
-end_at_front = by_form _ (outside_front utf8) (λ high. rw (is_units high, IsShardEnd) (λ bytes. record { even = λ lt. refl; outside = outside_front utf16 (units_of high bytes) }))
+pub end_at_front : (from : Form) (bytes : List ℕ) → IsBoundary from bytes 0
+end_at_front = by_form _ (outside_front utf8) (λ high. rw (is_units high, IsBoundary) (λ bytes. record { even = λ lt. refl; outside = outside_front utf16 (units_of high bytes) }))
 
-ends_within : (from : Form) (bytes : List ℕ) (i : ℕ) (places : List ℕ) → AreShardEnds from bytes i places → i ≤ length bytes
-ends_within from bytes i [] h = h
-ends_within from bytes i (n ∷ places) h = let rest = ends_within from bytes n places h.2 in omega (arith, h.0)
+-- The law.
 
--- The shards from a place on.
-
--- after the end of the bytes there is nothing
-nothing_after : (from to : Form) (bytes : List ℕ) (i : ℕ) (places : List ℕ) (outs : List (List ℕ)) → length bytes ≤ i
-    → AreShardEnds from bytes i places → AreRecoded from to (shards bytes i places) outs → IsRecoded from to [] (concat outs)
-nothing_after from to bytes i [] [] ge h r = absurd r
-nothing_after from to bytes i [] (out ∷ []) ge h r = rw (append-nil out) (rw (drop_all i bytes ge) at r.0)
-nothing_after from to bytes i [] (out ∷ other ∷ outs) ge h r = absurd r.1
-nothing_after from to bytes i (n ∷ places) [] ge h r = absurd r
-nothing_after from to bytes i (n ∷ places) (out ∷ outs) ge h r =
-    let rest = nothing_after from to bytes n places outs (omega (arith, h.0)) h.2 r.1 in
-    let part : slice_range bytes i n ≡ [] = nothing_between bytes i n ge in
-    let none : out ≡ [] = (recoded_once from to []).2 out (rw part at r.0) ∙ sym ((recoded_once from to []).2 [] (recoded_nothing from to)) in
-    rw none rest
-  where
-    nothing_between : (xs : List ℕ) (i n : ℕ) → length xs ≤ i → slice_range xs i n ≡ []
-    nothing_between xs i n ge = grind (arith, common_steps)
-
-shards_from : (from to : Form) (bytes : List ℕ) (i : ℕ) (places : List ℕ) (outs : List (List ℕ)) → IsShardEnd from bytes i
-    → AreShardEnds from bytes i places → AreRecoded from to (shards bytes i places) outs → IsRecoded from to (drop i bytes) (concat outs)
-shards_from from to bytes i [] [] end h r = absurd r
-shards_from from to bytes i [] (out ∷ []) end h r = rw (append-nil out) r.0
-shards_from from to bytes i [] (out ∷ other ∷ outs) end h r = absurd r.1
-shards_from from to bytes i (n ∷ places) [] end h r = absurd r
-shards_from from to bytes i (n ∷ places) (out ∷ outs) end h r =
-    ⊎_elim
-    (λ (lt : i < length bytes).
-    let within = ends_within from bytes n places h.2 in
-    let lo = h.0 in
-    let rest = shards_from from to bytes n places outs h.1 h.2 r.1 in
-    let following : drop (n - i) (drop i bytes) ≡ drop n bytes = drop-drop (n - i) i bytes ∙ ap (λ k. drop k bytes) (back i n lo) in
-    recoded_two from to (drop i bytes) out (concat outs) (n - i) (omega (arith, length-drop i bytes))
-    (end_of_rest from bytes i n lt lo within end h.1) r.0 (rw following rest))
-    (λ (ge : length bytes ≤ i). rw (drop_all i bytes ge) (nothing_after from to bytes i (n ∷ places) (out ∷ outs) ge h r))
-    (cases_lt i (length bytes))
-  where
-    back : (i n : ℕ) → i ≤ n → i + (n - i) ≡ n
-    back i n le = omega arith
+recoded_joins : (from to : Form) → Joins (IsBoundary from) (IsRecoded from to) (λ parts outs. concat outs)
+recoded_joins from to = record {
+  join = λ part out rest. out ++ rest;
+  nothing = [];
+  none = refl;
+  more = λ part parts out outs. refl;
+  front = end_at_front from;
+  rest = end_of_rest from;
+  two = recoded_parts from to;
+  one = λ bytes out h. rw (append-nil out) h;
+  only = λ out h. (recoded_once from to []).2 out h ∙ sym ((recoded_once from to []).2 [] (recoded_nothing from to));
+}
 
 pub shards_join : ShardsJoin
-shards_join from to bytes places outs h r = shards_from from to bytes 0 places outs (end_at_front from bytes) h r
+shards_join from to bytes places outs h b = shards_of (IsBoundary from) (IsRecoded from to) (λ parts outs. concat outs) (recoded_joins from to) bytes places outs h b

@@ -19,7 +19,9 @@ pub mod GoodCodes
 pub mod Growing
 pub mod JoinedShards
 pub mod Listed
+pub mod LastBoundaries
 pub mod LossyLists
+pub mod LossyShards
 pub mod Utf16ToUtf8
 pub mod PartLaws
 pub mod Recodes
@@ -29,7 +31,9 @@ pub mod RecodedLists
 pub mod RoomLemmas
 pub mod RoomRuns
 pub mod ShardEnds
+pub mod ShardLists
 pub mod StrictFaults
+pub mod StrictShards
 pub mod StrictSteps
 pub mod SubpartLengths
 pub mod SwappedRuns

@@ -3,7 +3,7 @@ use Rattle.std.proofs.Common.{◌≡◌, ℕ, zero, suc, ◌+◌, List, [], ◌�
 use Rattle.std.proofs.Math.Seq.{drop-cons}
 use Rattle.std.proofs.lemmas.List.{drop_all}
 
--- so many elements from a place on
+-- n elements from an offset on
 abbrev pub elements_from : ℕ → ℕ → List ℕ → List ℕ
 elements_from k zero w = []
 elements_from k (suc n) w = get_or w k 0 ∷ elements_from (suc k) n w

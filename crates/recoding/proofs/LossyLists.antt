@@ -1,4 +1,5 @@
--- What bytes become with one U+FFFD for each maximal subpart: there is one list, and each step gives its front.
+-- The output for bytes with one U+FFFD for each maximal subpart: there is one list, and each step gives its
+-- front.
 use Rattle.std.proofs.Common.{◌≡◌, ℕ, suc, ◌+◌, ◌-◌, ◌<◌, ◌≤◌, ⊎_elim, Bool, true, false, Some, None, Option, List, [], ◌∷◌, ◌++◌, length, drop, map, flat_map, arith, refl, ap, ap₂, sym, ◌∙◌, subst, append_assoc, length-append, length-drop, length-take}
 use Rattle.std.specs.Prelude.{All, slice_range}
 use Rattle.std.specs.List.{concat}
@@ -33,9 +34,9 @@ use Rattle.recoding.proofs.CopiedUnits.{codes_show, joined_bytes}
 use Rattle.recoding.proofs.OddParts.{odd_part_of_text}
 use Rattle.recoding.proofs.TextLaws.{units_of_bytes}
 
--- Of units a maximal subpart is one.
+-- A maximal subpart of units is one unit.
 
-one_unit : (xs : List ℕ) (p m : ℕ) → IsMaximalSubpart utf16 xs p m → m ≡ 1
+pub one_unit : (xs : List ℕ) (p m : ℕ) → IsMaximalSubpart utf16 xs p m → m ≡ 1
 one_unit xs p m h =
     let some = h.some in
     let fits = h.within in
@@ -49,7 +50,7 @@ one_unit xs p m h =
     h.offset.none f.char (record { scalar = f.scalar; within = omega arith; equal = ap (λ k. slice_range xs p (p + k)) whole ∙ sym code }) in
     ⊎_elim (λ (more : 1 < m). absurd (long more)) (λ (le : m ≤ 1). omega arith) (cases_lt 1 m)
 
--- so the parts of units are their pieces
+-- the parts of units are their pieces
 same_part : (xs : List ℕ) (p n : ℕ) (a : Option ℕ) → IsPart utf16 xs p n a → pieces_of p n a ≡ record { start = p; len = n; char = a } ∷ []
 same_part xs p n (Some s) h = refl
 same_part xs p n None h = rw (one_unit xs p n h) refl

@@ -1,4 +1,4 @@
--- What begins some bytes in both ways of replacing, from the piece that a decoder names.
+-- The piece that begins some bytes in both ways of replacing, derived from the piece that a decoder gives.
 use Rattle.std.proofs.Common.{◌≡◌, ℕ, ◌+◌, ◌-◌, ◌<◌, ◌≤◌, ⊎_elim, inl, inr, Bool, true, Some, None, Option, List, [], ◌∷◌, ◌++◌, length, min, take, drop, flat_map, arith, refl, ap, sym, ◌∙◌, subst, append_assoc, take-append-drop, length-take, lit<}
 use Rattle.std.specs.Prelude.{All}
 use Rattle.std.specs.Option.{option_map}
@@ -71,7 +71,7 @@ Begins-char way {from} {w} {s} {n} b =
       counts = λ on later. rw (whole later) at (text_counts from (s ∷ []) (drop n w ++ later) one) ∙ omega arith;
     }
 
--- Where there is a fault of UTF-8, no code begins.
+-- If there is a fault of UTF-8, no code begins the bytes.
 
 no_kind : (k : FaultKind) (e : Option Utf8ErrorKind) → e ≡ None → option_map kind.Utf8 e ≡ Some k → ⊥
 no_kind k e none some = let h : option_map kind.Utf8 None ≡ Some k = rw none at some in cc
@@ -97,7 +97,7 @@ no_code_of_four w four none later s h =
       equal = sym (take-append-le (0 + length (utf8 s) - 0) w later (omega arith)) ∙ h.equal;
     })
 
--- so one byte is a fault, and a maximal subpart one part
+-- if no code begins the bytes, one byte is a fault, and a maximal subpart is one part
 pub Begins-byte : {w : List ℕ} → BeginsNoCode w → BeginsBy Faults Utf8 w 0xFFFD 1 1
 Begins-byte {w} none =
     let some = some_where_no_code w none in
@@ -132,7 +132,7 @@ two_units_lack high (a ∷ b ∷ []) two h = two_do_not_lack _ _ _ h
 two_units_lack high (a ∷ b ∷ c ∷ []) two h = two_do_not_lack _ _ _ h
 two_units_lack high (a ∷ b ∷ c ∷ d ∷ w) two h = two_do_not_lack _ _ _ h
 
--- a leading surrogate is a fault whatever follows it only where a unit does already
+-- a leading surrogate is a fault whatever follows it only if a unit follows already
 unit_follows : (high : Bool) (w : List ℕ) (k : FaultKind) → 2 ≤ length w → ((later : List ℕ) → option_map kind.Utf16 (unit_fault_kind (units_of high (w ++ later))) ≡ Some k)
     → is_leading_surrogate (first_unit high w) ≡ true → 4 ≤ length w
 unit_follows high w k two kinds l =
@@ -144,7 +144,7 @@ unit_follows high w k two kinds l =
     (λ (four : 4 ≤ length w). four)
     (cases_lt (length w) 4)
 
--- no code begins there
+-- no code begins at a fault of units
 no_code_of_units : (high : Bool) (w : List ℕ) (k : FaultKind) → 2 ≤ length w → ((later : List ℕ) → option_map kind.Utf16 (unit_fault_kind (units_of high (w ++ later))) ≡ Some k)
     → (later : List ℕ) (s : ℕ) → Stands utf16 (first_unit high w ∷ units_of high (drop 2 w ++ later)) 0 s → ⊥
 no_code_of_units high w k two kinds later s h =
@@ -216,7 +216,7 @@ all_at_end high w some h = record {
 Ends-few : (from : Form) (w : List ℕ) → 0 < length w → Lacks from w → Ends (ReadsParts from) w 0xFFFD (length w)
 Ends-few = by_form _ Ends-front (λ high. rw (is_units high, Lacks, ReadsParts) (all_at_end high))
 
--- The first byte or unit, or half a unit, is a fault of what nothing follows.
+-- The first byte or unit, or half a unit, is a fault if nothing follows.
 record EndsByFault (from : Form) (w : List ℕ) : Type 0 where
   pub shows : (ss : List ℕ) → Reads from (drop (fault_len from) w) ss → Reads from w (0xFFFD ∷ ss)
   pub counts : fault_count from w ≡ 1 + fault_count from (drop (fault_len from) w)

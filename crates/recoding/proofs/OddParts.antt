@@ -1,4 +1,4 @@
--- An odd last byte in parts: the leading surrogate before it takes it in.
+-- An odd last byte in parts: it belongs to the subpart of a leading surrogate before it.
 use Rattle.std.proofs.Common.{◌≡◌, ℕ, suc, ◌+◌, ◌*◌, ◌/◌, ◌%◌, ◌-◌, ◌<◌, ◌≤◌, ⊎_elim, Bool, true, false, List, [], ◌∷◌, ◌++◌, length, drop, flat_map, arith, refl, ap, ◌∙◌, append_assoc}
 use Rattle.std.specs.Prelude.{All}
 use Rattle.std.proofs.lemmas.Bool.{cases_Bool, cases_lt}
@@ -12,7 +12,7 @@ use Rattle.utf_lanes.specs.BytePairs.{bytes_of, unit_of}
 use Rattle.recoding.specs.Lossy.{odd_part}
 use Rattle.recoding.proofs.FrontBytes.{first_unit}
 
--- a unit that is no leading surrogate, or that another unit follows, takes no odd byte in
+-- an odd byte is a part of its own after a unit that is no leading surrogate, or that another unit follows
 after_other : (high : Bool) (a b : ℕ) (w : List ℕ) → is_leading_surrogate (unit_of high a b) ≡ false → odd_part high (a ∷ b ∷ w) ≡ odd_part high w
 after_other high a b [] e = refl
 after_other high a b (c ∷ []) e = rw e refl
@@ -38,7 +38,7 @@ odd_part_two high (a ∷ b ∷ w) later two more =
     (λ (no : is_leading_surrogate (unit_of high a b) ≡ false). after_other high a b (w ++ later) no)
     (cases_Bool (is_leading_surrogate (unit_of high a b)))
 
--- So text takes none in.
+-- An odd byte is a part of its own after text.
 
 scalar_is_none : (s : ℕ) → IsScalar s → is_leading_surrogate s ≡ false
 scalar_is_none s h = let none = h.no_surrogate in grind (arith, common_steps)

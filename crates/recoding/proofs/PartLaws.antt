@@ -5,7 +5,7 @@ use Rattle.std.specs.List.{concat}
 use Rattle.recoding.specs.Recoded.{Recoding, IsRecoded, FeedsEach, PartsAreRecoded, PartsDoNotMatter, fresh}
 use Rattle.recoding.proofs.Growing.{recoded_once}
 
--- what comes of the rest of the parts, whatever was held
+-- the output for the remaining parts, whatever was carried over
 rest_is_recoded : (r : Recoding) (parts : List (List ℕ)) (old new : List ℕ) → FeedsEach r parts old new
     → (grown : List ℕ) × (new ≡ old ++ grown) × IsRecoded r.from r.to (r.held ++ concat parts) grown
 rest_is_recoded r [] old new f = (f.grown, f.appended, rw (append-nil r.held) f.recoded)

@@ -1,4 +1,4 @@
--- What bytes are recoded as, as one list: parts that are fed, the end, and shards.
+-- The transcoded bytes, as one list: of parts that are fed, of the end, and of shards.
 use Rattle.std.proofs.Common.{◌≡◌, ℕ, ◌-◌, ◌≤◌, List, [], ◌∷◌, ◌++◌, length, take, drop, arith, refl, ap, sym, subst, ◌∙◌, append_assoc}
 use Rattle.std.proofs.lemmas.List.{append-nil, drop_all}
 use Rattle.std.specs.Prelude.{slice_range}
@@ -7,7 +7,7 @@ use Rattle.recoding.specs.TextForms.{text_form}
 use Rattle.recoding.specs.Recoded.{IsRecoded, Reads, Recoding, Feeds, Finishes}
 use Rattle.recoding.specs.RecodedBytes.{AddsLast, AddsOutcome, KeepsOutcome, IsRecodedApart, RecodedIsOne, outcome, recoded, shown_by}
 use Rattle.recoding.specs.Rooms.{FeedsInto, FinishesInto}
-use Rattle.recoding.specs.Shards.{IsShardEnd}
+use Rattle.recoding.specs.Boundaries.{IsBoundary}
 use Rattle.recoding.proofs.Growing.{recoded_once, recoded_nothing}
 use Rattle.recoding.proofs.JoinedShards.{shards_join}
 
@@ -30,7 +30,7 @@ recoded_is_one from to bytes out = (same_list from to bytes out, λ e. subst (λ
 pub recoded-nil : (from to : Form) → recoded from to [] ≡ []
 recoded-nil from to = sym (same_list from to [] [] (recoded_nothing from to))
 
--- What comes of a recoder.
+-- The output of a recoder.
 
 pub outcome_fed : (r : Recoding) (part old new : List ℕ) (s : Recoding) → Feeds r part old new s → KeepsOutcome r old part new s
 unfolding outcome
@@ -48,14 +48,14 @@ unfolding outcome
 outcome_finished r old new f =
     f.appended ∙ ap (λ xs. old ++ xs) (same_list r.from r.to r.held f.grown f.recoded ∙ ap (recoded r.from r.to) (sym (append-nil r.held)))
 
--- where nothing is held, nothing more comes
+-- if nothing is carried over, nothing more is written
 pub outcome_none : (r : Recoding) (old : List ℕ) → length r.held ≡ 0 → old ≡ outcome r old []
 unfolding outcome
 outcome_none r old none =
     let nothing : r.held ++ [] ≡ [] = append-nil r.held ∙ drop_all 0 r.held (omega arith) in
     sym (ap (λ xs. old ++ recoded r.from r.to xs) nothing ∙ ap (λ xs. old ++ xs) (recoded-nil r.from r.to) ∙ append-nil old)
 
--- The same of room of a fixed size.
+-- The output of a recoder into a buffer of a fixed size.
 
 pub outcome_fed_into : {r s : Recoding} {part room new : List ℕ} {read wrote : ℕ} → FeedsInto r part room new read wrote s
     → AddsOutcome r (take read part) (take wrote new) s
@@ -75,7 +75,7 @@ outcome_finished_into {r} {s} {new = new} {wrote} f out =
 
 -- Shards.
 
-pub recoded_apart : (from : Form) (bytes : List ℕ) (n : ℕ) → n ≤ length bytes → IsShardEnd from bytes n → IsRecodedApart from bytes n
+pub recoded_apart : (from : Form) (bytes : List ℕ) (n : ℕ) → n ≤ length bytes → IsBoundary from bytes n → IsRecodedApart from bytes n
 recoded_apart from bytes n le ends to =
     let first : List ℕ = recoded from to (slice_range bytes 0 n) in
     let then : List ℕ = recoded from to (drop n bytes) in

@@ -1,4 +1,4 @@
--- Recoding to the end of an output, step by step, and what its callers have of it.
+-- Transcoding to the end of an output, step by step, and the results for its callers.
 use Rattle.std.proofs.Common.{◌≡◌, ℕ, ◌+◌, ◌-◌, ◌*◌, ◌<◌, ◌≤◌, Bool, true, false, List, [], ◌++◌, length, take, drop, arith, rules, ap, ap₂, sym, subst, ◌∙◌, length-append, length-drop, length-take, take-append-drop}
 use Rattle.std.proofs.lemmas.List.{take_rest, drop-drop, drop_all}
 use Rattle.std.specs.Prelude.{IsTrue, IsFalse, Vec, vec_len, vec_capacity}
@@ -19,7 +19,7 @@ use Rattle.recoding.proofs.Growing.{length_written}
 use Rattle.recoding.proofs.TextRuns.{text_room}
 
 module _ {O : Type 0} {appends : O → List ℕ → O → Type 0} {way : Way} {from to : Form} {bytes : List ℕ} where
-  -- nothing is recoded yet
+  -- nothing is transcoded yet
   pub Recodes-none : ((a : O) → appends a [] a) → {out : O} → Recodes appends way from to bytes out out 0 0
   Recodes-none none {out} = record {
     grown = [];
@@ -30,7 +30,7 @@ module _ {O : Type 0} {appends : O → List ℕ → O → Type 0} {way : Way} {f
     becomes = Becomes-none way from to (take 3 bytes);
   }
 
-  -- the bytes that another left
+  -- the bytes that another step left
   pub Recodes-then : ((a b c : O) (xs ys : List ℕ) → appends a xs b → appends b ys c → appends a (xs ++ ys) c) → {old mid new : O} {p n j k : ℕ}
       → Recodes appends way from to bytes old mid p j → Recodes appends way from to (take (length bytes - p) (drop p bytes)) mid new n k → Recodes appends way from to bytes old new (p + n) (j + k)
   Recodes-then more {old} {mid} {new} {p} {n} f rest =
@@ -44,7 +44,7 @@ module _ {O : Type 0} {appends : O → List ℕ → O → Type 0} {way : Way} {f
         becomes = run_after bytes p n f.becomes g.becomes;
       }
 
-  -- text that another left
+  -- text that another step left
   pub Recodes-text : ((a b c : O) (xs ys : List ℕ) → appends a xs b → appends b ys c → appends a (xs ++ ys) c) → {old mid new : O} {p n k : ℕ}
       → Recodes appends way from to bytes old mid p k → PutsText appends from to (take (length bytes - p) (drop p bytes)) mid new n → Recodes appends way from to bytes old new (p + n) k
   Recodes-text more {old} {mid} {new} {p} {n} {k} f rest =
@@ -60,7 +60,7 @@ module _ {O : Type 0} {appends : O → List ℕ → O → Type 0} {way : Way} {f
       let same : k + 0 ≡ k = omega arith in
       subst (λ m. Recodes appends way from to bytes old new (p + n) m) same (Recodes-then more f run)
 
-  -- one piece, told by four bytes
+  -- one piece, decided by four bytes
   pub Recodes-code : ((a b c : O) (xs ys : List ℕ) → appends a xs b → appends b ys c → appends a (xs ++ ys) c) → {old mid new : O} {p s n j k : ℕ}
       → Recodes appends way from to bytes old mid p j → BeginsBy way from (take 4 (drop p bytes)) s n k → appends mid (written to s) new → Recodes appends way from to bytes old new (p + n) (j + k)
   Recodes-code more {old} {mid} {new} {p} {s} {n} f begins put =
@@ -82,35 +82,35 @@ module _ {O : Type 0} {appends : O → List ℕ → O → Type 0} {way : Way} {f
       let same : j + 0 ≡ j = omega arith in
       subst (λ m. Recodes appends way from to bytes old new (p + n) m) same (Recodes-code more f begins put)
 
-  -- room for all bytes is room for a code that begins the ones left
+  -- capacity for all bytes is capacity for a code that begins the ones left
   pub room_for_next : {room : O → ℕ} → ((a b : O) (xs : List ℕ) → appends a xs b → room a ≤ room b + length xs) → {old mid : O} {p s n k : ℕ}
       → Recodes appends way from to bytes old mid p k → Decides (reads_by way from) (take 4 (drop p bytes)) s n → 3 * length bytes ≤ room old → length (written to s) ≤ room mid
   room_for_next law {old} {mid} {p} {s} {n} f d all =
       omega (arith, all, law old mid f.grown f.appended, f.short, f.within, length_written to s n d.some d.wide, d.within, length-drop p bytes, length-take 4 (drop p bytes))
 
-  -- and for the ones left
+  -- capacity for all bytes is capacity for the ones left
   pub room_for_rest : {room : O → ℕ} → ((a b : O) (xs : List ℕ) → appends a xs b → room a ≤ room b + length xs) → {old mid : O} {p k : ℕ}
       → Recodes appends way from to bytes old mid p k → 3 * length bytes ≤ room old → 3 * length (take (length bytes - p) (drop p bytes)) ≤ room mid
   room_for_rest law {old} {mid} {p} f all =
       omega (arith, all, law old mid f.grown f.appended, f.short, f.within, length-drop p bytes, length-take (length bytes - p) (drop p bytes))
 
--- How far a run went.
+-- The end of a run.
 
 no_truth : IsTrue false → ⊥
 no_truth is = absurd cc
 
 module _ {O : Type 0} {appends : O → List ℕ → O → Type 0} {room : O → ℕ} {way : Way} {from to : Form} {bytes : List ℕ} {old new : O} where
-  -- what follows decides
+  -- the run ends since what follows decides
   pub Reaches-waiting : {n k : ℕ} → Recodes appends way from to bytes old new n k → length bytes ≤ n + 3 → Lacks from (drop n bytes)
       → Reaches appends room way from to bytes old new (record { read = n; replaced = k; is_full = false; is_waiting = true })
   Reaches-waiting f waits lacks = record { runs = f; full = λ is. absurd (no_truth is); short = λ is. absurd (no_truth is); waits = λ is. waits; lacks = λ is. lacks }
 
-  -- all the bytes were recoded
+  -- all the bytes were transcoded
   pub Reaches-end : {n k : ℕ} → Recodes appends way from to bytes old new n k → n ≡ length bytes
       → Reaches appends room way from to bytes old new (record { read = n; replaced = k; is_full = false; is_waiting = true })
   Reaches-end {n} f e = Reaches-waiting f (omega arith) (rw (drop_all n bytes (omega arith)) (lacks_all from))
 
-  -- there is no room for the code that begins the bytes left, and nothing more was put
+  -- there is no capacity for the code that begins the bytes left, and nothing more was written
   pub Reaches-full : {mid : O} {n k s len faults : ℕ} → Recodes appends way from to bytes old mid n k → new ≡ mid → BeginsBy way from (take 4 (drop n bytes)) s len faults → room mid < length (written to s)
       → room mid < 4 → Reaches appends room way from to bytes old new (record { read = n; replaced = k; is_full = true; is_waiting = false })
   Reaches-full {mid} {n} {k} {s} {len} f kept begins longer short =
@@ -118,11 +118,11 @@ module _ {O : Type 0} {appends : O → List ℕ → O → Type 0} {room : O → 
       let full : NextIsLonger way from to xs (room mid) = rw (take-append-drop 4 xs) at (NextIsLonger-of way (take 4 xs) (drop 4 xs) begins longer) in
       rw kept (record { runs = f; full = λ is. full; short = λ is. short; waits = λ is. absurd (no_truth is); lacks = λ is. absurd (no_truth is) })
 
-  -- neither
+  -- the run ends for neither reason
   pub Reaches-on : {n k : ℕ} → Recodes appends way from to bytes old new n k → Reaches appends room way from to bytes old new (record { read = n; replaced = k; is_full = false; is_waiting = false })
   Reaches-on f = record { runs = f; full = λ is. absurd (no_truth is); short = λ is. absurd (no_truth is); waits = λ is. absurd (no_truth is); lacks = λ is. absurd (no_truth is) }
 
-  -- a run over the bytes that another left
+  -- a run over the bytes that another run left
   pub Reaches-then : {mid : O} {p k : ℕ} {reached : Reached} → ((a b c : O) (xs ys : List ℕ) → appends a xs b → appends b ys c → appends a (xs ++ ys) c)
       → Recodes appends way from to bytes old mid p k → Reaches appends room way from to (take (length bytes - p) (drop p bytes)) mid new reached
       → Reaches appends room way from to bytes old new (record { read = p + reached.read; replaced = k + reached.replaced; is_full = reached.is_full; is_waiting = reached.is_waiting })
@@ -137,12 +137,12 @@ module _ {O : Type 0} {appends : O → List ℕ → O → Type 0} {room : O → 
         lacks = rw left at g.lacks;
       }
 
--- The same to another output.
+-- Transcoding to one type of output, as transcoding to another.
 pub Recodes-as : {O P : Type 0} {appends : O → List ℕ → O → Type 0} {other : P → List ℕ → P → Type 0} {way : Way} {from to : Form} {bytes : List ℕ} {a b : O} {c d : P} {n k : ℕ}
     → ((xs : List ℕ) → appends a xs b → other c xs d) → Recodes appends way from to bytes a b n k → Recodes other way from to bytes c d n k
 Recodes-as turn f = record { grown = f.grown; appended = turn f.grown f.appended; within = f.within; short = f.short; few = f.few; becomes = f.becomes }
 
--- what a room was filled with, of the slice
+-- the bytes that were written to a slice
 pub FillsPlace-of : (a b : Room) (old new : List ℕ) (place : ℕ) → a.bytes.now ≡ old → a.len ≡ place → b.bytes.now ≡ new → (xs : List ℕ) → FillsRoom a xs b
     → FillsPlace (at_place old place) xs (at_place new b.len)
 FillsPlace-of a b old new place e f h xs fills =
@@ -154,7 +154,7 @@ FillsPlace-of a b old new place e f h xs fills =
       front = ap (take b.len) (sym h) ∙ fills.front ∙ ap₂ (λ k ys. take k ys ++ xs) f e;
     }
 
--- where the room is enough for all, no code is longer than it
+-- if the buffer is enough for all, no code is longer than it
 never_full : {Z : Type 0} {way : Way} {from to : Form} {bytes : List ℕ} {old new : Vec ℕ Z} {read k : ℕ} → HasRoomFor old (length bytes) → Recodes Extends way from to bytes old new read k
     → NextIsLonger way from to (drop read bytes) (vec_capacity new - vec_len new) → ⊥
 never_full {to = to} {bytes} {old} {new} {read} room runs full =
@@ -166,7 +166,7 @@ unless_full : (P : Type 0) (b : Bool) → (IsTrue b → ⊥) → (IsFalse b → 
 unless_full P true never waits = absurd (never (search rules))
 unless_full P false never waits = waits (search rules)
 
--- so a run ends since what follows decides
+-- if the buffer is enough for all, a run ends only since what follows decides
 pub waits_where_room : {Z : Type 0} {way : Way} {from to : Form} {bytes : List ℕ} {old new : Vec ℕ Z} {reached : Reached} → HasRoomFor old (length bytes)
     → Reaches Extends (λ v. vec_capacity v - vec_len v) way from to bytes old new reached → (IsFalse reached.is_full → IsTrue reached.is_waiting) → IsTrue reached.is_waiting
 waits_where_room {reached = reached} room f ends = unless_full (IsTrue reached.is_waiting) reached.is_full (λ is. never_full room f.runs (f.full is)) ends

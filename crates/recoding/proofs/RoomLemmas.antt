@@ -1,4 +1,4 @@
--- Parts of lists, and what begins bytes that others follow.
+-- Parts of lists, and the piece that begins bytes that others follow.
 use Rattle.std.proofs.Common.{◌≡◌, ℕ, ◌+◌, ◌-◌, ◌≤◌, List, ◌++◌, take, drop, arith, ap, ap₂, sym, ◌∙◌, append_assoc, length-append, take-append-drop}
 use Rattle.std.proofs.lemmas.List.{drop-take, take-take, drop-append-le}
 use Rattle.recoding.specs.NextScalars.{Decides}
@@ -11,7 +11,7 @@ cut_part n m xs le =
 pub take_more : (n m : ℕ) (xs : List ℕ) → take n xs ++ take m (drop n xs) ≡ take (n + m) xs
 take_more n m xs = sym (ap₂ (λ ys zs. ys ++ zs) (take-take n (n + m) xs (omega arith)) (drop-take n m xs)) ∙ take-append-drop n (take (n + m) xs)
 
--- what is decided of some bytes is so whatever follows them
+-- what some bytes decide is decided whatever follows them
 pub Decides-more : (reads : List ℕ → List ℕ → Type 0) (w x : List ℕ) (s n : ℕ) → Decides reads w s n → Decides reads (w ++ x) s n
 Decides-more reads w x s n d =
     let within = d.within in

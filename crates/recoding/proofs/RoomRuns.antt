@@ -1,4 +1,4 @@
--- How long codes are, and bytes written after others.
+-- The length of codes, and bytes written after others.
 use Rattle.std.proofs.Common.{ℕ, ◌<◌, ◌≤◌, List, [], ◌++◌, length, take, arith, refl, sym, ap, ◌∙◌, append_assoc, append-nil, length-append, length-take}
 use Rattle.utf_base.specs.Code.{utf16}
 use Rattle.utf_base.specs.Scalar.{IsScalar}
@@ -12,11 +12,11 @@ use Rattle.recoding.proofs.Growing.{two_bytes}
 use Rattle.utf_lanes.specs.UnitCodes.{code_at, lane_unit, WritesUnits}
 use Rattle.utf_lanes.specs.Utf8ToUtf16.{concat_range}
 
--- a code has no more than four bytes
+-- a code has at most four bytes
 pub few_written : (to : Form) (s : ℕ) → length (written to s) ≤ 4
 few_written = by_form _ length_utf8 (λ high. rw (is_units high, written) (λ s. omega (arith, two_bytes high (utf16 s), length_utf16 s)))
 
--- and some
+-- a code has at least one byte
 pub some_written : (to : Form) (s : ℕ) → IsScalar s → 0 < length (written to s)
 some_written = by_form _ utf8_is_code.some (λ high. rw (is_units high, written) (λ s scalar. omega (arith, two_bytes high (utf16 s), utf16_is_code.some s scalar)))
 

@@ -1,156 +1,218 @@
--- The last place before another over which no code lies.
-use Rattle.std.proofs.Common.{◌≡◌, ℕ, ◌+◌, ◌-◌, ◌*◌, ◌/◌, ◌%◌, ◌<◌, ◌≤◌, ⊎_elim, Bool, List, [], ◌∷◌, ◌++◌, length, get_or, drop, arith, refl}
+-- The last offset before another that is inside no part.
+use Rattle.std.proofs.Common.{◌≡◌, ℕ, ◌+◌, ◌-◌, ◌*◌, ◌/◌, ◌%◌, ◌<◌, ◌≤◌, ⊎_elim, Bool, true, false, Some, None, Option, List, length, drop, get_or, arith, refl, ap, sym, ◌∙◌}
 use Rattle.std.proofs.lemmas.Bool.{cases_lt}
-use Rattle.std.proofs.lemmas.List.{take_rest}
-use Rattle.std.specs.Prelude.{Some}
-use Rattle.utf_base.specs.Units.{slice_fault}
-use Rattle.utf_base.specs.declared.errors.units.Utf16SliceError.{Utf16SliceError}
+use Rattle.std.proofs.lemmas.Grind.{common_steps}
 use Rattle.utf_base.specs.Code.{IsCode, utf8, utf16}
-use Rattle.utf_base.specs.Front.{BeginsWith}
-use Rattle.utf_base.specs.Piece.{Stands, Inside}
-use Rattle.utf_base.proofs.UnitLemmas.{no_units_where_fault}
-use Rattle.utf_base.proofs.Standing.{not_inside, outside_end, same_char, stands_in_part, stands_in_whole}
+use Rattle.utf_base.specs.Piece.{Inside}
+use Rattle.utf_base.specs.Scalar.{IsScalar}
+use Rattle.utf_base.specs.Subparts.{IsPart}
+use Rattle.utf_base.specs.Units.{is_leading_surrogate}
+use Rattle.utf_base.proofs.PartLists.{one_part, part_in_list}
+use Rattle.utf_base.proofs.Standing.{Stands-at}
+use Rattle.utf_base.proofs.SubpartLemmas.{element_of_front, element_of_range, length_of_range}
 use Rattle.utf_base.proofs.Utf8Code.{utf8_is_code, length_utf8}
-use Rattle.utf_base.proofs.Utf16Code.{utf16_is_code, length_utf16}
+use Rattle.utf_base.proofs.Utf16Code.{utf16-trailing_surrogate}
+use Rattle.utf_lanes.proofs.UnitPairs.{unit_at}
+use Rattle.utf_lanes.specs.BytePairs.{unit_of, units_of}
 use Rattle.recoding.specs.declared.form.Form.{Form}
+use Rattle.recoding.specs.Boundaries.{IsLastTo, IsLastUnitsEnd}
+use Rattle.recoding.specs.Shards.{BeginsPart, InsidePart, IsLastOutsidePart, IsLastUnitsShardEnd, IsShardEnd, IsUnitsShardEnd}
 use Rattle.recoding.proofs.Forms.{by_form, is_units}
-use Rattle.utf_lanes.specs.BytePairs.{units_of, unit_of}
-use Rattle.recoding.specs.Shards.{IsShardEnd, IsLastShardEnd, IsLastOutside, IsLastUnitsEnd, IsUnitsEnd, LiesOver}
-use Rattle.recoding.proofs.JoinedShards.{even_units, units_within}
+use Rattle.recoding.proofs.LastBoundaries.{units_end_at_end}
+use Rattle.recoding.proofs.LossyLists.{one_unit}
+use Rattle.recoding.proofs.LossyShards.{no_unit_of_one, outside_codes}
 
--- A list and its rest.
+-- A part of more than one element.
 
-pub stands_in_rest : (code : ℕ → List ℕ) (xs : List ℕ) (i s : ℕ) → Stands code xs i s → Stands code (drop i xs) 0 s
-stands_in_rest code xs i s h =
-    let within = h.within in
-    rw (take_rest xs i) at (stands_in_part code xs i (length xs) 0 i s (omega arith) (omega arith) h within)
+-- the elements of a part of more than one begin a code
+record BeginsCode (code : ℕ → List ℕ) (xs : List ℕ) (p n : ℕ) : Type 0 where
+  pub char : ℕ
+  pub scalar : IsScalar char
+  pub within : n ≤ length (code char)
+  pub element : (k : ℕ) → k < n → get_or xs (p + k) 0 ≡ get_or (code char) k 0
 
-pub stands_in_list : (code : ℕ → List ℕ) (xs : List ℕ) (i s : ℕ) → i ≤ length xs → Stands code (drop i xs) 0 s → Stands code xs i s
-stands_in_list code xs i s le h = (stands_in_whole code xs i (length xs) 0 i s (omega arith) le (omega arith) (rw (take_rest xs i) h)).0
-
--- Where no code lies over a place it is the last itself.
-last_here : (code : ℕ → List ℕ) (xs : List ℕ) (at : ℕ) → (Inside code xs at → ⊥) → IsLastOutside code xs at at
-last_here code xs at out = record { before = omega arith; outside = out; last = λ m le h. le }
-
--- Else it is the front of the code that lies over it.
-last_before : (code : ℕ → List ℕ) → IsCode code → (xs : List ℕ) (n at : ℕ) → n < at → LiesOver code xs n at → IsLastOutside code xs at n
-last_before code c xs n at lt over =
-    let ends = over.ends in
+begins_code : (code : ℕ → List ℕ) (xs : List ℕ) (p n : ℕ) (a : Option ℕ) → IsPart code xs p n a → 1 < n → BeginsCode code xs p n
+begins_code code xs p n (Some s) (h, e) more = record {
+  char = s;
+  scalar = h.scalar;
+  within = omega (arith, e);
+  element = λ k lt. Stands-at code xs p s k (p + k) refl h (omega (arith, e));
+}
+begins_code code xs p n None h more =
+    let f = h.front more in
+    let len = length_of_range xs p n h.within in
     record {
-      before = omega arith;
-      outside = not_inside code c xs n over.char over.stands;
-      last = λ m le out.
-          ⊎_elim
-          (λ (later : n < m). absurd (out (record { from = n; char = over.char; stands = over.stands; begins = later; ends = omega arith })))
-          (λ (early : m ≤ n). early)
-          (cases_lt n m);
+      char = f.char;
+      scalar = f.scalar;
+      within = omega (arith, f.within);
+      element = λ k lt. sym (element_of_range xs p n k lt h.within) ∙ element_of_front _ (code f.char) k (omega arith) f.front;
     }
+
+-- no part begins inside another
+not_inside_part : (code : ℕ → List ℕ) → IsCode code → (xs : List ℕ) (p n : ℕ) (a : Option ℕ) → IsPart code xs p n a → 1 < n → InsidePart code xs p → ⊥
+not_inside_part code c xs p n a h more v =
+    let begins = v.begins in
+    let ends = v.ends in
+    let x = begins_code code xs p n a h more in
+    let y = begins_code code xs v.from v.len v.char v.part (omega arith) in
+    let within = y.within in
+    let here : v.from + (p - v.from) ≡ p = omega arith in
+    let none : p + 0 ≡ p = omega arith in
+    let inner : get_or xs p 0 ≡ get_or (code y.char) (p - v.from) 0 = rw here at (y.element (p - v.from) (omega arith)) in
+    let first : get_or xs p 0 ≡ get_or (code x.char) 0 0 = rw none at (x.element 0 (omega arith)) in
+    c.apart y.char x.char (p - v.from) y.scalar x.scalar (omega arith) (omega arith) (sym inner ∙ first)
 
 -- Bytes.
 
--- no code that begins at a place from the one on, and before the other, lies over `at`
-abbrev pub NoneOver : List ℕ → ℕ → ℕ → ℕ → Type 0
-NoneOver xs least place at = (p s : ℕ) → least ≤ p → p < place → Stands utf8 xs p s → p + length (utf8 s) ≤ at
+most_in_part : (xs : List ℕ) (p n : ℕ) (a : Option ℕ) → IsPart utf8 xs p n a → n ≤ 4
+most_in_part xs p n a h =
+    ⊎_elim (λ (more : 1 < n). let b = begins_code utf8 xs p n a h more in let long = length_utf8 b.char in let within = b.within in omega arith) (λ (one : n ≤ 1). omega arith) (cases_lt 1 n)
 
-pub utf8_not_over : (xs : List ℕ) (p at s n : ℕ) → BeginsWith utf8 (drop p xs) s n → p + n ≤ at → (t : ℕ) → Stands utf8 xs p t → p + length (utf8 t) ≤ at
-utf8_not_over xs p at s n (h, e) le t g =
-    let same : t ≡ s = same_char utf8 utf8_is_code (drop p xs) 0 t s (stands_in_rest utf8 xs p t g) h in
-    rw same (omega arith)
+-- no part that begins at an offset from the first on, and before the second, extends past `at`
+abbrev pub NoPartOver : List ℕ → ℕ → ℕ → ℕ → Type 0
+NoPartOver xs least place at = (p n : ℕ) (a : Option ℕ) → least ≤ p → p < place → IsPart utf8 xs p n a → p + n ≤ at
 
-pub utf8_last_before : (xs : List ℕ) (n at : ℕ) → n < at → LiesOver utf8 xs n at → IsLastOutside utf8 xs at n
-utf8_last_before = last_before utf8 utf8_is_code
+here : (xs : List ℕ) (p n : ℕ) → p ≤ length xs → BeginsPart (drop p xs) n → (a : Option ℕ) × IsPart utf8 xs p n a
+here xs p n le (a, h) = let none : p + 0 ≡ p = omega arith in (a, rw none at (part_in_list utf8 xs p 0 n a le h))
 
-pub utf8_last_here : (xs : List ℕ) (least at : ℕ) → least ≡ at - 3 → NoneOver xs least at at → IsLastOutside utf8 xs at at
-utf8_last_here xs least at near none =
-    last_here utf8 xs at
-    (λ v.
-    let begins = v.begins in
-    let long = length_utf8 v.char in
-    let fits = none v.from v.char (omega arith) begins v.stands in
+pub more_parts_end : (xs : List ℕ) (least place at n : ℕ) → place ≤ length xs → NoPartOver xs least place at → BeginsPart (drop place xs) n → place + n ≤ at → NoPartOver xs least (place + 1) at
+more_parts_end xs least place at n le none b fits p m a lo hi h =
+    ⊎_elim
+    (λ (early : p < place). none p m a lo early h)
+    (λ (late : place ≤ p).
+    let e : p ≡ place = omega arith in
+    let first = here xs place n le b in
+    let same = (one_part utf8 utf8_is_code xs place m n a first.0 (rw e at h) first.1).0 in
     omega arith)
+    (cases_lt p place)
 
--- Two units.
+pub last_before_part : (xs : List ℕ) (p n at : ℕ) → p < at → p ≤ length xs → BeginsPart (drop p xs) n → at < p + n → IsLastOutsidePart xs at p
+last_before_part xs p n at lt le b over =
+    let first = here xs p n le b in
+    record {
+      before = omega arith;
+      outside = not_inside_part utf8 utf8_is_code xs p n first.0 first.1 (omega arith);
+      last = λ m hi out.
+          ⊎_elim
+          (λ (later : p < m). absurd (out (record { from = p; len = n; char = first.0; part = first.1; begins = later; ends = omega arith })))
+          (λ (early : m ≤ p). early)
+          (cases_lt p m);
+    }
 
-two_units : (high : Bool) (w : List ℕ) → 4 ≤ length w
-    → (ys : List ℕ) × (units_of high w ≡ (unit_of high (get_or w 0 0) (get_or w 1 0) ∷ unit_of high (get_or w 2 0) (get_or w 3 0) ∷ []) ++ ys)
-two_units high [] h = absurd (omega arith)
-two_units high (a ∷ []) h = absurd (omega arith)
-two_units high (a ∷ b ∷ []) h = absurd (omega arith)
-two_units high (a ∷ b ∷ c ∷ []) h = absurd (omega arith)
-two_units high (a ∷ b ∷ c ∷ d ∷ w) h = (units_of high w, refl)
+pub last_outside_parts : (xs : List ℕ) (least at : ℕ) → least ≡ at - 3 → NoPartOver xs least at at → IsLastOutsidePart xs at at
+last_outside_parts xs least at near none = record {
+  before = omega arith;
+  outside = λ v.
+      let begins = v.begins in
+      let ends = v.ends in
+      let long = most_in_part xs v.from v.len v.char v.part in
+      let fits = none v.from v.len v.char (omega arith) begins v.part in
+      omega arith;
+  last = λ m hi out. hi;
+}
 
--- what begins a list of two units and more begins the two
-in_two : (u v : ℕ) (ys : List ℕ) (s : ℕ) → Stands utf16 ((u ∷ v ∷ []) ++ ys) 0 s → Stands utf16 (u ∷ v ∷ []) 0 s
-in_two u v ys s h =
-    let most = length_utf16 s in
-    stands_in_part utf16 ((u ∷ v ∷ []) ++ ys) 0 2 0 0 s refl (omega arith) h (omega arith)
+-- Units.
 
-module _ (high : Bool) (w : List ℕ) (four : 4 ≤ length w) where
-  pub no_pair : (s n : ℕ) → BeginsWith utf16 (unit_of high (get_or w 0 0) (get_or w 1 0) ∷ unit_of high (get_or w 2 0) (get_or w 3 0) ∷ []) s n → n ≤ 1
-      → (t : ℕ) → Stands utf16 (units_of high w) 0 t → length (utf16 t) ≤ 1
-  no_pair s n (h, e) le t g =
-      let two = two_units high w four in
-      let same : t ≡ s = same_char utf16 utf16_is_code _ 0 t s (in_two _ _ two.0 t (rw two.1 at g)) h in
-      rw same (omega arith)
+outside_units : (xs : List ℕ) (n : ℕ) → (Inside utf16 xs n → ⊥) → InsidePart utf16 xs n → ⊥
+outside_units xs n out v = inside v.from v.len v.char v.part v.begins v.ends
+  where
+    inside : (from len : ℕ) (a : Option ℕ) → IsPart utf16 xs from len a → from < n → n < from + len → ⊥
+    inside from len (Some s) (h, e) begins ends = out (record { from = from; char = s; stands = h; begins = begins; ends = omega (arith, e) })
+    inside from len None h begins ends = let one = one_unit xs from len h in absurd (omega arith)
 
-  pub no_pair_at_fault : (k : Utf16SliceError) → slice_fault (unit_of high (get_or w 0 0) (get_or w 1 0) ∷ unit_of high (get_or w 2 0) (get_or w 3 0) ∷ []) ≡ Some k
-      → (t : ℕ) → Stands utf16 (units_of high w) 0 t → length (utf16 t) ≤ 1
-  no_pair_at_fault k e t g =
-      let two = two_units high w four in
-      absurd (no_units_where_fault _ k t e (in_two _ _ two.0 t (rw two.1 at g)))
+-- a leading surrogate is inside no code
+no_lead_in_code : (xs : List ℕ) (n : ℕ) → is_leading_surrogate (get_or xs n 0) ≡ true → Inside utf16 xs n → ⊥
+no_lead_in_code xs n leads v =
+    let begins = v.begins in
+    let ends = v.ends in
+    let unit = Stands-at utf16 xs v.from v.char (n - v.from) n (omega arith) v.stands (omega arith) in
+    let trails = (utf16-trailing_surrogate v.char (n - v.from) v.stands.scalar (omega arith) (omega arith)).0 in
+    leads_low (get_or xs n 0) leads (omega arith)
+  where
+    leads_low : (u : ℕ) → is_leading_surrogate u ≡ true → 0xDC00 ≤ u → ⊥
+    leads_low u leads high = grind (arith, common_steps)
 
--- The place at whole units, where a pair lies over it and where none does.
-module _ (high : Bool) (bytes : List ℕ) (at n : ℕ) (lt : at < length bytes) (whole : n ≡ at - at % 2) where
-  units_last : (k j : ℕ) → n ≡ 2 * k → j ≤ k → IsLastOutside utf16 (units_of high bytes) k j → IsLastUnitsEnd high bytes at (2 * j)
-  units_last k j e le l = record {
-    before = omega arith;
-    outside = record { even = λ within. omega arith; outside = let half : 2 * j / 2 ≡ j = omega arith in rw half l.outside };
-    last = λ m lo end.
-        let even = end.even (omega arith) in
-        let half = l.last (m / 2) (omega arith) end.outside in
-        omega arith;
+-- the unit before an offset is a leading surrogate
+abbrev pub leads_before : Bool → List ℕ → ℕ → Bool
+leads_before high bytes n = is_leading_surrogate (get_or (units_of high bytes) (n / 2 - 1) 0)
+
+-- A boundary is a shard end, except between a leading surrogate and an odd last byte.
+module _ (high : Bool) (bytes : List ℕ) (at n : ℕ) (lt : at < length bytes) (l : IsLastUnitsEnd high bytes at n) where
+  abbrev units : List ℕ
+  units = units_of high bytes
+
+  ends_before : (m : ℕ) → m ≤ at → IsUnitsShardEnd high bytes m → m ≤ n
+  ends_before m lo end = l.last m lo (record { even = end.even; outside = outside_codes utf16 units (m / 2) end.outside })
+
+  pub boundary_is_end : (n + 1 ≡ length bytes → 2 ≤ n → leads_before high bytes n ≡ false) → IsLastUnitsShardEnd high bytes at n
+  boundary_is_end none = record {
+    before = l.before;
+    outside = record {
+      even = l.outside.even;
+      outside = outside_units units (n / 2) l.outside.outside;
+      odd = λ last.
+          let even = l.outside.even (omega arith) in
+          ⊎_elim
+          (λ (few : n < 2). let first : n / 2 - 1 ≡ 0 = omega arith in rw first (no_unit_of_one high bytes (omega arith)))
+          (λ (two : 2 ≤ n). none last two)
+          (cases_lt n 2);
+    };
+    last = ends_before;
   }
 
-  pub end_before_pair : 2 ≤ n → LiesOver utf16 (units_of high (drop (n - 2) bytes)) 0 1 → IsLastUnitsEnd high bytes at (n - 2)
-  end_before_pair two over =
-      let e : n ≡ 2 * (n / 2) = omega arith in
-      let units = (even_units high bytes (n - 2) (n / 2 - 1) (omega arith) (omega arith)).1 in
-      let front : Stands utf16 (drop (n / 2 - 1) (units_of high bytes)) 0 over.char = rw units at over.stands in
-      let count = units_within high bytes (n - 2) (n / 2 - 1) (omega arith) (omega arith) in
-      let ends = over.ends in
-      let pair : LiesOver utf16 (units_of high bytes) (n / 2 - 1) (n / 2)
-      = record { char = over.char; stands = stands_in_list utf16 (units_of high bytes) (n / 2 - 1) over.char count front; ends = omega arith } in
-      let place : 2 * (n / 2 - 1) ≡ n - 2 = omega arith in
-      rw place at (units_last (n / 2) (n / 2 - 1) e (omega arith) (last_before utf16 utf16_is_code (units_of high bytes) (n / 2 - 1) (n / 2) (omega arith) pair))
+  pub end_before_surrogate : n + 1 ≡ length bytes → 2 ≤ n → leads_before high bytes n ≡ true → IsLastUnitsShardEnd high bytes at (n - 2)
+  end_before_surrogate odd two leads =
+      let before = l.before in
+      let even = l.outside.even (omega arith) in
+      let place : (n - 2) / 2 ≡ n / 2 - 1 = omega arith in
+      record {
+        before = omega arith;
+        outside = record {
+          even = λ within. omega arith;
+          outside = rw place (outside_units units (n / 2 - 1) (no_lead_in_code units (n / 2 - 1) leads));
+          odd = λ last. absurd (omega arith);
+        };
+        last = λ m lo end.
+            let le = ends_before m lo end in
+            let whole = end.even (omega arith) in
+            ⊎_elim
+            (λ (less : m < n). omega arith)
+            (λ (same : n ≤ m).
+            let e : m ≡ n = omega arith in
+            let none : leads_before high bytes n ≡ false = rw e at (end.odd (omega arith)) in
+            absurd (both leads none))
+            (cases_lt m n);
+      }
+    where
+      both : leads_before high bytes n ≡ true → leads_before high bytes n ≡ false → ⊥
+      both leading other = cc
 
-  pub end_of_units : (2 ≤ n → (s : ℕ) → Stands utf16 (units_of high (drop (n - 2) bytes)) 0 s → length (utf16 s) ≤ 1) → IsLastUnitsEnd high bytes at n
-  end_of_units none =
-      let e : n ≡ 2 * (n / 2) = omega arith in
-      let place : 2 * (n / 2) ≡ n = omega arith in
-      let out : Inside utf16 (units_of high bytes) (n / 2) → ⊥ = λ v.
-      let most = length_utf16 v.char in
-      let from : v.from ≡ n / 2 - 1 = omega arith in
-      let units = (even_units high bytes (n - 2) (n / 2 - 1) (omega arith) (omega arith)).1 in
-      let front : Stands utf16 (units_of high (drop (n - 2) bytes)) 0 v.char = rw units (stands_in_rest utf16 (units_of high bytes) (n / 2 - 1) v.char (rw from at v.stands)) in
-      let single = none (omega arith) v.char front in
-      omega arith in
-      rw place at (units_last (n / 2) (n / 2) e (omega arith) (last_here utf16 (units_of high bytes) (n / 2) out))
+-- The end of the bytes.
 
--- No code lies over the end of the bytes.
+outside_parts_at_end : (code : ℕ → List ℕ) → IsCode code → (xs : List ℕ) → InsidePart code xs (length xs) → ⊥
+outside_parts_at_end code c xs v = ends v.from v.len v.char v.part v.ends
+  where
+    ends : (from len : ℕ) (a : Option ℕ) → IsPart code xs from len a → length xs < from + len → ⊥
+    ends from len (Some s) (h, e) over = let within = h.within in omega (arith, e)
+    ends from len None h over = let within = h.within in omega arith
 
-few_whole_units : (high : Bool) (bytes : List ℕ) → 2 * length (units_of high bytes) ≤ length bytes
-few_whole_units high [] = omega arith
-few_whole_units high (a ∷ []) = omega arith
-few_whole_units high (a ∷ b ∷ v) = let rest = few_whole_units high v in omega arith
-
-units_end_at_end : (high : Bool) (bytes : List ℕ) → IsUnitsEnd high bytes (length bytes)
-units_end_at_end high bytes = record {
+units_shard_end_at_end : (high : Bool) (bytes : List ℕ) → IsUnitsShardEnd high bytes (length bytes)
+units_shard_end_at_end high bytes = record {
   even = λ lt. absurd (omega arith);
-  outside = λ v. let within = v.stands.within in let ends = v.ends in omega (arith, few_whole_units high bytes);
+  outside = outside_units (units_of high bytes) (length bytes / 2) (units_end_at_end high bytes).outside;
+  odd = λ last. absurd (omega arith);
 }
 
 end_at_end : (from : Form) (bytes : List ℕ) → IsShardEnd from bytes (length bytes)
-end_at_end = by_form _ (outside_end utf8) (λ high. rw (is_units high, IsShardEnd) (units_end_at_end high))
+end_at_end = by_form _ (outside_parts_at_end utf8 utf8_is_code) (λ high. rw (is_units high, IsShardEnd) (units_shard_end_at_end high))
 
-pub last_is_end : (from : Form) (bytes : List ℕ) (at : ℕ) → length bytes ≤ at → IsLastShardEnd from bytes at (length bytes)
+pub last_is_end : (from : Form) (bytes : List ℕ) (at : ℕ) → length bytes ≤ at → IsLastTo (IsShardEnd from bytes) (length bytes) at (length bytes)
 last_is_end from bytes at le = record { within = omega arith; before = le; outside = end_at_end from bytes; last = λ m within before end. within }
+
+-- The unit before an offset is that of the two bytes before it.
+pub leads_by_bytes : (high : Bool) (bytes : List ℕ) (n : ℕ) → n ≤ length bytes → n % 2 ≡ 0 → 2 ≤ n
+    → leads_before high bytes n ≡ is_leading_surrogate (unit_of high (get_or bytes (n - 2) 0) (get_or bytes (n - 1) 0))
+leads_by_bytes high bytes n le even two =
+    let first : 2 * (n / 2 - 1) ≡ n - 2 = omega arith in
+    let second : n - 2 + 1 ≡ n - 1 = omega arith in
+    ap is_leading_surrogate (rw (first, second) at (unit_at high bytes (n / 2 - 1) (omega arith)))

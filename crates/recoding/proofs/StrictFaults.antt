@@ -1,4 +1,4 @@
--- A strict call stops at the first fault of what was fed.
+-- A strict call stops at the first fault of the bytes that were fed.
 use Rattle.std.proofs.Common.{◌≡◌, ℕ, ◌-◌, ◌/◌, ◌<◌, ◌≤◌, ⊎_elim, Bool, List, [], ◌++◌, length, take, drop, flat_map, Option, Some, None, arith, refl, ap, sym, subst, ◌∙◌, append-nil, append_assoc, length-append, length-drop}
 use Rattle.std.proofs.Math.Seq.{take-append_seam, drop-append_seam}
 use Rattle.std.proofs.lemmas.Bool.{cases_lt}
@@ -76,7 +76,7 @@ fault_after_units high cs rest all known =
           );
     }
 
--- The same in any form: where bytes are text and then a fault, that is the first.
+-- In any encoding: if bytes are text and then a fault, that is the first fault.
 
 told : (from : Form) (bytes : List ℕ) (n : ℕ) → (text_form from).first_fault bytes n → IsFirstFaultOf from bytes n
 told from bytes n h = (λ e. rw e at h, λ e. rw e at h, λ e. rw e at h)
@@ -88,7 +88,7 @@ first_after =
     (λ high. rw (is_units high, kind_of, written) (λ bytes rest k cs all parts some e n at.
     rw (parts, at, joined_bytes high cs) (fault_after_units high cs rest all (λ _. kind_within kind.Utf16 (unit_fault_kind (units_of high rest)) k e))))
 
--- What a call says of a recoder that held nothing.
+-- The result of a call for a recoder that carried over nothing.
 pub tells_first : (r : Recoding) (part old new : List ℕ) (p : StrictProgress) (s : Recoding) → FeedsStrictly r part old new p s → TellsFirst r part p s
 tells_first r part old new p s f = record {
   place = λ none fault e.
@@ -117,7 +117,7 @@ tells_first r part old new p s f = record {
       rw f.from (record { scalars = text.scalars; all = text.all; parts = parts ∙ ap (λ xs. f.text ++ xs) held ∙ ap (λ xs. xs ++ s.held) text.codes });
 }
 
--- where bytes are text, they have no fault
+-- if bytes are text, they have no fault
 none_in_units : (high : Bool) (cs : List ℕ) → All IsScalar cs → IsFirstUnitFault high (flat_map (bytes_of high) (flat_map utf16 cs)) (length (flat_map (bytes_of high) (flat_map utf16 cs)))
 none_in_units high cs all = rw (append-nil (flat_map (bytes_of high) (flat_map utf16 cs))) at (fault_after_units high cs [] all (λ some. absurd (omega arith)))
 
@@ -127,9 +127,9 @@ none_in_text =
     (λ bytes cs all is. rw is (good_all utf8 (flat_map utf8 cs) (length (flat_map utf8 cs)) (rw (append-nil (flat_map utf8 cs)) at (good_after_text cs [] all)) (omega arith)))
     (λ high. rw (is_units high, written) (λ bytes cs all is. rw (is, joined_bytes high cs) (none_in_units high cs all)))
 
--- What the end says.
+-- The result at the end.
 module _ (r : Recoding) (old new : List ℕ) (p : StrictProgress) (s : Recoding) (f : FinishesStrictly r old new p s) where
-  -- the bytes are text, and then what is left
+  -- the bytes are text, followed by the rest
   text_and_left : (bytes : List ℕ) → IsTextAndHeld r.from bytes r.held → IsTextAndHeld r.from bytes (f.fault ++ s.held)
   text_and_left bytes h =
       let text = f.transcodes in

@@ -1,4 +1,4 @@
--- Calls of strict recoding, step by step.
+-- Calls of strict transcoding, step by step.
 use Rattle.std.proofs.Common.{◌≡◌, ℕ, ◌+◌, ◌-◌, ◌*◌, ◌<◌, ◌≤◌, ⊎_elim, List, [], ◌++◌, length, min, take, drop, arith, refl, ap, ap₂, sym, subst, ◌∙◌, append-nil, append_assoc, length-append, length-drop, length-take, take-append-drop}
 use Rattle.std.proofs.Math.Seq.{drop-append-add}
 use Rattle.std.proofs.lemmas.Bool.{cases_lt}
@@ -37,11 +37,11 @@ drop_both n xs ys =
     drop-append-le n xs ys le ∙ ap (λ k. drop n xs ++ drop k ys) (sym none))
     (cases_lt (length xs) n)
 
--- what is left after so many bytes of what was held and a part
+-- the bytes that are left after the first n of the carried-over ones and a part
 pub pass_left : (n more : ℕ) (held now part : List ℕ) → now ≡ drop n held → more ≡ n - length held → drop n (held ++ part) ≡ now ++ drop more part
 pass_left n more held now part e f = drop_both n held part ∙ ap₂ (λ xs k. xs ++ drop k part) (sym e) (sym f)
 
--- What begins some bytes begins those with more after them.
+-- The piece that begins some bytes begins those with more after them.
 
 pub BeginsChar-more : (from : Form) (w x : List ℕ) (s n : ℕ) → BeginsChar from w s n → BeginsChar from (w ++ x) s n
 BeginsChar-more from w x s n d =
@@ -53,7 +53,7 @@ BeginsFault-more from w x k n f =
     let within = f.within in
     record { within = omega (arith, length-append w x); len = f.len; kind = λ later. rw (append_assoc w x later) (f.kind (x ++ later)) }
 
--- a fault has two bytes at most
+-- a fault has at most two bytes
 pub fault_few : (from : Form) → fault_len from ≤ 2
 fault_few = by_form _ (omega arith) (λ high. rw (is_units high, fault_len) (omega arith))
 
@@ -69,13 +69,13 @@ EndsFeed-fault from to w held rest k n room f e =
     let all : w ≡ take n w ++ (held ++ rest) = sym (take-append-drop n w) ∙ ap (λ zs. take n w ++ zs) e in
     (rw len (subst (λ zs. BeginsFault from zs k n) all f), record { len = sym len; back = ap (λ m. m + length held) (sym len) })
 
--- the fault and then the rest of it
+-- the fault, followed by the rest of the bytes
 pub fault_parts : (n : ℕ) (w held rest : List ℕ) → drop n w ≡ held ++ rest → w ≡ take n w ++ (held ++ rest)
 fault_parts n w held rest e = sym (take-append-drop n w) ∙ ap (λ zs. take n w ++ zs) e
 
--- How much room a call takes.
+-- The capacity that a call needs.
 
--- Two bytes of room for each byte are enough.
+-- Two bytes of capacity for each byte are enough.
 pub enough_room : {from to : Form} {text left : List ℕ} {wrote room : ℕ} (new : List ℕ) → Transcodes from to text (take wrote new) → wrote ≤ length new → 2 * (length text + length left) ≤ room
     → IsTooLong from to left (room - wrote) → ⊥
 enough_room {from} {to} {left = left} {wrote} new text fits enough long =
@@ -92,7 +92,7 @@ enough_room {from} {to} {left = left} {wrote} new text fits enough long =
       long.longer,
     ))
 
--- What callers have of a call.
+-- The results of a call for its callers.
 
 module _ (r : Recoding) (part old new : List ℕ) (s : Recoding) where
   -- All was read.
@@ -102,14 +102,14 @@ module _ (r : Recoding) (part old new : List ℕ) (s : Recoding) where
       let within = f.within in
       omega (arith, ap length ends.1, length-drop p.read part)
 
-  -- There is no room for a code.
+  -- There is no capacity for a code.
   pub room_is_short : (p : StrictProgress) → FeedsStrictly r part old new p s → p.outcome ≡ Full → length old < p.written + 4
   room_is_short p f e =
       let ends = subst (λ o. EndsFeed r.from r.to o f.fault s.held (drop p.read part) (length old - p.written)) e f.ends in
       let long = ends.1 in
       omega (arith, few_written r.to long.scalar, long.longer, f.fits)
 
-  -- There was none for what is left.
+  -- The capacity was too small for what is left.
   pub room_is_enough : (p : StrictProgress) → FeedsStrictly r part old new p s → length new ≡ length old → IsAmpleForText (length old) (length r.held + length part) → p.outcome ≡ Full → ⊥
   room_is_enough p f len enough e =
       let ends = subst (λ o. EndsFeed r.from r.to o f.fault s.held (drop p.read part) (length old - p.written)) e f.ends in
@@ -154,12 +154,12 @@ module _ (r : Recoding) (part old new : List ℕ) (s : Recoding) where
       let nothing : length part - 0 ≡ length part = omega arith in
       rw nothing (nearer_by p p.outcome f f.ends refl len room some)
 
--- What is held and the first bytes of the part, joined.
+-- The carried-over bytes and the first bytes of the part, joined.
 
 pub joined_left : (joined held part : List ℕ) → joined ≡ held ++ take 3 part → joined ++ drop 3 part ≡ held ++ part
 joined_left joined held part e = ap (λ xs. xs ++ drop 3 part) e ∙ append_assoc held (take 3 part) (drop 3 part) ∙ ap (λ xs. held ++ xs) (take-append-drop 3 part)
 
--- where few bytes are undecided, they are all that is left
+-- if few bytes are undecided, they are all that is left
 undecided_left : (joined held part : List ℕ) → joined ≡ held ++ take 3 part → length joined ≤ 3 → 0 < length held → joined ≡ held ++ part
 undecided_left joined held part e few some =
     let short : length (take 3 part) < 3 = omega (arith, ap length e, length-append held (take 3 part)) in
@@ -193,9 +193,9 @@ FeedsStrictly-run {r} {part = part} {old} {run = run} puts longer ends =
       few = ends.few;
     }
 
--- What was held, which nothing follows.
+-- The carried-over bytes, which nothing follows.
 
--- a fault whatever follows is one where nothing does
+-- a fault whatever follows is one if nothing does
 pub EndsInFault-of : (from : Form) (w : List ℕ) (k : FaultKind) (n : ℕ) → BeginsFault from w k n → EndsInFault from w k n
 EndsInFault-of from w k n f =
     let within = f.within in

@@ -1,4 +1,5 @@
--- Parts that a recoder takes with what it holds, step by step, and what callers have of that.
+-- Parts that a recoder takes together with its carried-over bytes, step by step, and the results for its
+-- callers.
 use Rattle.std.proofs.Common.{◌≡◌, ℕ, ◌+◌, ◌-◌, ◌<◌, ◌≤◌, ⊎_elim, Bool, true, false, rules, List, [], ◌++◌, length, min, take, drop, arith, refl, ap, ap₂, sym, ◌∙◌, subst, append_assoc, length-append, length-drop, length-take, take-append-drop}
 use Rattle.std.proofs.lemmas.Bool.{cases_lt}
 use Rattle.std.proofs.lemmas.List.{append-nil, drop_all, drop-drop, take_all}
@@ -18,7 +19,7 @@ use Rattle.recoding.proofs.Growing.{length_written, recoded_nothing}
 use Rattle.recoding.proofs.LossyLists.{nothing_is_lossy}
 use Rattle.recoding.proofs.RoomLemmas.{take_more}
 
--- What begins with a piece whose code is longer than the room, with the rest of the part.
+-- Bytes that begin with a piece whose code is longer than the buffer, followed by the rest of the part.
 pub IsFullBy-of : (way : Way) (s : Recoding) (part : List ℕ) {c n k room : ℕ} (taken : ℕ) (from to : Form) → from ≡ s.from → to ≡ s.to → BeginsBy way from (s.held ++ take taken part) c n k → room < length (written to c)
     → NextIsLonger way s.from s.to (s.held ++ part) room
 IsFullBy-of way s part {c} {n} {k} {room} taken from to e i begins longer =
@@ -26,7 +27,7 @@ IsFullBy-of way s part {c} {n} {k} {room} taken from to e i begins longer =
     subst (λ xs. NextIsLonger way s.from s.to xs room) whole
     (NextIsLonger-of way (s.held ++ take taken part) (drop taken part) (subst (λ y. BeginsBy way y (s.held ++ take taken part) c n k) e begins) (subst (λ y. room < length (written y c)) i longer))
 
--- the same of what a run left, of which some is held
+-- a run left such bytes, some of which are carried over
 pub IsFullBy-run : (way : Way) (s v : Recoding) (part : List ℕ) (n end room : ℕ) (from to : Form) → from ≡ s.from → to ≡ s.to → n ≤ end → v ≡ record (s) { held = take (end - n) (drop n part) }
     → NextIsLonger way from to (drop n part) room → IsFullBy way v part end room
 IsFullBy-run way s v part n end room from to e i le same full =
@@ -37,11 +38,11 @@ IsFullBy-run way s v part n end room from to e i le same full =
     let here : NextIsLonger way s.from s.to xs room = subst (λ y. NextIsLonger way s.from y xs room) i (subst (λ y. NextIsLonger way y to xs room) e full) in
     rw same (subst (λ ys. NextIsLonger way s.from s.to ys room) left here)
 
--- and of a call after another
+-- a call after another left such bytes
 pub IsFullBy-then : (way : Way) (v : Recoding) (part : List ℕ) (read more room : ℕ) → IsFullBy way v (drop read part) more room → IsFullBy way v part (read + more) room
 IsFullBy-then way v part read more room full = subst (λ ys. NextIsLonger way v.from v.to (v.held ++ ys) room) (drop-drop more read part) full
 
--- A part of the input, with what is held.
+-- A part of the input, after the carried-over bytes.
 
 module _ {O : Type 0} {appends : O → List ℕ → O → Type 0} {way : Way} where
   pub Takes-none : ((a : O) → appends a [] a) → (r : Recoding) (part : List ℕ) {out : O} → length r.held ≤ 3 → Takes appends way r part out out 0 0 r
@@ -103,7 +104,7 @@ module _ {O : Type 0} {appends : O → List ℕ → O → Type 0} {way : Way} wh
         few = omega (arith, ap length at, length-drop n w);
       }
 
-  -- all that is left is held
+  -- all that is left is carried over
   pub Takes-all : ((a : O) → appends a [] a) → {s v : Recoding} {part : List ℕ} {out : O} → length s.held + length part ≤ 3 → v ≡ record (s) { held = s.held ++ part }
       → Takes appends way s part out out (length part) 0 v
   Takes-all none {s} {v} {part} {out} few same =
@@ -123,7 +124,7 @@ module _ {O : Type 0} {appends : O → List ℕ → O → Type 0} {way : Way} wh
         few = omega arith;
       }
 
-  -- a run over a part, where nothing is held
+  -- a run over a part, if nothing is carried over
   pub Takes-run : {s v : Recoding} {part : List ℕ} {old new : O} {n end k : ℕ} (from to : Form) → from ≡ s.from → to ≡ s.to → length s.held ≡ 0 → Recodes appends way from to part old new n k
       → end ≡ min (length part) (n + 3) → v ≡ record (s) { held = take (end - n) (drop n part) } → Takes appends way s part old new end k v
   Takes-run {s} {v} {part} {old} {new} {n} {end} {k} from to e i none g least same =
@@ -152,7 +153,7 @@ module _ {O : Type 0} {appends : O → List ℕ → O → Type 0} {way : Way} wh
         few = omega (arith, ap length at, length-take (end - n) (drop n part), length-drop n part);
       }
 
-  -- Where there is room for all, no code is longer than it.
+  -- If there is capacity for all, no code is longer than it.
 
   pub never_full : {room : O → ℕ} → ((a b : O) (xs : List ℕ) → appends a xs b → room a ≤ room b + length xs) → {r s : Recoding} {part : List ℕ} {a b : O} {read k : ℕ} → Takes appends way r part a b read k s
       → IsAmple (room a) (length r.held + length part) → IsFullBy way s part read (room b) → ⊥
@@ -204,7 +205,7 @@ module _ {O : Type 0} {appends : O → List ℕ → O → Type 0} {way : Way} wh
         replaced = ap (λ x. x.replaced) same ∙ f.replaced;
       }
 
--- The same to another output.
+-- Taking a part to one type of output, as taking it to another.
 
 pub Takes-as : {O P : Type 0} {appends : O → List ℕ → O → Type 0} {other : P → List ℕ → P → Type 0} {way : Way} {r s : Recoding} {part : List ℕ} {a b : O} {c d : P} {n k : ℕ}
     → ((xs : List ℕ) → appends a xs b → other c xs d) → Takes appends way r part a b n k s → Takes other way r part c d n k s
@@ -239,14 +240,14 @@ pub false_unless : (b : Bool) → (IsTrue b → ⊥) → IsFalse b
 false_unless true never = absurd (never (search rules))
 false_unless false never = search rules
 
--- room for all is room for what is left
+-- capacity for all is capacity for what is left
 pub room_left : {Z : Type 0} {way : Way} {old new : Vec ℕ Z} {r s : Recoding} {part : List ℕ} {read k : ℕ} → Takes Extends way r part old new read k s
     → HasRoomFor old (length r.held + length part) → HasRoomFor new (length (drop read part))
 room_left {old = old} {new} {r} {s} {part} {read} f room =
     let put = f.appended in
     omega (arith, room, put.capacity, ap length put.items, length-append old.items f.grown, f.short, f.within, length-drop read part)
 
--- room that was reserved before
+-- capacity that was reserved before
 reserved : {Z : Type 0} {old mid : Vec ℕ Z} → mid.items ≡ old.items → vec_capacity old ≤ vec_capacity mid → (xs : List ℕ) (new : Vec ℕ Z) → Extends mid xs new → Extends old xs new
 reserved same more xs new put = record { items = put.items ∙ ap (λ ys. ys ++ xs) same; capacity = omega (arith, put.capacity, more) }
 
@@ -254,7 +255,7 @@ pub Takes-reserved : {Z : Type 0} {way : Way} {old mid new : Vec ℕ Z} {r s : R
     → Takes Extends way r part mid new n k s → Takes Extends way r part old new n k s
 Takes-reserved {new = new} same more f = Takes-as (λ xs put. reserved same more xs new put) f
 
--- What callers of `feed` have.
+-- The results of `feed` for its callers.
 
 pub all_feeds : {Z : Type 0} (r : Recoding) (part : List ℕ) (old new : Vec ℕ Z) (s : Recoding) → TakesAll r part old new s → Feeds r part old.items new.items s
 all_feeds r part old new s (n, t, f, lacks, e) =
@@ -262,7 +263,7 @@ all_feeds r part old new s (n, t, f, lacks, e) =
     let put = f.appended in
     rw e (record { grows = record { grown = f.grown; appended = put.items; continues = rw whole at (continues_of f.becomes) }; from = f.from; to = f.to; few = f.few })
 
--- how many faults were replaced
+-- the number of faults that were replaced
 replaces : {O : Type 0} {appends : O → List ℕ → O → Type 0} {r s t : Recoding} {part : List ℕ} {old new : O} {read n m : ℕ} → Takes appends Faults r part old new read n s → t ≡ record (s) { replaced = m }
     → Replaces r (take read part) n t
 replaces {r = r} {t = t} {part = part} {read = read} {n = n} f e = Replaces-of r t r.from (take read part) _ _ n refl (ap (λ x. x.from) e ∙ f.from) refl (ap (λ x. x.held) e) (f.becomes.counts tt)
@@ -275,7 +276,7 @@ all_counted r part old new s (n, t, f, lacks, e) =
 pub all_lacks : {Z : Type 0} (r : Recoding) (part : List ℕ) (old new : Vec ℕ Z) (s : Recoding) → TakesAll r part old new s → Lacks r.from s.held
 all_lacks r part old new s (n, t, f, lacks, e) = rw e lacks
 
--- and of `finish`
+-- the results of `finish` for its callers
 pub all_finished : {Z : Type 0} {r s : Recoding} {old new : Vec ℕ Z} {n : ℕ} → TakesLast Extends Faults r old new n s → s.held ≡ [] → Finishes r old.items new.items
 all_finished {r = r} {s = s} f none =
     let put = f.appended in
@@ -285,13 +286,13 @@ all_finished {r = r} {s = s} f none =
       recoded = rw (append-nil f.grown) at (leaves_of r.from r.to r.held f.grown s.held f.same [] (subst (λ xs. IsRecoded r.from r.to xs []) (sym none) (recoded_nothing r.from r.to)));
     }
 
--- where nothing is held, nothing comes of it
+-- if nothing is carried over, nothing is written for it
 pub Finishes-none : (r : Recoding) (old : List ℕ) → length r.held ≡ 0 → Finishes r old old
 Finishes-none r old none =
     let nothing : r.held ≡ [] = drop_all 0 r.held (omega arith) in
     record { grown = []; appended = sym (append-nil old); recoded = rw nothing (recoded_nothing r.from r.to) }
 
--- The same of room of a fixed size.
+-- Finishing into a buffer of a fixed size, if nothing is carried over.
 
 FillsPlace-room : (a b : List ℕ × ℕ) (xs : List ℕ) → FillsPlace a xs b → length a.0 - a.1 ≤ length b.0 - b.1 + length xs
 FillsPlace-room a b xs f = omega (arith, f.whole, f.len)
@@ -300,7 +301,7 @@ module _ {way : Way} {r s : Recoding} {part old new : List ℕ} {read wrote n : 
   fits_old : wrote ≤ length old
   fits_old = let fills = f.appended in omega (arith, fills.fits, fills.whole)
 
-  -- In room for a code each call of some bytes comes nearer to their end.
+  -- With capacity for one code, each call on some bytes comes nearer to their end.
   pub comes_nearer : {m : ℕ} (t : Recoding) (full : Bool) → t ≡ record (s) { replaced = m } → (IsTrue full → length old < wrote + 4) → (IsFalse full → read ≡ length part) → ComesNearer part old read r t
   comes_nearer t true e short whole room some =
       let scant = short (search rules) in
@@ -310,7 +311,7 @@ module _ {way : Way} {r s : Recoding} {part old new : List ℕ} {read wrote n : 
       let all = whole (search rules) in
       omega (arith, f.short, f.within, ap (λ x. length x.held) e)
 
-  -- and writes or reads something
+  -- with capacity for one code, each call on some bytes writes or reads something
   pub moves : (full : Bool) → (IsTrue full → length old < wrote + 4) → (IsFalse full → read ≡ length part) → 4 ≤ length old → 0 < length part → 0 < read + wrote
   moves true short whole room some = let scant = short (search rules) in omega arith
   moves false short whole room some = let all = whole (search rules) in omega arith
@@ -383,7 +384,7 @@ replaces_last {r = r} {t = t} {n = n} f e = f.counts tt ∙ ap (λ k. n + k) (ap
 pub counted_last : {r s t : Recoding} {old new : List ℕ × ℕ} {n : ℕ} → TakesLast FillsPlace Faults r old new n s → t ≡ record (s) { replaced = saturated (s.replaced + n) } → AddsUp r n t
 counted_last {n = n} f e = ap (λ x. x.replaced) e ∙ ap (λ m. saturated (m + n)) f.replaced
 
--- all of it was put out
+-- all carried-over bytes were written
 pub Finishes-of : (r s : Recoding) (old new : List ℕ) (wrote : ℕ) → FinishesInto r old new wrote s → s.held ≡ [] → (out : List ℕ) → Finishes r out (out ++ take wrote new)
 Finishes-of r s old new wrote f none out = record {
   grown = take wrote new;
@@ -410,7 +411,7 @@ finished_lossily {r} {s} f =
       fits = omega (arith, fills.fits, fills.whole);
     }
 
--- where nothing is held any more, it is all
+-- if nothing is carried over any more, all is written
 pub lossy_done : (r s : Recoding) (grown : List ℕ) → s.held ≡ [] → AddsLastLossy r grown s → AddsAllLossy r grown
 unfolding lossy_outcome
 lossy_done r s grown none h out =

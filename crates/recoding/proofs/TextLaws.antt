@@ -1,4 +1,4 @@
--- Text is recoded as itself.
+-- Text is transcoded to the same text.
 use Rattle.std.proofs.Common.{◌≡◌, ℕ, ◌+◌, ◌*◌, ◌/◌, ◌%◌, Bool, true, false, List, [], ◌∷◌, ◌++◌, length, flat_map, arith, refl, ap, ap₂, sym, ◌∙◌, append_assoc}
 use Rattle.std.specs.Prelude.{All}
 use Rattle.std.proofs.lemmas.List.Concat.{flat_map-append}
@@ -30,7 +30,7 @@ odd_of_bytes high [] later = refl
 odd_of_bytes true (u ∷ us) later = odd_of_bytes true us later
 odd_of_bytes false (u ∷ us) later = odd_of_bytes false us later
 
--- So they show their scalars.
+-- The scalars of the units of a text are those of the text.
 
 units_show : (high : Bool) (cs : List ℕ) → All IsScalar cs → ShowsEach (ShowsUnits high) (flat_map (bytes_of high) (flat_map utf16 cs)) cs
 units_show high cs all later ss (ts, r, f) = (
@@ -42,7 +42,7 @@ units_show high cs all later ss (ts, r, f) = (
 pub text_shows : (from : Form) (cs : List ℕ) → All IsScalar cs → ShowsEach (Reads from) (flat_map (written from) cs) cs
 text_shows = by_form _ shows_each (λ high. rw (is_units high, Reads, written) (λ cs all. rw (joined_bytes high cs) (units_show high cs all)))
 
--- and have no fault
+-- codes of scalars have no fault
 pub text_counts : (from : Form) (cs later : List ℕ) → All IsScalar cs → fault_count from (flat_map (written from) cs ++ later) ≡ fault_count from later
 text_counts =
     by_form _

@@ -1,4 +1,4 @@
--- Text recoded, and no fault: step by step.
+-- Text transcoded, without faults: step by step.
 use Rattle.std.proofs.Common.{◌≡◌, ℕ, suc, ◌∷◌, length-append, ◌+◌, ◌-◌, ◌*◌, ◌/◌, ◌≤◌, Bool, List, [], ◌++◌, length, get_or, take, drop, flat_map, arith, refl, ap, ap₂, sym, ◌∙◌, length-drop, length-take, take-append-drop, Fits, w8, IsUtf8}
 use Rattle.std.specs.Prelude.{All}
 use Rattle.std.proofs.lemmas.List.{append-nil, take_all, take_rest, take-append-le, take-take}
@@ -26,7 +26,7 @@ use Rattle.utf_base.proofs.Utf8Code.{utf8-4}
 use Rattle.utf_base.specs.Code.{utf8, utf16}
 use Rattle.utf_base.proofs.Utf16Code.{utf16_is_code}
 
--- The same text in two forms.
+-- A text in two encodings.
 
 pub Transcodes-none : (from to : Form) → Transcodes from to [] []
 Transcodes-none from to = record { scalars = []; all = All-nil IsScalar; codes = refl; made = refl }
@@ -47,7 +47,7 @@ Transcodes-then {from} {to} f g = record {
   made = ap₂ (λ cs ds. cs ++ ds) f.made g.made ∙ sym (flat_map-append (written to) f.scalars g.scalars);
 }
 
--- How much room a text takes.
+-- The capacity that a text needs.
 
 pub wide_written : (from : Form) (s : ℕ) → 0x1_0000 ≤ s → 2 ≤ length (written from s)
 wide_written =
@@ -108,7 +108,7 @@ pub PutsText-one : {O : Type 0} {appends : O → List ℕ → O → Type 0} {fro
     → PutsText appends from to bytes old new n
 PutsText-one {from = from} {to} {s = s} d put = record { within = d.within; grown = written to s; appended = put; transcodes = rw d.code (Transcodes-one from to s d.scalar) }
 
--- and with more after the bytes
+-- one character, followed by more bytes
 pub PutsText-front : {O : Type 0} {appends : O → List ℕ → O → Type 0} {from to : Form} {bytes : List ℕ} {old new : O} {n : ℕ} (x : List ℕ) → PutsText appends from to bytes old new n
     → PutsText appends from to (bytes ++ x) old new n
 PutsText-front {bytes = bytes} {n = n} x f =
@@ -128,17 +128,17 @@ module _ {O : Type 0} {appends : O → List ℕ → O → Type 0} {from to : For
     transcodes = rw (take_more p n bytes) at (Transcodes-then f.transcodes g.transcodes);
   }
 
-  -- the same of bytes that are the end of others
+  -- text that is the end of other bytes
   pub PutsText-then : ((a b c : O) (xs ys : List ℕ) → appends a xs b → appends b ys c → appends a (xs ++ ys) c) → {old mid new : O} {p n : ℕ}
       → PutsText appends from to bytes old mid p → PutsText appends from to (take (length bytes - p) (drop p bytes)) mid new n → PutsText appends from to bytes old new (p + n)
   PutsText-then more {p = p} f rest = PutsText-after more f (rw (take_rest bytes p) at rest)
 
-  -- nothing more
+  -- no more text
   pub PutsText-done : ((a b c : O) (xs ys : List ℕ) → appends a xs b → appends b ys c → appends a (xs ++ ys) c) → {old mid new : O} {p n : ℕ}
       → PutsText appends from to bytes old mid p → PutsText appends from to (take (length bytes - p) (drop p bytes)) mid new n → n ≡ 0 → PutsText appends from to bytes old new p
   PutsText-done more {p} {n} f rest none = let same : p + n ≡ p = omega arith in rw same at (PutsText-then more f rest)
 
-  -- a character, told by four bytes
+  -- a character, decided by four bytes
   pub PutsText-char : ((a b c : O) (xs ys : List ℕ) → appends a xs b → appends b ys c → appends a (xs ++ ys) c) → {old mid new : O} {p s n : ℕ}
       → PutsText appends from to bytes old mid p → BeginsChar from (take 4 (drop p bytes)) s n → appends mid (written to s) new → PutsText appends from to bytes old new (p + n)
   PutsText-char more {mid = mid} {new = new} {p = p} {n = n} f d put =
@@ -153,7 +153,7 @@ module _ {O : Type 0} {appends : O → List ℕ → O → Type 0} {from to : For
       let le : n ≤ count = omega (arith, length-take count bytes) in
       record { within = omega (arith, length-take count bytes); grown = f.grown; appended = f.appended; transcodes = rw (take-take n count bytes le) at f.transcodes }
 
-  -- room for all bytes is room for a character that begins the ones left
+  -- capacity for all bytes is capacity for a character that begins the ones left
   pub room_for_char : {room : O → ℕ} → ((a b : O) (xs : List ℕ) → appends a xs b → room a ≤ room b + length xs) → {old mid : O} {p s n : ℕ}
       → PutsText appends from to bytes old mid p → BeginsChar from (take 4 (drop p bytes)) s n → 3 * length bytes ≤ room old → length (written to s) ≤ room mid
   room_for_char law {old} {mid} {p} {s} {n} f d all =
@@ -162,7 +162,7 @@ module _ {O : Type 0} {appends : O → List ℕ → O → Type 0} {from to : For
       let here : length (written from s) ≡ n = ap length (sym d.code) ∙ omega (arith, length-take n (take 4 (drop p bytes))) in
       omega (arith, all, law old mid f.grown f.appended, text_room f.transcodes, length-take p bytes, code_room from to s d.scalar, here, length-drop p bytes, length-take 4 (drop p bytes))
 
--- Text in UTF-8 as it is, and as units.
+-- Text in UTF-8 unchanged, and as units.
 
 pub PutsText-text : {O : Type 0} {appends : O → List ℕ → O → Type 0} {old new : O} {bytes : List ℕ} {n : ℕ} → n ≤ length bytes → IsUtf8 (take n bytes) → appends old (take n bytes) new
     → PutsText appends Utf8 Utf8 bytes old new n
@@ -181,7 +181,7 @@ PutsText-given {to} {bytes} {n} high form within text put =
       transcodes = record { scalars = t.0; all = t.1.0; codes = t.1.1; made = sym (given_codes high to form (take n bytes) t.0 t.1.0 t.1.1) };
     }
 
--- the same of all the bytes
+-- text that is all of the bytes
 pub PutsText-whole : {O : Type 0} {appends : O → List ℕ → O → Type 0} {old new : O} {to : Form} {bytes : List ℕ} (high : Bool) → HasByteOrder high to → IsUtf8 bytes
     → appends old (utf16_bytes high bytes 0 (length bytes)) new → PutsText appends Utf8 to bytes old new (length bytes)
 PutsText-whole {appends = appends} {old = old} {new = new} {bytes = bytes} high form text put =
@@ -213,6 +213,6 @@ PutsText-units {appends} {old} {new} {from} {to} {bytes} {n} high other count re
       };
     }
 
--- Into room of a fixed size, from a place on.
+-- Into a buffer of a fixed size, from an offset on.
 pub PutsText-start : {from to : Form} {bytes old : List ℕ} {place : ℕ} → place ≤ length old → PutsText FillsPlace from to bytes (at_place old place) (at_place old place) 0
 PutsText-start {from} {to} fits = record { within = omega arith; grown = []; appended = FillsPlace-none fits; transcodes = Transcodes-none from to }

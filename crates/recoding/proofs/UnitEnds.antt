@@ -1,14 +1,13 @@
--- The last place among units, up to another, over which no character lies; and the first from another on.
+-- The last offset among units, up to another, that no character covers; and the first from another on.
 use Rattle.std.proofs.Common.{◌≡◌, ℕ, ◌+◌, ◌-◌, ◌<◌, ◌≤◌, ⊎_elim, List, length, drop, arith}
 use Rattle.std.proofs.lemmas.Bool.{cases_lt}
 use Rattle.utf_base.specs.Code.{utf16}
 use Rattle.utf_base.specs.Front.{BeginsWith}
 use Rattle.utf_base.specs.Piece.{Stands}
-use Rattle.utf_base.proofs.Standing.{not_inside, outside_end, same_char}
+use Rattle.utf_base.proofs.Standing.{not_inside, same_char}
 use Rattle.utf_base.proofs.Utf16Code.{utf16_is_code, length_utf16}
-use Rattle.recoding.specs.Boundaries.{IsLastTo, IsUnitBoundary}
-use Rattle.recoding.specs.Shards.{LiesOver}
-use Rattle.recoding.proofs.ShardEnds.{stands_in_list, stands_in_rest}
+use Rattle.recoding.specs.Boundaries.{IsLastTo, IsUnitBoundary, LiesOver}
+use Rattle.recoding.proofs.LastBoundaries.{stands_in_list, stands_in_rest}
 
 pub single_code : (xs : List ℕ) (s n : ℕ) → BeginsWith utf16 xs s n → n ≤ 1 → (t : ℕ) → Stands utf16 xs 0 t → length (utf16 t) ≤ 1
 single_code xs s n (h, e) le t g =
@@ -46,17 +45,14 @@ no_pair_before units at lt none = record {
   last = λ m le lo out. lo;
 }
 
-pub end_of_units : (units : List ℕ) (at : ℕ) → length units ≤ at → IsLastTo (IsUnitBoundary units) (length units) at (length units)
-end_of_units units at le = record { within = omega arith; before = le; outside = outside_end utf16 units; last = λ m within lo out. within }
-
--- No place of those from `at` on, and before the other, is such an end.
+-- No offset from `at` on, and before the other, is such an end.
 pub record NoneBefore (IsEnd : ℕ → Type 0) (len at place : ℕ) : Type 0 where
   pub within : place ≤ len
   pub least : at ≤ len → at ≤ place
   pub end : len ≤ at → place ≡ len
   pub none : (m : ℕ) → at ≤ m → m < place → IsEnd m → ⊥
 
--- Where the last such end up to the place is before it, the place is none, and that end is before `at`.
+-- If the last such end up to the offset is before it, the offset is none, and that end is before `at`.
 pub none_next : (IsEnd : ℕ → Type 0) (len at place n : ℕ) → NoneBefore IsEnd len at place → place < len → n < place
     → ((m : ℕ) → m ≤ len → m ≤ place → IsEnd m → m ≤ n) → NoneBefore IsEnd len at (place + 1)
 none_next IsEnd len at place n before lt less last =
@@ -76,7 +72,7 @@ pub before_at : (IsEnd : ℕ → Type 0) (len at place n : ℕ) → NoneBefore I
 before_at IsEnd len at place n before less out =
     ⊎_elim (λ (lt : n < at). lt) (λ (le : at ≤ n). absurd (before.none n le less out)) (cases_lt n at)
 
--- The place is before the end of the list, where the last such end up to it is before it.
+-- The offset is before the end of the list, if the last such end up to it is before it.
 pub within_end : (IsEnd : ℕ → Type 0) (len place n : ℕ) → place ≤ len → n < place → IsEnd len → ((m : ℕ) → m ≤ len → m ≤ place → IsEnd m → m ≤ n) → place < len
 within_end IsEnd len place n le less end last =
     ⊎_elim (λ (lt : place < len). lt) (λ (ge : len ≤ place). let most = last len (omega arith) ge end in omega arith) (cases_lt place len)

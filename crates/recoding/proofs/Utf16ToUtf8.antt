@@ -24,11 +24,11 @@ use Rattle.utf_lanes.proofs.UnitBytes.{no_surrogate, character_code, pair_code, 
 
 -- Units of text are codes.
 
--- the units from the number k on and n of them
+-- n units from the number k on
 abbrev units : (ℕ → ℕ) → ℕ → ℕ → List ℕ
 units u k n = concat_range (λ i. u i ∷ []) k n
 
--- they are the codes of some scalars, and their bytes are codes of those
+-- n units are the codes of some scalars, and their bytes are codes of those
 pub record Shown (u : ℕ → ℕ) (k n : ℕ) : Type 0 where
   ts : List ℕ
   all : All IsScalar ts
@@ -71,7 +71,7 @@ either_is true = inl refl
 either_is false = inr refl
 
 module _ (u : ℕ → ℕ) (count : ℕ) (fits : (k : ℕ) → k < count → u k < 0x1_0000) (text : AreText u count) where
-  -- no trailing surrogate is at that place, if it is before the end
+  -- no trailing surrogate is at that offset, if it is before the end
   abbrev Starts : ℕ → Type 0
   Starts k = k < count → is_trailing_surrogate (u k) ≡ false
 
@@ -134,7 +134,7 @@ unit_fits : (high : Bool) (a b : ℕ) → a < 256 → b < 256 → unit_of high a
 unit_fits true a b A B = omega arith
 unit_fits false a b A B = omega arith
 
--- So units that are text are the same text as their bytes.
+-- Units that are text are the same text as their bytes.
 module _ (high : Bool) (from : Form) (w : List ℕ) (u : ℕ → ℕ) (n : ℕ) (form : HasByteOrder high from) (fits : (i : ℕ) → Fits w8 (get_or w i 0)) (enough : 2 * n ≤ length w)
     (same : (k : ℕ) → k < n → u k ≡ unit_of high (get_or w (2 * k) 0) (get_or w (2 * k + 1) 0)) (text : AreText u n) where
   unit_below : (k : ℕ) → k < n → u k < 0x1_0000
@@ -164,7 +164,7 @@ pub PutsText-block : {O : Type 0} {appends : O → List ℕ → O → Type 0} �
 PutsText-block more high {from} {bytes} {u} {p = p} {n} form fits before enough same text put =
     PutsText-after more before (PutsText-narrowed high from (drop p bytes) u n form (rest_fits bytes p fits) (omega (arith, length-drop p bytes)) same text put)
 
--- and written into room
+-- one more block of them, written into a buffer
 pub FillsPlace-block : (high : Bool) → {from : Form} {bytes room now new low upper : List ℕ} {width start at n end p : ℕ} → HasByteOrder high from → ((i : ℕ) → Fits w8 (get_or bytes i 0))
     → PutsText FillsPlace from Utf8 bytes (at_place room start) (at_place now at) p → 2 * n ≤ length bytes - p → ((k : ℕ) → k < n → lane_unit low upper k ≡ unit_number high (drop p bytes) k)
     → WritesUnits width low upper now new at n end → end ≤ length now → PutsText FillsPlace from Utf8 bytes (at_place room start) (at_place new end) (p + 2 * n)

@@ -1,15 +1,15 @@
--- How many faults some bytes have, and how many of them a recoder has replaced by U+FFFD.
+-- The number of faults in some bytes, and how many of them a recoder has replaced by U+FFFD.
 use Rattle.std.specs.Prelude.{◌≡◌, ◌↔◌, ℕ, ◌+◌, ◌-◌, ◌^◌, List, ◌++◌, min}
 use Rattle.recoding.specs.declared.form.Form.{Form}
 pub use Rattle.recoding.specs.TextForms.{HasFaults, HasUnitFaults, faults_in}
 use Rattle.recoding.specs.TextForms.{text_form}
 use Rattle.recoding.specs.Recoded.{Recoding}
 
--- so many faults have the bytes as text of that form
+-- the number of faults that the bytes have as text of that encoding
 abbrev pub Faults : Form → List ℕ → ℕ → Type 0
 Faults from = (text_form from).faults
 
--- that number
+-- the number of faults of bytes
 unfoldable pub fault_count : Form → List ℕ → ℕ
 fault_count from bytes = ((text_form from).faults_some bytes).0
 
@@ -17,7 +17,8 @@ fault_count from bytes = ((text_form from).faults_some bytes).0
 abbrev pub FaultCountIsOne : Type 0
 FaultCountIsOne = (from : Form) (bytes : List ℕ) (n : ℕ) → Faults from bytes n ↔ (n ≡ fault_count from bytes)
 
--- Whatever follows the bytes, they have so many faults, and then those that the held bytes have before what follows.
+-- Whatever follows the bytes, they have n faults, and then those that the carried-over bytes have before what
+-- follows.
 abbrev pub CountsTo : Form → List ℕ → ℕ → List ℕ → Type 0
 CountsTo from bytes n held = (later : List ℕ) → fault_count from (bytes ++ later) ≡ n + fault_count from (held ++ later)
 
@@ -25,27 +26,28 @@ CountsTo from bytes n held = (later : List ℕ) → fault_count from (bytes ++ l
 abbrev pub saturated : ℕ → ℕ
 saturated n = min (2 ^ 64 - 1) n
 
--- A recoder was fed a part and replaced so many faults: whatever follows, they and those that are still to come are the faults
--- of what it held, the part and what follows.
+-- A recoder was fed a part and replaced n faults: whatever follows, they and those that are still to come are the
+-- faults of the carried-over bytes, the part and what follows.
 abbrev pub Replaces : Recoding → List ℕ → ℕ → Recoding → Type 0
 Replaces r part n s = (later : List ℕ) → fault_count r.from (r.held ++ (part ++ later)) ≡ n + fault_count s.from (s.held ++ later)
 
--- the same where nothing follows: they are the faults of what it held
+-- a recoder was finished and replaced n faults: they and those that are still to come are the faults of the
+-- bytes that it carried over
 abbrev pub ReplacesLast : Recoding → ℕ → Recoding → Type 0
 ReplacesLast r n s = fault_count r.from r.held ≡ n + fault_count s.from s.held
 
--- and it has counted them with those before
+-- the recoder has added the faults that it replaced to its count
 abbrev pub AddsUp : Recoding → ℕ → Recoding → Type 0
 AddsUp r n s = s.replaced ≡ saturated (r.replaced + n)
 
--- both of a call that does not say how many
+-- a call that replaced faults and counted them, without returning their number
 abbrev pub CountsFed : Recoding → List ℕ → Recoding → Type 0
 CountsFed r part s = (n : ℕ) × Replaces r part n s × AddsUp r n s
 
--- how many a recoder has replaced at the end, where these bytes and no more are fed to it and it is finished
+-- the count of a recoder at the end, if only these bytes are fed to it and it is finished
 unfoldable pub replaced_in_all : Recoding → List ℕ → ℕ
 replaced_in_all r later = saturated (r.replaced + fault_count r.from (r.held ++ later))
 
--- a part was fed: whatever follows it, that is the number of the part and then of what follows
+-- a part was fed: whatever follows it, the count at the end is that of the part and then of what follows
 abbrev pub KeepsCount : Recoding → List ℕ → Recoding → Type 0
 KeepsCount r part s = (later : List ℕ) → replaced_in_all s later ≡ replaced_in_all r (part ++ later)

@@ -1,9 +1,9 @@
--- Parts that are fed one after another: they are one part.
+-- Parts that are fed one after another are one part.
 use Rattle.std.specs.Prelude.{◌≡◌, ℕ, List, [], ◌++◌}
 use Rattle.recoding.specs.declared.form.Form.{Form}
 use Rattle.recoding.specs.Recoded.{Recoding, IsRecoded, Feeds, Finishes, fresh}
 
--- A new recoder was fed these bytes, in any parts, and `out` came of them: as where they are one part.
+-- A new recoder was fed these bytes, in any parts, and wrote `out`: as if they are one part.
 pub record IsFed (from to : Form) (bytes out : List ℕ) (r : Recoding) : Type 0 where
   pub once : Feeds (fresh from to) bytes [] out r
 
@@ -11,32 +11,32 @@ pub record IsFed (from to : Form) (bytes out : List ℕ) (r : Recoding) : Type 0
 abbrev pub NothingIsFed : Type 0
 NothingIsFed = (from to : Form) → IsFed from to [] [] (fresh from to)
 
--- and what was fed grows by each part
+-- what a new recoder was fed grows by each part
 abbrev pub PartIsFed : Type 0
 PartIsFed =
     (from to : Form) (bytes part more out new : List ℕ) (r s : Recoding)
     → IsFed from to bytes out r → Feeds r part out new s → more ≡ bytes ++ part → IsFed from to more new s
 
--- Two parts that are fed one after another are one part, whatever was held before.
+-- Two parts that are fed one after another are one part, whatever was carried over before.
 abbrev pub TwoPartsAreOne : Type 0
 TwoPartsAreOne =
     (part next old mid new : List ℕ) (r s t : Recoding)
     → Feeds r part old mid s → Feeds s next mid new t → Feeds r (part ++ next) old new t
 
--- so what a new recoder makes of them, and then of the end, is what both together are recoded as
+-- the output of a new recoder for two parts, and then for the end, is the transcoding of both together
 abbrev pub TwoPartsAreRecoded : Type 0
 TwoPartsAreRecoded =
     (from to : Form) (part next old mid out new : List ℕ) (r s t : Recoding)
     → r ≡ fresh from to → old ≡ []
     → Feeds r part old mid s → Feeds s next mid out t → Finishes t out new → IsRecoded from to (part ++ next) new
 
--- what came so far begins what all is recoded as, whatever follows
+-- the output so far begins the transcoding of the whole, whatever follows
 abbrev pub FedIsFront : Type 0
 FedIsFront =
     (from to : Form) (bytes later out all : List ℕ) (r : Recoding)
     → IsFed from to bytes out r → IsRecoded from to (bytes ++ later) all → (rest : List ℕ) × (all ≡ out ++ rest)
 
--- and after the end it is all
+-- the output of a new recoder after the end is the transcoding of all that was fed
 abbrev pub FedIsRecoded : Type 0
 FedIsRecoded =
     (from to : Form) (bytes all out new : List ℕ) (r : Recoding)

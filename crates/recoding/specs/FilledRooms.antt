@@ -4,7 +4,8 @@ use Rattle.std.proofs.Common.{◌∙◌, ap, sym, arith, append_assoc, length-ap
 use Rattle.std.proofs.lemmas.List.{append-nil}
 use Rattle.recoding.specs.declared.room.Room.{Room}
 
--- The places after the written ones became these bytes, and those before them stay. What follows may be anything.
+-- The bytes of a slice after the written ones became these, and those before them are unchanged. What follows
+-- may be anything.
 pub record FillsRoom (old : Room) (bytes : List ℕ) (new : Room) : Type 0 where
   pub reference : new.bytes.ghost_name ≡ old.bytes.ghost_name
   pub whole : length new.bytes.now ≡ length old.bytes.now

@@ -1,5 +1,6 @@
--- Lossy recoding: each character as it is, and U+FFFD for each maximal subpart of what is none, as the Unicode standard
--- recommends (chapter 3, D93b and "U+FFFD Substitution of Maximal Subparts") and the decoder of the WHATWG Encoding Standard does.
+-- Lossy transcoding: each character as it is, and U+FFFD for each maximal subpart, as the Unicode standard recommends
+-- (chapter 3, D93b and "U+FFFD Substitution of Maximal Subparts") and the decoder of the WHATWG Encoding Standard
+-- does.
 use Rattle.std.specs.Prelude.{◌≡◌, ℕ, ◌<◌, ◌≤◌, List, ◌++◌, length, flat_map, get_or}
 use Rattle.utf_base.specs.Code.{utf8}
 use Rattle.utf_base.specs.Piece.{Stands}
@@ -10,11 +11,11 @@ use Rattle.recoding.specs.declared.form.Form.{Form}
 use Rattle.recoding.specs.TextForms.{text_form}
 pub use Rattle.recoding.specs.TextForms.{ShowsUnitParts, odd_part}
 
--- ss is what the parts of the bytes show as text of that form
+-- ss is the list of scalars of the parts of the bytes, as text of that encoding
 abbrev pub ReadsParts : Form → List ℕ → List ℕ → Type 0
 ReadsParts from = (text_form from).reads_parts
 
--- `out` is the codes of what the parts of the bytes show
+-- `out` is the codes of the scalars of the parts of the bytes
 abbrev pub IsLossy : Form → Form → List ℕ → List ℕ → Type 0
 IsLossy from to bytes out = (ss : List ℕ) × ReadsParts from bytes ss × (out ≡ flat_map (written to) ss)
 

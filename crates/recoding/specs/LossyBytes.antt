@@ -1,4 +1,5 @@
--- What bytes of one form are recoded as in another with one U+FFFD for each maximal subpart, as one list, and what calls make of it.
+-- Bytes of one encoding transcoded to another with one U+FFFD for each maximal subpart, as one list, and the
+-- effect of calls on it.
 use Rattle.std.specs.Prelude.{◌≡◌, ◌↔◌, ℕ, ◌≤◌, Bool, false, true, List, [], ◌∷◌, ◌++◌, length, take, drop, flat_map, map}
 use Rattle.std.specs.List.{concat}
 use Rattle.utf_base.specs.Code.{utf8}
@@ -15,7 +16,7 @@ use Rattle.recoding.specs.Rooms.{BeginsLonger}
 use Rattle.recoding.specs.NextScalars.{Decides, Ends}
 use Rattle.recoding.specs.Strict.{Transcodes}
 
--- the list that the parts of bytes show as text of that form
+-- the scalars of the parts of bytes as text of that encoding
 unfoldable pub shown_by_parts : Form → List ℕ → List ℕ
 shown_by_parts from bytes = ((text_form from).parts_some bytes).0
 
@@ -27,30 +28,32 @@ lossy from to bytes = flat_map (written to) (shown_by_parts from bytes)
 abbrev pub LossyIsOne : Type 0
 LossyIsOne = (from to : Form) (bytes out : List ℕ) → IsLossy from to bytes out ↔ (out ≡ lossy from to bytes)
 
--- What comes of a recoder.
+-- The output of a recoder.
 
--- what an output that holds `out` holds at the end, where these bytes and no more are fed and the recoder is finished, both lossily
+-- the final contents of an output that now has `out`, if only these bytes are fed and the recoder is finished, both
+-- lossily
 unfoldable pub lossy_outcome : Recoding → List ℕ → List ℕ → List ℕ
 lossy_outcome r out later = out ++ lossy r.from r.to (r.held ++ later)
 
--- a part was fed: whatever follows it, the outcome is that of the part and then of what follows
+-- a part was fed: whatever follows it, the final contents are those for the part and then what follows
 abbrev pub KeepsLossy : Recoding → List ℕ → List ℕ → List ℕ → Recoding → Type 0
 KeepsLossy r old part new s = (later : List ℕ) → lossy_outcome s new later ≡ lossy_outcome r old (part ++ later)
 
--- the same of bytes that came of the part, to whatever they are added
+-- the bytes were written for the part, whatever the output had: the final contents are those for the part and
+-- then what follows
 abbrev pub AddsLossy : Recoding → List ℕ → List ℕ → Recoding → Type 0
 AddsLossy r part made s = (out : List ℕ) → KeepsLossy r out part (out ++ made) s
 
--- these bytes came of the end, and the rest of the outcome still comes
+-- the bytes were written at the end, and the rest of the final contents is still to be written
 abbrev pub AddsLastLossy : Recoding → List ℕ → Recoding → Type 0
 AddsLastLossy r made s = (out : List ℕ) → lossy_outcome s (out ++ made) [] ≡ lossy_outcome r out []
 
--- these bytes are all that came of the end
+-- the bytes are all that was written at the end
 abbrev pub AddsAllLossy : Recoding → List ℕ → Type 0
 AddsAllLossy r made = (out : List ℕ) → out ++ made ≡ lossy_outcome r out []
 
--- One call of `feed_lossy_into`: so many bytes of the part were read, and some are held. What came of them begins the room. What
--- follows it there may be anything.
+-- One call of `feed_lossy_into`: the part was read up to some byte, and some bytes are carried over. The output is at
+-- the front of the buffer. What follows it there may be anything.
 pub record FeedsLossy (r : Recoding) (part old new : List ℕ) (read wrote : ℕ) (s : Recoding) : Type 0 where
   pub within : read ≤ length part
   pub adds : AddsLossy r (take read part) (take wrote new) s
@@ -69,50 +72,53 @@ pub record FinishesLossy (r : Recoding) (old new : List ℕ) (wrote : ℕ) (s : 
   pub few : length s.held ≤ length r.held
   pub fits : wrote ≤ length old
 
--- The bytes that are left begin with a part, whatever follows them, and the code of what it shows is longer than the room.
+-- The bytes that are left begin with a part, whatever follows them, and the code of its scalar is longer than
+-- the buffer.
 abbrev pub NextPartIsTooLong : Form → Form → List ℕ → ℕ → Type 0
 NextPartIsTooLong from to left room = BeginsLonger (Decides (ReadsParts from) left) to room
 
--- So many bytes of a part were read, and the recoder can go no further: U+FFFD or the code of what comes next is longer than the
--- room.
+-- The part was read up to some byte, and the recoder can go no further: U+FFFD or the code of the next character is
+-- longer than the buffer.
 abbrev pub IsFullLossy : Recoding → List ℕ → ℕ → ℕ → Type 0
 IsFullLossy r part read room = NextPartIsTooLong r.from r.to (r.held ++ drop read part) room
 
--- the same where nothing follows the held bytes
+-- the recoder can go no further at the end: the code for the carried-over bytes, which nothing follows, is
+-- longer than the buffer
 abbrev pub IsLastFullLossy : Recoding → ℕ → Type 0
 IsLastFullLossy r room = BeginsLonger (Ends (ReadsParts r.from) r.held) r.to room
 
 -- The laws.
 
--- The parts of an input are fed one after another, and then the recoder is finished: the outcome is kept at each step.
+-- The parts of an input are fed one after another, and then the recoder is finished: each step keeps the final
+-- contents.
 abbrev pub AddsEach : Recoding → List (List ℕ) → List ℕ → List ℕ → Type 0
 AddsEach r [] old new = new ≡ lossy_outcome r old []
 AddsEach r (part ∷ parts) old new = (s : Recoding) × (mid : List ℕ) × KeepsLossy r old part mid s × AddsEach s parts mid new
 
--- what comes of some parts is what they become, joined, however they are cut
+-- the output for some parts is that for the joined parts, however they are cut
 abbrev pub LossyPartsAreOne : Type 0
 LossyPartsAreOne =
     (from to : Form) (parts : List (List ℕ)) (out : List ℕ) → AddsEach (fresh from to) parts [] out → out ≡ lossy from to (concat parts)
 
--- Of UTF-16 each maximal subpart is one unit, or an odd byte, but for a leading surrogate and an odd byte at the end. So where the bytes
--- do not end so, it is the same as where each fault is replaced.
+-- In UTF-16 each maximal subpart is one unit, or an odd byte, except for a leading surrogate and an odd byte at the
+-- end. So if the bytes do not end with these, the output is the same as if each fault is replaced.
 abbrev pub LossyIsRecoded : Bool → Form → List ℕ → Type 0
 LossyIsRecoded high_first to bytes = odd_part high_first bytes ≡ odd_end bytes → lossy (utf16_form high_first) to bytes ≡ recoded (utf16_form high_first) to bytes
 
--- in both orders of bytes
+-- in both byte orders
 abbrev pub LossyUnitsAreRecoded : Type 0
 LossyUnitsAreRecoded = (to : Form) (bytes : List ℕ) → LossyIsRecoded false to bytes × LossyIsRecoded true to bytes
 
--- and so is that of text, which has none, whatever follows it
+-- the output for text, which has no maximal subparts, is the same, whatever follows it
 abbrev pub TextIsLossy : Type 0
 TextIsLossy = (from to : Form) (text out later : List ℕ) → Transcodes from to text out → lossy from to (text ++ later) ≡ out ++ lossy from to later
 
--- what some pieces or parts show, in a form
+-- the codes of the scalars of some pieces or parts, in an encoding
 abbrev pub codes_of_pieces : Form → List Piece → List ℕ
 codes_of_pieces to ps = flat_map (written to) (map shown ps)
 
--- Of UTF-8 there are parts that show the one, and their single pieces show the other: each U+FFFD of a maximal subpart stands for as
--- many as it has bytes.
+-- In UTF-8 there are parts that give one output, and their single pieces give the other: each U+FFFD of a maximal
+-- subpart corresponds to as many as it has bytes.
 abbrev pub LossyJoinsFaults : Type 0
 LossyJoinsFaults =
     (to : Form) (bytes : List ℕ)

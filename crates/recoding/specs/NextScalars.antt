@@ -1,4 +1,4 @@
--- What the front of some bytes shows.
+-- The scalar at the front of some bytes.
 use Rattle.std.specs.Prelude.{◌≡◌, ℕ, ◌<◌, ◌≤◌, ◌++◌, ◌∷◌, List, length, drop, Bool}
 use Rattle.utf_base.specs.Scalar.{IsScalar}
 use Rattle.recoding.specs.declared.form.Form.{Form}
@@ -16,7 +16,7 @@ pub record Decides (reads : List ℕ → List ℕ → Type 0) (w : List ℕ) (s 
   pub wide : 0x1_0000 ≤ s → 2 ≤ n
   pub first : (later ss : List ℕ) → reads (drop n w ++ later) ss → reads (w ++ later) (s ∷ ss)
 
--- The same where nothing follows.
+-- The bytes begin with n bytes that show the scalar s, if nothing follows.
 pub record Ends (reads : List ℕ → List ℕ → Type 0) (w : List ℕ) (s n : ℕ) : Type 0 where
   pub some : 0 < n
   pub within : n ≤ length w
@@ -24,12 +24,12 @@ pub record Ends (reads : List ℕ → List ℕ → Type 0) (w : List ℕ) (s n :
   pub wide : 0x1_0000 ≤ s → 2 ≤ n
   pub first : (ss : List ℕ) → reads (drop n w) ss → reads w (s ∷ ss)
 
--- what a piece shows: its scalar, or U+FFFD for a fault
+-- the scalar of a piece, or U+FFFD for a fault
 abbrev pub front_of : ShownPiece → NextScalar
 front_of (piece.Char s n) = record { c = s; len = n; faults = 0 }
 front_of (piece.Fault n) = record { c = 0xFFFD; len = n; faults = 1 }
 
--- how many bytes a fault has, where there are so many
+-- the length of a fault in bytes, if there are as many
 abbrev pub fault_len : Form → ℕ
 fault_len from = (text_form from).fault_len
 
@@ -42,10 +42,10 @@ pub record MayBeSecond (first second : ℕ) : Type 0 where
   pub after_f0 : first ≡ 0xF0 → 0x90 ≤ second
   pub after_f4 : first ≡ 0xF4 → second < 0x90
 
--- The bytes show these scalars, and then what follows them does.
+-- The bytes show these scalars, followed by those of what follows them.
 abbrev pub ShowsEach : (List ℕ → List ℕ → Type 0) → List ℕ → List ℕ → Type 0
 ShowsEach reads w ts = (later ss : List ℕ) → reads later ss → reads (w ++ later) (ts ++ ss)
 
--- The form has units, of which the high byte is the first or the second.
+-- The encoding has units, of which the high byte is the first or the second.
 abbrev pub HasByteOrder : Bool → Form → Type 0
 HasByteOrder high_first from = from ≡ utf16_form high_first

@@ -1,4 +1,4 @@
--- What blocks do to an output.
+-- The effect of blocks on an output.
 use Rattle.std.specs.Prelude.{◌≡◌, ℕ, ◌%◌, ◌≤◌, Bool, not, List, length, take}
 use Rattle.std.proofs.Math.Bool.{beq}
 use Rattle.recoding.specs.Rooms.{IsAmple}
@@ -7,7 +7,7 @@ use Rattle.utf_lanes.specs.Utf8ToUtf16.{concat_range}
 use Rattle.utf_lanes.specs.UnitBlocks.{AreCodes}
 use Rattle.utf_lanes.specs.UnitCodes.{lane_unit, code_at, AreText}
 
--- There is room for all that comes of the bytes, whatever the forms.
+-- There is capacity for the whole output for the bytes, whatever the encodings.
 abbrev pub FitsAll : List ℕ → ℕ → Type 0
 FitsAll bytes room = IsAmple room (length bytes)
 
@@ -21,7 +21,7 @@ pub record PutsUnits {O : Type 0} (appends : O → List ℕ → O → Type 0) (l
 abbrev pub differ : Bool → Bool → Bool
 differ high other = not (beq high other)
 
--- So many bytes at the front are well-formed units, which were appended as they stand or with the bytes of each swapped.
+-- The first bytes are well-formed units, which were appended as they are or with the bytes of each swapped.
 pub record CopiesUnits {O : Type 0} (appends : O → List ℕ → O → Type 0) (high_first swaps : Bool) (bytes : List ℕ) (old new : O) (read : ℕ) : Type 0 where
   pub within : read ≤ length bytes
   pub even : read % 2 ≡ 0

@@ -1,4 +1,5 @@
--- What bytes become where each fault is one U+FFFD, or each maximal subpart, and what begins them.
+-- The output for bytes if one U+FFFD replaces each fault, or each maximal subpart, and the piece that begins
+-- them.
 use Rattle.std.specs.Prelude.{◌≡◌, ℕ, ◌+◌, ◌*◌, ◌<◌, ◌≤◌, List, ◌++◌, length, min, take, drop, IsTrue, Vec}
 use Rattle.recoding.specs.declared.form.Form.{Form}
 use Rattle.recoding.specs.declared.next_scalar.ShownPiece.{ShownPiece}
@@ -16,12 +17,12 @@ use Rattle.recoding.specs.Recoded.{Lacks, Reads, Recoding, most_held}
 use Rattle.recoding.specs.RecodedBytes.{recoded}
 use Rattle.recoding.specs.Rooms.{BeginsLonger}
 
--- what the bytes show so
+-- the scalars of the bytes in this way of replacing
 abbrev pub reads_by : Way → Form → List ℕ → List ℕ → Type 0
 reads_by Faults = Reads
 reads_by Subparts = ReadsParts
 
--- what they become, as one list
+-- the transcoded bytes in this way of replacing, as one list
 abbrev pub list_by : Way → Form → Form → List ℕ → List ℕ
 list_by Faults = recoded
 list_by Subparts = lossy
@@ -31,18 +32,19 @@ abbrev pub IsCounting : Way → Type 0
 IsCounting Faults = Unit {0}
 IsCounting Subparts = ⊥
 
--- Whatever follows the bytes, they become `grown`, and then what the held ones do before what follows. So many faults were replaced.
+-- Whatever follows the bytes, they become `grown`, followed by what the carried-over ones become before what follows.
+-- The number of faults that were replaced is given.
 pub record Becomes (way : Way) (from to : Form) (bytes grown : List ℕ) (faults : ℕ) (held : List ℕ) : Type 0 where
   pub same : (later : List ℕ) → list_by way from to (bytes ++ later) ≡ grown ++ list_by way from to (held ++ later)
   pub counts : IsCounting way → CountsTo from bytes faults held
 
--- The bytes begin with n bytes that show the scalar s and are so many faults, whatever follows.
+-- The bytes begin with n bytes that show the scalar s and are k faults, whatever follows.
 pub record BeginsBy (way : Way) (from : Form) (w : List ℕ) (s n faults : ℕ) : Type 0 where
   pub decides : Decides (reads_by way from) w s n
   pub few : faults ≤ 1
   pub counts : IsCounting way → CountsTo from w faults (drop n w)
 
--- The same where nothing follows.
+-- The bytes begin with n bytes that show the scalar s and are k faults, if nothing follows.
 pub record BeginsLast (way : Way) (from : Form) (w : List ℕ) (s n faults : ℕ) : Type 0 where
   pub ends : Ends (reads_by way from) w s n
   pub few : faults ≤ 1
@@ -53,27 +55,30 @@ abbrev pub IsNext : Way → Form → List ℕ → ShownPiece → Type 0
 IsNext way from w (piece.Char s n) = BeginsBy way from w s n 0
 IsNext way from w (piece.Fault n) = BeginsBy way from w 0xFFFD n 1
 
--- how many of so many bytes become one U+FFFD where they are too few and nothing follows: those of a fault, or all, which are one subpart
+-- the number of bytes that become one U+FFFD if they are too few and nothing follows: those of a fault, or
+-- all of them, which are one subpart
 abbrev pub len_at_end : Way → Form → ℕ → ℕ
 len_at_end Faults from count = min (fault_len from) count
 len_at_end Subparts from count = count
 
--- The bytes that are left begin so, whatever follows them, and the code of what is shown first is longer than the room.
+-- The bytes that are left begin with this piece, whatever follows them, and the code of its scalar is longer
+-- than the buffer.
 abbrev pub NextIsLonger : Way → Form → Form → List ℕ → ℕ → Type 0
 NextIsLonger way from to left room = BeginsLonger (Decides (reads_by way from) left) to room
 
--- so a recoder, of so many bytes read, can go no further
+-- a recoder, after the bytes that were read, can go no further: the code of the next scalar is longer than
+-- the buffer
 abbrev pub IsFullBy : Way → Recoding → List ℕ → ℕ → ℕ → Type 0
 IsFullBy way r part read room = NextIsLonger way r.from r.to (r.held ++ drop read part) room
 
--- nor where nothing follows the held bytes
+-- a recoder can go no further at the end: the code for the carried-over bytes is longer than the buffer
 abbrev pub IsLastFullBy : Way → Recoding → ℕ → Type 0
 IsLastFullBy way r room = BeginsLonger (Ends (reads_by way r.from) r.held) r.to room
 
--- Any output.
+-- Definitions for any type of output.
 
--- So many bytes were recoded, by the three that follow them and no others, so many faults were replaced, and what came of both
--- was appended. No more than three bytes came of each, and no more than one fault.
+-- Bytes were transcoded that the three that follow them decide, and no others; their faults were counted, and the
+-- output for both was appended. At most three bytes were written for each byte, and at most one fault counted.
 pub record Recodes {O : Type 0} (appends : O → List ℕ → O → Type 0) (way : Way) (from to : Form) (bytes : List ℕ) (old new : O) (read faults : ℕ) : Type 0 where
   pub grown : List ℕ
   pub appended : appends old grown new
@@ -82,19 +87,19 @@ pub record Recodes {O : Type 0} (appends : O → List ℕ → O → Type 0) (way
   pub few : faults ≤ read
   pub becomes : Becomes way from to (take (read + 3) bytes) grown faults (take 3 (drop read bytes))
 
--- The places of a list after the written ones became these bytes, of a list and the place after what was written.
+-- The bytes of a list after the written ones became these; a list and the offset after what was written.
 pub record FillsPlace (old : List ℕ × ℕ) (bytes : List ℕ) (new : List ℕ × ℕ) : Type 0 where
   pub whole : length new.0 ≡ length old.0
   pub fits : new.1 ≤ length new.0
   pub len : new.1 ≡ old.1 + length bytes
   pub front : take new.1 new.0 ≡ take old.1 old.0 ++ bytes
 
--- a list, of which so many bytes are written
+-- a list, and the number of bytes at its front that are written
 abbrev pub at_place : List ℕ → ℕ → List ℕ × ℕ
 at_place xs n = (xs, n)
 
--- How far a run went: so many bytes were recoded and so many faults replaced as it says, and it ended before a code for which there is no room, or since
--- what follows decides, or neither.
+-- The end of a run: bytes were transcoded and faults replaced as it returns, and it ended before a code for which
+-- there is no capacity, or since what follows decides, or for neither reason.
 pub record Reaches {O : Type 0} (appends : O → List ℕ → O → Type 0) (room : O → ℕ) (way : Way) (from to : Form) (bytes : List ℕ) (old new : O) (reached : Reached) : Type 0 where
   pub runs : Recodes appends way from to bytes old new reached.read reached.replaced
   pub full : IsTrue reached.is_full → NextIsLonger way from to (drop reached.read bytes) (room new)
@@ -102,8 +107,8 @@ pub record Reaches {O : Type 0} (appends : O → List ℕ → O → Type 0) (roo
   pub waits : IsTrue reached.is_waiting → length bytes ≤ reached.read + 3
   pub lacks : IsTrue reached.is_waiting → Lacks from (drop reached.read bytes)
 
--- So many bytes of a part were read, after those that were held, so many faults were replaced, which are not counted yet, and some
--- bytes are held.
+-- The part was read up to some byte, after the carried-over bytes; faults were replaced, which are not counted yet,
+-- and some bytes are carried over.
 pub record Takes {O : Type 0} (appends : O → List ℕ → O → Type 0) (way : Way) (r : Recoding) (part : List ℕ) (old new : O) (read faults : ℕ) (s : Recoding) : Type 0 where
   pub grown : List ℕ
   pub appended : appends old grown new
@@ -116,7 +121,7 @@ pub record Takes {O : Type 0} (appends : O → List ℕ → O → Type 0) (way :
   pub replaced : s.replaced ≡ r.replaced
   pub few : length s.held ≤ most_held
 
--- The same of the bytes that are held at the end.
+-- The carried-over bytes at the end were transcoded; faults were replaced, which are not counted yet.
 pub record TakesLast {O : Type 0} (appends : O → List ℕ → O → Type 0) (way : Way) (r : Recoding) (old new : O) (faults : ℕ) (s : Recoding) : Type 0 where
   pub grown : List ℕ
   pub appended : appends old grown new

@@ -1,4 +1,4 @@
-//! Texts of ASCII alone, written as units.
+//! Texts of only ASCII, written as units.
 ghost use Rattle.std.specs.Prelude.{◌≡◌, ◌+◌, ◌*◌, ◌≤◌, ◌++◌, length, take, drop};
 ghost use Rattle.utf_lanes.specs.AsciiTexts.{AreAscii};
 ghost use Rattle.utf_lanes.specs.Utf8ToUtf16.{halves};
@@ -23,8 +23,9 @@ pub(crate) fn put_ascii_as_utf16<O: Output, E: ByteOrder>(bytes: &[u8], out: &mu
     put_each::<O, E>(last, out);
 }
 
-// The same of the first bytes, in blocks of 64, as long as such a block and the one after it are ASCII. Answers where they
-// end. Each block is judged just before, and what follows the last is left with a block of ASCII at its front.
+// Appends the units of the first bytes, in blocks of 64, while such a block and the one after it are ASCII. Returns
+// the offset after them. Each block is validated just before it is written, and the rest begins with a block of
+// ASCII.
 #[inline(always)]
 #[tactic(auto, using(crate::proofs::AsciiToUtf16::few_widened))]
 pub(crate) fn put_ascii_front<O: Output, E: ByteOrder>(bytes: &[u8], out: &mut O) -> usize
@@ -44,7 +45,7 @@ pub(crate) fn put_ascii_front<O: Output, E: ByteOrder>(bytes: &[u8], out: &mut O
     place
 }
 
-// One of them.
+// Widens one 64-byte ASCII block.
 #[inline(always)]
 fn put_ascii_64<O: Output, E: ByteOrder>(bytes: &[u8], place: usize, out: &mut O)
     requires within { place + 64 ≤ length bytes.now }
@@ -56,7 +57,7 @@ fn put_ascii_64<O: Output, E: ByteOrder>(bytes: &[u8], place: usize, out: &mut O
     out.put_wide(second);
 }
 
-// The same of blocks of sixteen. Answers where the last one ends.
+// Appends the units of ASCII bytes in blocks of sixteen. Returns the end of the last block.
 #[inline(always)]
 #[tactic(auto, using(crate::proofs::AsciiToUtf16::few_widened))]
 fn put_lanes<O: Output, E: ByteOrder>(bytes: &[u8], out: &mut O) -> usize
@@ -72,7 +73,7 @@ fn put_lanes<O: Output, E: ByteOrder>(bytes: &[u8], out: &mut O) -> usize
     place
 }
 
-// One of them.
+// Widens one 16-byte ASCII block.
 #[inline(always)]
 fn put_16<O: Output, E: ByteOrder>(bytes: &[u8], place: usize, out: &mut O)
     requires within { place + 16 ≤ length bytes.now }
@@ -83,7 +84,7 @@ fn put_16<O: Output, E: ByteOrder>(bytes: &[u8], place: usize, out: &mut O)
     out.put(&beside(first, second));
 }
 
-// The bytes of both, which are put at once: so a compiler counts them once.
+// Both vectors as one array, which is appended in one write: so the compiler updates the length once.
 #[inline(always)]
 fn beside(first: u8x16, second: u8x16) -> [u8; 32]
     ensures { result ≡ first ++ second }
@@ -94,7 +95,7 @@ fn beside(first: u8x16, second: u8x16) -> [u8; 32]
     both
 }
 
-// The same of a few bytes, one by one.
+// Appends the units of a few ASCII bytes, one by one.
 #[inline(always)]
 #[tactic(auto, using(crate::proofs::AsciiToUtf16::few_widened))]
 fn put_each<O: Output, E: ByteOrder>(bytes: &[u8], out: &mut O)

@@ -1,4 +1,4 @@
-//! Where blocks of units and of text are put.
+//! Outputs for blocks of units and of text.
 ghost use Rattle.std.specs.Prelude.{◌*◌, ◌≤◌, length};
 ghost use Rattle.recoding.specs.NextScalars.{utf16_form};
 ghost use Rattle.recoding.specs.Strict.{PutsText};
@@ -8,16 +8,16 @@ ghost use Rattle.utf_lanes.specs.Utf8ToUtf16.{utf16_bytes};
 use crate::output::Output;
 use utf_lanes::byte_order::ByteOrder;
 
-// An output into which blocks between UTF-8 and UTF-16 are written where they stay.
+// An output into which blocks converted between UTF-8 and UTF-16 are written in place.
 pub(crate) trait BlockOutput: Output {
-    // Appends the units that the places of some text give.
+    // Appends the units of the offsets of some text.
     fn put_units<E: ByteOrder>(&mut self, text: &[u8])
         requires long { 32 ≤ length text.now }
         requires room { 3 * length text.now ≤ Self.room self.old }
         ensures { Self.appends self.old (utf16_bytes E.HIGH_FIRST text.now 0 (length text.now)) self.new };
 
-    // Recodes the blocks of units at the front of the bytes as UTF-8, as far as they have no fault and the room is surely enough.
-    // Answers how many bytes they have.
+    // Transcodes the blocks of units at the front of the bytes to UTF-8, as far as they have no fault and the
+    // worst-case output fits. Returns the length of the blocks in bytes.
     fn put_blocks<E: ByteOrder>(&mut self, bytes: &[u8]) -> usize
         ensures { PutsText Self.appends (utf16_form E.HIGH_FIRST) Utf8 bytes.now self.old self.new result };
 }

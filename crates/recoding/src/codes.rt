@@ -1,4 +1,4 @@
-//! The codes of characters, put to an output.
+//! Encoded characters, written to an output.
 ghost use Rattle.std.specs.Prelude.{◌≡◌, ◌<◌, ◌≤◌, [], ◌∷◌, length, take, flat_map};
 ghost use Rattle.utf_base.specs.Code.{utf16};
 ghost use Rattle.recoding.specs.Recoded.{written};
@@ -9,7 +9,7 @@ use encode_unicode::CharExt;
 use utf_lanes::byte_order::ByteOrder;
 use utf_lanes::byte_pairs::two_bytes;
 
-// How many bytes the code of the character has.
+// The length of the encoded character in bytes.
 #[inline(always)]
 pub(crate) fn len_of_units<E: ByteOrder>(c: char) -> usize
     ensures { result ≡ length (flat_map (bytes_of E.HIGH_FIRST) (utf16 c)) }
@@ -20,7 +20,7 @@ pub(crate) fn len_of_units<E: ByteOrder>(c: char) -> usize
     }
 }
 
-// Appends the first bytes of a code. Each length has writes of its own, so that between them nothing is tested.
+// Appends the first bytes of a code. Each length has writes of its own, so that nothing is tested between them.
 #[inline(always)]
 pub(crate) fn put_short<O: Output>(code: [u8; 4], len: usize, out: &mut O)
     requires some { 0 < len }

@@ -1,4 +1,4 @@
-//! One run over bytes, from any form into any other and to any output.
+//! One run over bytes, from any encoding into any other and to any output.
 ghost use Rattle.std.specs.Prelude.{◌≡◌, ◌+◌, ◌<◌, ◌≤◌, length, take, drop, IfSome, IfNone, IsTrue, IsFalse};
 ghost use Rattle.recoding.specs.Recoded.{Lacks};
 ghost use Rattle.recoding.specs.Recodes.{FitsAll};
@@ -14,34 +14,37 @@ use crate::text::{Text, Utf8, Utf16};
 use crate::way::{Each, Replacing, Subparts, Way};
 use utf_lanes::byte_order::{BigEndian, LittleEndian};
 
-// How many bytes go with care before a run looks for text again, where no fault is among them.
+// The number of bytes that are transcoded by the careful path before a run tries the fast path again, if they
+// have no fault.
 pub(crate) const STRIDE: usize = 16;
 
-// How many bytes go with care from a fault on.
+// The number of bytes that are transcoded by the careful path from a fault on.
 pub(crate) const AFTER_FAULT: usize = 8;
 
-// How many bytes of text go character by character before a run looks for a block again.
+// The number of bytes of text that are transcoded character by character before a run tries blocks again.
 const STRETCH: usize = 128;
 
-// How many bytes have to go in blocks at once for a run to look for the next block there: all of a part but its last code.
+// The number of bytes that the last blocks must have for a run to try blocks directly after them: all of a part but
+// its last code.
 const MANY: usize = PART - 4;
 
-// How far a run went.
+// The progress of a run.
 #[derive(Clone, Copy, Drop)]
 pub(crate) struct Reached {
-    // How many bytes were recoded.
+    // The number of bytes that were transcoded.
     pub(crate) read: usize,
-    // How many of their faults became U+FFFD.
+    // The number of their faults that became U+FFFD.
     pub(crate) replaced: usize,
-    // Whether it ended since the next code is longer than the room.
+    // Whether it ended because the next code does not fit.
     pub(crate) is_full: bool,
-    // Whether it ended since what follows the bytes decides what the last of them show.
+    // Whether it ended because the bytes that follow decide the scalar of the last ones.
     pub(crate) is_waiting: bool,
 }
 
-// Recodes the bytes as far as no later byte can change what they show, and there is room, of which a caller may know that it is
-// enough for all: in blocks where the bytes allow it, then character by character, and with care only where there is a fault,
-// at the end, or at the end of the room. Each pair of forms has a copy of it, in which a compiler knows the forms.
+// Transcodes the bytes as far as no later byte can change their scalars, and as far as there is capacity: in blocks
+// if the bytes allow it, then character by character, and by the careful path only at a fault, at the end, or if the
+// output is nearly full. `is_ample`: the caller guarantees that the output fits. Monomorphised for each pair of
+// encodings, so that the compiler knows them.
 #[inline(always)]
 pub(crate) fn run<S: Text, T: Text, K: Kernel<S, T>, O: BlockOutput>(
     way: Way,
@@ -66,7 +69,7 @@ pub(crate) fn run<S: Text, T: Text, K: Kernel<S, T>, O: BlockOutput>(
         }
         let count = recode_stretch::<S, T, K, O>(is_ample, &bytes[read..], out);
         read += count;
-        // A stretch with no fault in it goes to its last code.
+        // A stretch without a fault extends to its last code.
         if count < STRETCH - 3 {
             if read == bytes.len() {
                 return ended(read, replaced, false, true);
@@ -94,7 +97,7 @@ pub(crate) fn ended(read: usize, replaced: usize, is_full: bool, is_waiting: boo
     }
 }
 
-// Whether there is surely room for all that comes of the bytes.
+// Returns true if the worst-case output fits.
 #[inline(always)]
 pub(crate) fn has_room_for_all<O: Output>(bytes: &[u8], out: &O) -> bool
     ensures { IsTrue result → FitsAll bytes.now (O.room out.now) }
@@ -102,7 +105,7 @@ pub(crate) fn has_room_for_all<O: Output>(bytes: &[u8], out: &O) -> bool
     bytes.len() <= out.room() / WIDEST
 }
 
-// The same where it is known that there is, or not known.
+// Returns true if the output fits: the caller guarantees it (`is_ample`), or the worst case does.
 #[inline(always)]
 fn fits_all<O: Output>(is_ample: bool, bytes: &[u8], out: &O) -> bool
     requires { IsTrue is_ample → FitsAll bytes.now (O.room out.now) }
@@ -114,8 +117,8 @@ fn fits_all<O: Output>(is_ample: bool, bytes: &[u8], out: &O) -> bool
     has_room_for_all(bytes, out)
 }
 
-// Recodes text at the front of the bytes, character by character, as far as a stretch goes and the room is surely enough, and
-// no fault and none of the last bytes.
+// Transcodes text at the front of the bytes, character by character, up to the end of a stretch, while the worst-case
+// output fits; it stops before a fault and before the last bytes.
 #[inline(always)]
 fn recode_stretch<S: Text, T: Text, K: Kernel<S, T>, O: Output>(
     is_ample: bool,
@@ -135,7 +138,7 @@ fn recode_stretch<S: Text, T: Text, K: Kernel<S, T>, O: Output>(
     recode_text_within::<S, T, O>(stretch, out)
 }
 
-// The same of all the bytes, for which there is room.
+// Transcodes text at the front of all the bytes, character by character; the output fits.
 #[inline(always)]
 fn recode_text<S: Text, T: Text, O: Output>(bytes: &[u8], out: &mut O) -> usize
     requires { FitsAll bytes.now (O.room out.old) }
@@ -155,7 +158,7 @@ fn recode_text<S: Text, T: Text, O: Output>(bytes: &[u8], out: &mut O) -> usize
     read
 }
 
-// The same as long as there is room for any code.
+// Transcodes text at the front of the bytes, character by character, while there is capacity for any code.
 #[inline(never)]
 fn recode_text_within<S: Text, T: Text, O: Output>(bytes: &[u8], out: &mut O) -> usize
     ensures { PutsText O.appends S.form T.form bytes.now out.old out.new result }
@@ -174,15 +177,15 @@ fn recode_text_within<S: Text, T: Text, O: Output>(bytes: &[u8], out: &mut O) ->
     read
 }
 
-// Recodes text at the front of the bytes in blocks, as far as they are text and the room is surely enough. Answers how many bytes
-// it has.
+// Transcodes text at the front of the bytes in blocks, as far as they are text and the worst-case output fits.
+// Returns the length of that text in bytes.
 pub(crate) fn put_text<O: BlockOutput>(from: Form, to: Form, bytes: &[u8], out: &mut O) -> usize
     ensures { PutsText O.appends from to bytes.now out.old out.new result }
 {
     by_forms!(from, to, put_all_text::<O>(bytes, out))
 }
 
-// The same under the types of the forms.
+// `put_text`, monomorphised for a pair of encodings.
 fn put_all_text<S: Text, T: Text, K: Kernel<S, T>, O: BlockOutput>(
     bytes: &[u8],
     out: &mut O,
@@ -199,7 +202,8 @@ fn put_all_text<S: Text, T: Text, K: Kernel<S, T>, O: BlockOutput>(
     }
 }
 
-// Recodes a few bytes with care, or fewer from the last fault among them on. Where the ways differ, each has loops of its own.
+// Transcodes a few bytes by the careful path, or fewer from the last fault among them on. If the ways of
+// replacing differ, each has loops of its own.
 #[inline(always)]
 fn recode_carefully<S: Text, T: Text, O: Output>(
     way: Way,
@@ -220,7 +224,7 @@ fn recode_carefully<S: Text, T: Text, O: Output>(
     }
 }
 
-// The same in a way that a compiler may know.
+// `recode_carefully`, monomorphised for the way of replacing.
 #[inline(always)]
 fn recode_by<S: Text, T: Text, F: Replacing, O: Output>(
     by: F,
@@ -238,7 +242,7 @@ fn recode_by<S: Text, T: Text, F: Replacing, O: Output>(
     recode_faults_within::<S, T, F, O>(by, bytes, out)
 }
 
-// The same where there is room for all the bytes, kept out of the loop that seldom calls it.
+// The careful path if the output fits. Outlined, since the loop rarely calls it.
 #[inline(never)]
 fn recode_faults<S: Text, T: Text, F: Replacing, O: Output>(
     by: F,
@@ -256,7 +260,7 @@ fn recode_faults<S: Text, T: Text, F: Replacing, O: Output>(
         let Some(first) = next_at::<S>(by.way(), bytes, read) else {
             return ended(read, replaced, false, true);
         };
-        // A compiler knows the code of a fault where nothing else is written.
+        // The compiler knows the code of U+FFFD if nothing else is written here.
         match first {
             ShownPiece::Char(c, len) => {
                 T::put_code(c, out);
@@ -273,7 +277,7 @@ fn recode_faults<S: Text, T: Text, F: Replacing, O: Output>(
     ended(read, replaced, false, false)
 }
 
-// The same as far as there is room.
+// The careful path as far as there is capacity.
 #[inline(never)]
 fn recode_faults_within<S: Text, T: Text, F: Replacing, O: Output>(
     by: F,
@@ -308,7 +312,8 @@ fn recode_faults_within<S: Text, T: Text, F: Replacing, O: Output>(
     ended(read, replaced, false, false)
 }
 
-// What begins at a place of the bytes, by no more than four of them; `None` where that depends on what follows all of them.
+// The piece at an offset of the bytes, decided by at most four of them; `None` if it depends on what follows
+// all of them.
 #[inline(always)]
 fn next_at<S: Text>(way: Way, bytes: &[u8], place: usize) -> Option<ShownPiece>
     requires { place ≤ length bytes.now }

@@ -1,4 +1,4 @@
-//! Where strict recoding stops: what is faulty there, and where it is.
+//! The faults at which strict transcoding stops: their kind and their offset.
 
 use encode_unicode::error::{Utf8ErrorKind, Utf16PairError};
 
@@ -11,39 +11,37 @@ pub enum FaultKind {
     Utf16(Utf16PairError),
 }
 
-/// The invalid bytes at which strict recoding stopped.
+/// The invalid bytes at which strict transcoding stopped.
 ///
-/// They count as read, and nothing was written for them. Their offset in the whole input is the
-/// number of bytes that all calls have read, this call included, minus `back`. They may lie in an
-/// earlier part.
+/// They count as read, and nothing was written for them. Their offset in the whole input is the number of
+/// bytes that all calls have read, this call included, minus `back`. They may lie in an earlier part.
 #[derive(Clone, Copy, Debug, PartialEq, Eq, Drop)]
 pub struct Fault {
     /// Why they are invalid: the kind that a decoder gives, however the input was divided.
     pub kind: FaultKind,
-    /// How many bytes they are: 1 in UTF-8, 2 for a lone surrogate, 1 for an odd byte at the end of
-    /// UTF-16.
+    /// The length in bytes: 1 in UTF-8, 2 for a lone surrogate, 1 for an odd byte at the end of UTF-16.
     pub len: usize,
     /// The distance in bytes from the first of them to the end of what was read: at most 5.
     pub back: usize,
 }
 
-/// Why a call of strict recoding ended.
+/// Why a call of strict transcoding ended.
 #[derive(Clone, Copy, Debug, PartialEq, Eq, Drop)]
 pub enum Outcome {
-    /// All of the part was read, or at the end all that was held, and no invalid byte is known yet.
+    /// All of the part was read, or at the end all carried-over bytes, and no invalid byte is known yet.
     AllRead,
-    /// The next character does not fit into the room that remains.
+    /// The next character does not fit into the buffer that remains.
     Full,
     /// The call stopped at these invalid bytes.
     Faulty(Fault),
 }
 
-/// How far a call of strict recoding went.
+/// The progress of a call of strict transcoding.
 #[derive(Clone, Copy, Debug, PartialEq, Eq, Drop)]
 pub struct StrictProgress {
-    /// How many bytes of the part were read.
+    /// The number of bytes of the part that were read.
     pub read: usize,
-    /// How many bytes of the room were written, from its front. The rest of it may hold anything.
+    /// The number of bytes of the buffer that were written, from its front. The rest of it may hold anything.
     pub written: usize,
     /// Why it went no further.
     pub outcome: Outcome,

@@ -1,10 +1,10 @@
-//! Bytes written into a slice from a place on.
+//! Bytes written into a slice from an offset on.
 ghost use Rattle.std.specs.Prelude.{◌≡◌, ◌+◌, ◌<◌, ◌≤◌, [], ◌∷◌, length};
 ghost use Rattle.recoding.specs.Rooms.{Fills};
 
 use std::simd::prelude::*;
 
-// Writes the bytes at the place, and answers the place after them.
+// Writes the bytes at the offset, and returns the offset after them.
 #[inline(always)]
 pub(crate) fn put_all(bytes: &[u8], room: &mut [u8], place: usize) -> usize
     requires { place + length bytes.now ≤ length room.old }

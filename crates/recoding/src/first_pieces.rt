@@ -1,4 +1,4 @@
-//! The piece that begins some bytes, of which a fault has its kind.
+//! The piece that begins some bytes, with the kind of a fault.
 ghost use Rattle.std.specs.Prelude.{◌≡◌, ◌<◌, length, min, MatchResult};
 ghost use Rattle.recoding.specs.NextScalars.{fault_len, utf16_form};
 ghost use Rattle.recoding.specs.Strict.{BeginsChar, EndsInFault, IsFirstPiece, lacking};
@@ -10,14 +10,14 @@ use encode_unicode::{CharExt, U16UtfExt};
 use utf_lanes::byte_order::ByteOrder;
 use utf_lanes::byte_pairs::unit;
 
-// What begins some bytes.
+// The piece that begins some bytes.
 #[derive(Clone, Copy, Drop)]
 pub(crate) enum FirstPiece {
-    // A character, and how many bytes its code has.
+    // A character, and its length in bytes.
     Char(char, usize),
-    // A fault, and how many bytes it has.
+    // A fault, and its length in bytes.
     Fault(FaultKind, usize),
-    // That depends on what follows the bytes, or there is none.
+    // What follows the bytes decides, or there is none.
     Undecided,
 }
 
@@ -35,7 +35,7 @@ pub(crate) fn first_of_utf8(bytes: &[u8]) -> FirstPiece
     }
 }
 
-// The same of UTF-16.
+// The piece that begins bytes of UTF-16, whatever follows them.
 #[inline(always)]
 pub(crate) fn first_of_utf16<E: ByteOrder>(bytes: &[u8]) -> FirstPiece
     ensures { IsFirstPiece (utf16_form E.HIGH_FIRST) bytes.now result }

@@ -1,9 +1,9 @@
-//! The forms in which bytes are text.
+//! The encodings of text in bytes.
 
 /// An encoding of text in bytes.
 ///
-/// A byte order mark is the character U+FEFF, as any other. But for `form_of_bom` no call looks for
-/// one, and none adds one or takes one away (RFC 2781, section 3.2).
+/// A byte order mark is the character U+FEFF, like any other. Only `form_of_bom` looks for one, and no call
+/// adds or removes one (RFC 2781, section 3.2).
 #[derive(Clone, Copy, Debug, PartialEq, Eq, Drop)]
 pub enum Form {
     /// UTF-8 (RFC 3629, section 3).
@@ -14,5 +14,5 @@ pub enum Form {
     Utf16Be,
 }
 
-// The most bytes that come of one byte, whatever the forms.
+// The greatest number of bytes written for one byte, whatever the encodings.
 pub(crate) const WIDEST: usize = 3;

@@ -1,4 +1,4 @@
-//! What a form is asked that is known only when it runs: a function of its type.
+//! Calls on an encoding that is known only at run time: each calls a function of its type.
 ghost use Rattle.std.specs.Prelude.{◌≡◌, ◌<◌, ◌≤◌, length, min, IfSome, IfNone, IsTrue, IsFalse};
 ghost use Rattle.recoding.specs.Recoded.{Lacks, written};
 ghost use Rattle.recoding.specs.NextScalars.{fault_len};
@@ -14,7 +14,7 @@ use crate::text::{Text, Utf8, Utf16};
 use crate::way::Way;
 use utf_lanes::byte_order::{BigEndian, LittleEndian};
 
-// Calls a function of the type of a form.
+// Calls a function of the type of an encoding.
 macro_rules! by_form {
     ($form:expr, $call:ident($($given:expr),*)) => {
         match $form {
@@ -25,7 +25,7 @@ macro_rules! by_form {
     };
 }
 
-// What begins the bytes; `None` where that depends on what follows them.
+// The piece that begins the bytes; `None` if that depends on what follows them.
 #[inline(always)]
 pub(crate) fn next_of(way: Way, from: Form, bytes: &[u8]) -> Option<NextScalar>
     ensures some { IfSome result (λ x. BeginsBy way from bytes.now x.c x.len x.faults) }
@@ -38,7 +38,7 @@ pub(crate) fn next_of(way: Way, from: Form, bytes: &[u8]) -> Option<NextScalar>
     }
 }
 
-// The same where nothing follows the bytes.
+// The piece that begins the bytes, if nothing follows them.
 #[inline(always)]
 pub(crate) fn last_of(way: Way, from: Form, bytes: &[u8]) -> NextScalar
     requires { 0 < length bytes.now }
@@ -50,7 +50,8 @@ pub(crate) fn last_of(way: Way, from: Form, bytes: &[u8]) -> NextScalar
     }
 }
 
-// How many bytes are replaced by one U+FFFD where so many are too few: a fault, or all of them, which are one subpart.
+// The number of bytes that one U+FFFD replaces if `count` are too few: a fault, or all of them, which are one
+// subpart.
 #[inline(always)]
 fn last_len(way: Way, from: Form, count: usize) -> usize
     ensures { result ≡ len_at_end way from count }
@@ -61,7 +62,7 @@ fn last_len(way: Way, from: Form, count: usize) -> usize
     }
 }
 
-// How many bytes a fault has.
+// The length of a fault in bytes.
 #[inline(always)]
 pub(crate) fn fault_bytes(from: Form) -> usize
     ensures { result ≡ fault_len from }
@@ -78,7 +79,7 @@ pub(crate) fn put_code<O: Output>(to: Form, c: char, out: &mut O)
     by_form!(to, put_code(c, out))
 }
 
-// Appends the code of the character, where it fits, and answers whether it does.
+// Appends the code of the character, if it fits, and returns whether it does.
 #[inline(always)]
 pub(crate) fn put_fitting<O: Output>(to: Form, c: char, out: &mut O) -> bool
     ensures put { IsTrue result → O.appends out.old (written to c) out.new }

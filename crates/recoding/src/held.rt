@@ -1,4 +1,4 @@
-//! What a recoder holds, with the part that follows it, and at the end.
+//! Transcoding of the carried-over bytes, together with the part that follows, and at the end.
 ghost use Rattle.std.specs.Prelude.{◌≡◌, [], ◌+◌, ◌-◌, ◌<◌, ◌≤◌, length, take, drop, ◌++◌, IfSome, IfNone, IsTrue, IsFalse};
 ghost use Rattle.recoding.specs.Recoded.{Lacks, most_held};
 ghost use Rattle.recoding.specs.Replacing.{BeginsBy, FillsPlace, IsFullBy, IsLastFullBy, Takes, TakesLast, at_place};
@@ -13,8 +13,8 @@ use crate::room::Room;
 use crate::way::Way;
 
 impl Recoder {
-    // Takes what is held, with as many bytes of the part as it takes, until nothing is held, or all of the part is, or the output is
-    // full. Faults are not counted yet.
+    // Transcodes the carried-over bytes, with as many bytes of the part as they need, until nothing is carried over,
+    // or all of the part is, or the output is full. Faults are not counted yet.
     pub(crate) fn take_held<O: Output>(&mut self, way: Way, part: &[u8], out: &mut O) -> Reached
         ensures takes { Takes O.appends way self.old part.now out.old out.new
             result.read result.replaced self.new }
@@ -44,7 +44,7 @@ impl Recoder {
         ended(read, replaced, false, false)
     }
 
-    // The same into room of a fixed size. Answers also how much of that is written.
+    // `take_held` into a slice; also returns the bytes written.
     pub(crate) fn take_held_into(
         &mut self,
         way: Way,
@@ -65,7 +65,8 @@ impl Recoder {
         (first, out.len)
     }
 
-    // Takes what is held where nothing follows it, until nothing is held, or the output is full.
+    // Transcodes the carried-over bytes that nothing follows, until nothing is carried over, or the output is
+    // full.
     pub(crate) fn take_last<O: Output>(&mut self, way: Way, out: &mut O) -> Reached
         ensures takes { TakesLast O.appends way self.old out.old out.new result.replaced self.new }
         ensures full { IsTrue result.is_full → IsLastFullBy way self.new (O.room out.new) }
@@ -86,7 +87,7 @@ impl Recoder {
         ended(0, replaced, false, false)
     }
 
-    // Holds what the held bytes and these are together, without so many at the front.
+    // Carries over the previous bytes and these, without the first `gone`.
     pub(crate) fn take_more(&mut self, bytes: &[u8], gone: usize)
         requires more { length bytes.now ≤ 3 }
         requires gone { gone ≤ length self.old.held + length bytes.now }
@@ -105,8 +106,8 @@ impl Recoder {
     }
 }
 
-// What begins the held bytes with those that follow them, and how many of those were looked at: no more than tell it, so that a
-// character takes no byte of the next one. `None` where all of them together are too few.
+// The piece that begins the carried-over bytes with those that follow, and how many of the latter were read: no more
+// than decide it, so that a character takes no byte of the next one. `None` if all of them together are too few.
 fn next_of_both(way: Way, from: Form, held: &[u8], rest: &[u8]) -> Option<(NextScalar, usize)>
     requires some { 0 < length held.now }
     requires few { length held.now ≤ most_held }

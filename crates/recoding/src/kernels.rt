@@ -1,4 +1,4 @@
-//! What goes in blocks from one form into another, to any output: copied, widened or narrowed.
+//! Blocks transcoded from one encoding to another, to any output: copied, widened or narrowed.
 ghost use Rattle.std.specs.Prelude.{◌-◌, ◌+◌, ◌*◌, ◌<◌, ◌≤◌, length, IsTrue};
 ghost use Rattle.recoding.specs.Recodes.{FitsAll};
 ghost use Rattle.recoding.specs.Strict.{PutsText};
@@ -18,25 +18,26 @@ use utf_lanes::byte_order::ByteOrder;
 use utf_lanes::text_blocks::{are_text, text_len};
 use utf_lanes::text_puts::{write_few, write_first, write_rest};
 
-// How many bytes are judged before what is text among them is copied or widened, while they are near.
+// The number of bytes that are validated before they are copied or widened, while they are in the cache.
 pub(crate) const PART: usize = 8192;
 
-// The most bytes that are first asked whether they are ASCII. Of more, faults among them would have the same bytes asked again.
+// The greatest number of bytes that are first tested for ASCII. Above this, an error would rescan too much.
 const SHORT: usize = 1024;
 
-// Blocks of text in one form, made of blocks in another.
+// Blocks of text in one encoding, converted to another.
 pub(crate) trait Kernel<S: Text, T: Text> {
-    // Whether they take all text, so that what they leave is at a fault, near the end, or needs more room.
+    // Whether the blocks take all text, so that the rest begins with a fault, is near the end, or needs more
+    // capacity.
     const TAKES_ALL: bool;
 
-    // Recodes text at the front of the bytes, as far as it goes in blocks and the room is surely enough, of which a caller may
-    // know that it is enough for all. Answers how many bytes it has.
+    // Transcodes text at the front of the bytes in blocks, as far as the worst-case output fits; `is_ample`: the
+    // caller guarantees that it does. Returns the length of that text in bytes.
     fn put_text<O: BlockOutput>(is_ample: bool, bytes: &[u8], out: &mut O) -> usize
         requires { IsTrue is_ample → FitsAll bytes.now (O.room out.old) }
         ensures { PutsText O.appends S.form T.form bytes.now out.old out.new result };
 }
 
-// UTF-8 as it is.
+// UTF-8, copied.
 pub(crate) struct Copied;
 
 // UTF-8 as UTF-16.
@@ -45,7 +46,7 @@ pub(crate) struct Widened;
 // UTF-16 as UTF-8.
 pub(crate) struct Narrowed;
 
-// UTF-16 as it is, or with the bytes of each unit swapped.
+// UTF-16, copied or with the bytes of each unit swapped.
 pub(crate) struct Turned;
 
 impl Kernel<Utf8, Utf8> for Copied {
@@ -71,7 +72,7 @@ impl<E: ByteOrder> Kernel<Utf8, Utf16<E>> for Widened {
     #[inline(always)]
     fn put_text<O: BlockOutput>(is_ample: bool, bytes: &[u8], out: &mut O) -> usize {
         let most = PART.min(most_widened(is_ample, bytes, out));
-        // Fewer are never taken in lanes, and in scant room not judged either.
+        // Fewer bytes are never transcoded with SIMD, and if the output is nearly full not validated either.
         if most < 32 && !is_ample {
             return 0;
         }
@@ -88,8 +89,9 @@ impl<E: ByteOrder> Kernel<Utf8, Utf16<E>> for Widened {
     }
 }
 
-// Appends the units of text at the front of a few bytes, which is judged as a whole before. Answers how many bytes it has, or 0
-// where neither one vector has them nor two: of fewer than four, and of seventeen or eighteen.
+// Appends the units of text at the front of a few bytes, which is validated as a whole before. Returns its length in
+// bytes, or 0 if the bytes fit neither in one vector nor in two: if they are fewer than four, or seventeen or
+// eighteen.
 #[inline(never)]
 fn put_few<O: Output, E: ByteOrder>(bytes: &[u8], out: &mut O) -> usize
     requires few { length bytes.now < 32 }
@@ -107,7 +109,7 @@ fn put_few<O: Output, E: ByteOrder>(bytes: &[u8], out: &mut O) -> usize
     len
 }
 
-// Appends the units of text that two vectors have.
+// Appends the units of text that fits in two vectors.
 #[inline(always)]
 #[tactic(auto, using(crate::proofs::GivenBytes::length_given))]
 fn put_few_as_utf16<O: Output, E: ByteOrder>(text: &[u8], out: &mut O)
@@ -122,7 +124,7 @@ fn put_few_as_utf16<O: Output, E: ByteOrder>(text: &[u8], out: &mut O)
     out.put(&made[..last]);
 }
 
-// The same as `put_few` of bytes that one vector has, where all of them are text.
+// Appends the units of bytes that fit in one vector, if all of them are text. Returns their number, or 0.
 #[inline(always)]
 fn put_at_once<O: Output, E: ByteOrder>(bytes: &[u8], out: &mut O) -> usize
     requires few { length bytes.now ≤ 16 }
@@ -136,7 +138,7 @@ fn put_at_once<O: Output, E: ByteOrder>(bytes: &[u8], out: &mut O) -> usize
     bytes.len()
 }
 
-// Appends the units of text that one vector has.
+// Appends the units of text that fits in one vector.
 #[inline(always)]
 #[tactic(auto, using(crate::proofs::GivenBytes::length_given))]
 fn put_one_vector<O: Output, E: ByteOrder>(text: &[u8], out: &mut O)
@@ -150,8 +152,8 @@ fn put_one_vector<O: Output, E: ByteOrder>(text: &[u8], out: &mut O)
     out.put(&made[..end]);
 }
 
-// Appends the units of text at the front of some bytes, which is judged as a whole before. Answers how many bytes it has, or 0
-// of few.
+// Appends the units of text at the front of some bytes, which is validated as a whole before. Returns its length in
+// bytes, or 0 if the bytes are few.
 #[inline(always)]
 fn put_judged<O: BlockOutput, E: ByteOrder>(bytes: &[u8], out: &mut O) -> usize
     requires { WIDEST * length bytes.now ≤ O.room out.old }
@@ -175,8 +177,8 @@ impl<E: ByteOrder> Kernel<Utf16<E>, Utf8> for Narrowed {
     }
 }
 
-// Recodes the blocks of eight units of ASCII at the front of the bytes as UTF-8, as far as there is room. Answers how many bytes
-// they have.
+// Transcodes the blocks of eight units of ASCII at the front of the bytes to UTF-8, as far as there is capacity.
+// Returns their length in bytes.
 #[inline(always)]
 fn narrow_ascii<O: Output, E: ByteOrder>(bytes: &[u8], out: &mut O) -> usize
     ensures { PutsText O.appends (utf16_form E.HIGH_FIRST) form.Utf8 bytes.now out.old out.new result }
@@ -207,7 +209,7 @@ impl<E: ByteOrder, W: ByteOrder> Kernel<Utf16<E>, Utf16<W>> for Turned {
     }
 }
 
-// How many of the bytes there is room for where they are copied.
+// The number of the bytes that fit if they are copied.
 #[inline(always)]
 fn most_copied<O: Output>(is_ample: bool, bytes: &[u8], out: &O) -> usize
     requires { IsTrue is_ample → FitsAll bytes.now (O.room out.now) }
@@ -220,7 +222,7 @@ fn most_copied<O: Output>(is_ample: bool, bytes: &[u8], out: &O) -> usize
     bytes.len().min(out.room())
 }
 
-// And for what comes of them, whatever it is.
+// The number of the bytes whose worst-case output fits.
 #[inline(always)]
 fn most_widened<O: Output>(is_ample: bool, bytes: &[u8], out: &O) -> usize
     requires { IsTrue is_ample → FitsAll bytes.now (O.room out.now) }
@@ -233,7 +235,8 @@ fn most_widened<O: Output>(is_ample: bool, bytes: &[u8], out: &O) -> usize
     bytes.len().min(out.room() / WIDEST)
 }
 
-// Calls a function under the types of two forms and of the blocks between them, and perhaps of an output.
+// Calls a function under the types of two encodings and of the blocks between them, and optionally of an
+// output.
 macro_rules! by_forms {
     ($from:expr, $to:expr, $call:ident $(::<$output:ty>)? ($($given:expr),*)) => {
         match ($from, $to) {

@@ -1,7 +1,7 @@
-//! The laws of recoding.
+//! The laws of transcoding.
 //!
 //! Each function does nothing: its contract is the law.
-ghost use Rattle.recoding.specs.Shards.{ShardsJoin};
+ghost use Rattle.recoding.specs.Shards.{LossyShardsJoin, ShardEndsAreBoundaries, ShardsJoin, StrictShardsJoin};
 ghost use Rattle.recoding.specs.Recoded.{RecodedOnce, PartsAreRecoded, PartsDoNotMatter};
 ghost use Rattle.recoding.specs.Faults.{FaultCountIsOne};
 ghost use Rattle.recoding.specs.LossyBytes.{LossyIsOne, LossyJoinsFaults, LossyPartsAreOne, LossyUnitsAreRecoded, TextIsLossy};
@@ -12,26 +12,26 @@ ghost use Rattle.recoding.specs.Undecided.{FrontsAreUndecided, LackingTextIsUnde
 ghost use Rattle.recoding.specs.Undecided.{LackingUnitIsUndecided, NothingComesEarlier};
 ghost use Rattle.recoding.specs.Fed.{NothingIsFed, PartIsFed, FedIsFront, FedIsRecoded, TwoPartsAreOne, TwoPartsAreRecoded};
 
-/// Bytes are recoded in exactly one way: as the list `recoded`.
+/// Bytes are transcoded in exactly one way: to the list `recoded`.
 pub fn recoded_once()
     ensures once { RecodedOnce }
     ensures list { RecodedIsOne }
 {}
 
-/// Bytes have one number of faults, `fault_count`: those of the one cut, and an odd last byte of UTF-16.
+/// Bytes have one number of faults, `fault_count`: the faults of the one cut, plus one for an odd last byte
+/// of UTF-16.
 pub fn faults_are_counted()
     ensures { FaultCountIsOne }
 {}
 
-/// What a recoder answers over the parts of an input is what the input is recoded as, however it is cut
-/// into parts.
+/// The output of a recoder for the parts of an input is the transcoded input, however it is cut into parts.
 pub fn parts_do_not_matter()
     ensures recoded { PartsAreRecoded }
     ensures same { PartsDoNotMatter }
 {}
 
-/// Parts that are fed one after another are one part. What came of them begins what the whole is recoded as,
-/// whatever follows, and after the end it is the whole. A caller of two parts needs the last clause alone.
+/// Parts that are fed one after another are one part. Their output begins the transcoding of the whole,
+/// whatever follows, and after the end it is the whole. A caller of two parts needs only the last clause.
 pub fn parts_are_one_part()
     ensures nothing { NothingIsFed }
     ensures part { PartIsFed }
@@ -41,10 +41,10 @@ pub fn parts_are_one_part()
     ensures two_recoded { TwoPartsAreRecoded }
 {}
 
-/// A recoder holds nothing that is decided. What `feed` and `feed_into` hold becomes U+FFFD where nothing follows,
-/// and another character where the rest of its code does.
+/// A recoder carries over no byte that is decided. What `feed` and `feed_into` carry over becomes U+FFFD if
+/// nothing follows, and another character if the rest of its code does.
 ///
-/// Of UTF-16 with the high byte first, half a unit is held too where no code begins with it, and a leading surrogate before it.
+/// In UTF-16BE, half a unit is carried over too if no code begins with it, and a leading surrogate before it.
 pub fn held_is_undecided()
     ensures fronts { FrontsAreUndecided }
     ensures text { LackingTextIsUndecided }
@@ -52,12 +52,13 @@ pub fn held_is_undecided()
     ensures unit { LackingUnitIsUndecided }
 {}
 
-/// Where a recoder holds the front of a code, or nothing, none that is right for whatever follows has put out more.
+/// If a recoder carries over the front of a code, or nothing, no recoder that is right whatever follows has written
+/// more.
 pub fn nothing_comes_earlier()
     ensures { NothingComesEarlier }
 {}
 
-/// Bytes are recoded as no more bytes than `room_for` answers: a lossy text is at most three times as long as
+/// Transcoded bytes are at most as long as `room_for` returns: a lossy text is at most three times as long as
 /// its bytes.
 pub fn recoded_is_bounded()
     ensures recoded { RecodedIsBounded }
@@ -65,22 +66,26 @@ pub fn recoded_is_bounded()
     ensures lossy { LossyIsBounded }
 {}
 
-/// Where all that comes of some bytes fits into the room, `feed_into` and then `finish_into` are not full.
+/// If the whole output for some bytes fits into the buffer, `feed_into` and then `finish_into` are not full.
 pub fn room_is_enough()
     ensures feeds { FeedsInRoom }
     ensures left { RoomIsLeft }
     ensures finishes { FinishesInRoom }
 {}
 
-/// Shards over whose ends no code lies may be recoded apart: what comes of them, joined, is what the whole is recoded as.
-/// The kind of a fault in the last three bytes of a shard may differ from its kind in the whole; recoding makes U+FFFD of
-/// each.
+/// Shards that end at offsets of `shard_end` may be transcoded separately: their joined outputs are the output of the
+/// whole, in each of the three ways. With one U+FFFD for each fault, and strictly, it is enough that no code covers
+/// their ends: each shard end is such a boundary. Strictly, the first shard with a fault is the last that counts. The
+/// kind of a fault in the last three bytes of a shard may differ from its kind in the whole.
 pub fn shards_join()
-    ensures { ShardsJoin }
+    ensures boundaries { ShardEndsAreBoundaries }
+    ensures strict { StrictShardsJoin }
+    ensures faults { ShardsJoin }
+    ensures subparts { LossyShardsJoin }
 {}
 
-/// Text is recoded as itself, whatever follows it: where a call that stops at an invalid byte writes something, one that
-/// replaces it writes the same.
+/// Text is transcoded to the same text, whatever follows it: if a call that stops at an invalid byte writes
+/// something, one that replaces it writes the same.
 pub fn text_is_recoded()
     ensures { TextIsRecoded }
 {}
@@ -90,15 +95,15 @@ pub fn lossy_once()
     ensures { LossyIsOne }
 {}
 
-/// What comes of the parts of an input that are fed by `feed_lossy_into`, and of its end, is what the whole input becomes,
-/// however it is cut.
+/// The output for the parts of an input that are fed by `feed_lossy_into`, and for its end, is that for the whole
+/// input, however it is cut.
 pub fn lossy_parts_are_one_part()
     ensures { LossyPartsAreOne }
 {}
 
-/// One U+FFFD for each maximal subpart, or one for each of its bytes: the same characters and maximal subparts show both.
-/// Of UTF-16 both are the same, but for an odd byte after a leading surrogate at the end. Over text they are the same, whatever
-/// follows it.
+/// One U+FFFD for each maximal subpart, or one for each of its bytes: the same characters and maximal subparts give
+/// both outputs. In UTF-16 both are the same, except for an odd byte after a leading surrogate at the end. For text
+/// they are the same, whatever follows it.
 pub fn lossy_joins_faults()
     ensures joins { LossyJoinsFaults }
     ensures units { LossyUnitsAreRecoded }

@@ -1,7 +1,7 @@
-//! Recoding from one form of text into another: in parts, into room of a fixed size, and in shards.
+//! Transcoding from one encoding of text to another: in parts, into a buffer of a fixed size, and in shards.
 //!
-//! `Recoder` takes text in parts, `room_for` says how much comes of some bytes at most, `shard_end` where a large input may be
-//! cut, and `laws` what holds of all recoding. `cuts` passes these on.
+//! `Recoder` takes text in parts, `room_for` returns an upper bound of the output size, `shard_end` an offset where a
+//! large input may be cut, and `laws` has the laws of all transcoding. `cuts` re-exports these.
 //!
 //! It is an addition of this project, and no part of the Rust crate.
 #![tactic(auto)]

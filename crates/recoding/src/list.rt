@@ -17,7 +17,7 @@ use utf_lanes::byte_order::ByteOrder;
 use utf_lanes::unit_bytes::{are_ascii, sixteen_halves};
 use utf_lanes::utf16_blocks::write_others;
 
-// How many zeros are appended at once: so few that the C library stores them by vectors.
+// The number of zeros that are appended in one call: so few that the C library stores them with SIMD.
 const AT_ONCE: usize = 1984;
 
 impl<A: Allocator> Output for Vec<u8, A> {
@@ -67,8 +67,8 @@ impl<A: Allocator> BlockOutput for Vec<u8, A> {
     }
 }
 
-// Appends the units that the places of some text give. They are written where they stay, over zeros, of which those after them then
-// go.
+// Appends the units of the offsets of some text. They are written in place over zeros, and the zeros after them are
+// truncated.
 #[inline(never)]
 fn append_units<A: Allocator, E: ByteOrder>(text: &[u8], out: &mut Vec<u8, A>)
     requires long { 32 ≤ length text.now }
@@ -81,7 +81,7 @@ fn append_units<A: Allocator, E: ByteOrder>(text: &[u8], out: &mut Vec<u8, A>)
     out.truncate(last);
 }
 
-// Appends so many zeros.
+// Appends `count` zeros.
 #[inline(always)]
 fn append_zeros<A: Allocator>(count: usize, out: &mut Vec<u8, A>)
     requires { count ≤ vec_capacity out.old - vec_len out.old }
@@ -95,7 +95,7 @@ fn append_zeros<A: Allocator>(count: usize, out: &mut Vec<u8, A>)
     append_few_zeros(left, out);
 }
 
-// The same at once.
+// Appends at most `AT_ONCE` zeros, in one call.
 #[inline(always)]
 fn append_few_zeros<A: Allocator>(count: usize, out: &mut Vec<u8, A>)
     requires { count ≤ vec_capacity out.old - vec_len out.old }
@@ -104,8 +104,9 @@ fn append_few_zeros<A: Allocator>(count: usize, out: &mut Vec<u8, A>)
     let _ = out.resize(out.len() + count, 0);
 }
 
-// Recodes the blocks of sixteen units at the front of the bytes as UTF-8, as far as they have no fault and the room is surely
-// enough. One that a leading surrogate ends is a unit short. Answers how many bytes they have.
+// Transcodes the blocks of sixteen units at the front of the bytes to UTF-8, as far as they have no fault and the
+// worst-case output fits. A block that ends with a leading surrogate is one unit shorter. Returns the length of the
+// blocks in bytes.
 #[inline(always)]
 fn append_blocks<A: Allocator, E: ByteOrder>(bytes: &[u8], out: &mut Vec<u8, A>) -> usize
     ensures { PutsText Extends (utf16_form E.HIGH_FIRST) Form.Utf8 bytes.now out.old out.new result }
@@ -122,7 +123,7 @@ fn append_blocks<A: Allocator, E: ByteOrder>(bytes: &[u8], out: &mut Vec<u8, A>)
     place
 }
 
-// Appends the bytes of sixteen units, or of fifteen, or none. Answers of how many.
+// Appends the UTF-8 of sixteen units, or of fifteen, or none. Returns the number of units.
 #[inline(always)]
 fn append_block<A: Allocator>(low: u8x16, high: u8x16, out: &mut Vec<u8, A>) -> usize
     requires { 64 ≤ vec_capacity out.old - vec_len out.old }
@@ -135,7 +136,8 @@ fn append_block<A: Allocator>(low: u8x16, high: u8x16, out: &mut Vec<u8, A>) -> 
     append_others(low, high, out)
 }
 
-// The same where they are not all ASCII. They are written where they stay, and then those that are none of theirs go.
+// Appends the UTF-8 of sixteen units that are not all ASCII, or of fifteen, or none. They are written in
+// place, and the bytes after them are truncated.
 #[inline(always)]
 fn append_others<A: Allocator>(low: u8x16, high: u8x16, out: &mut Vec<u8, A>) -> usize
     requires { 64 ≤ vec_capacity out.old - vec_len out.old }

@@ -1,4 +1,4 @@
-//! Lossy recoding of text that comes in parts: one U+FFFD for each maximal subpart.
+//! Lossy transcoding of text that comes in parts: one U+FFFD for each maximal subpart.
 ghost use Rattle.std.specs.Prelude.{◌≡◌, [], ◌+◌, ◌-◌, ◌<◌, ◌≤◌, length, take, IsTrue, IsFalse};
 ghost use Rattle.recoding.specs.LossyBytes.{AddsAllLossy, AddsLastLossy, AddsLossy, FeedsLossy, FinishesLossy, IsFullLossy, IsLastFullLossy};
 ghost use Rattle.recoding.specs.Recoded.{Lacks};
@@ -10,21 +10,21 @@ use crate::rooms::Progress;
 use crate::way::Way;
 
 impl Recoder {
-    /// `feed_into` that writes one U+FFFD for each *maximal subpart*, and not one for each invalid
-    /// byte. The Unicode standard recommends this (chapter 3, "U+FFFD Substitution of Maximal
+    /// Feeds a part as `feed_into` does, but writes one U+FFFD for each *maximal subpart*, and not one for
+    /// each invalid byte. The Unicode standard recommends this (chapter 3, "U+FFFD Substitution of Maximal
     /// Subparts"). Browsers, Python's `errors="replace"` and Rust's `from_utf8_lossy` do it.
     ///
-    /// A maximal subpart is the longest start, one to three bytes, of a well-formed sequence that
-    /// is not completed: `E2 82 41` becomes one U+FFFD and an `A`. A byte with which no such
-    /// sequence begins is a maximal subpart alone: `E0 80` becomes two U+FFFD, since no well-formed
-    /// sequence begins with `E0 80`. In UTF-16 it is a lone surrogate or an odd last byte. But a
-    /// leading surrogate and an odd byte that end the input are one, as in browsers and Python. In
-    /// all other UTF-16, and in valid input, this call and `feed_into` write the same.
+    /// A maximal subpart is the longest start, one to three bytes, of a well-formed sequence that is not
+    /// completed: `E2 82 41` becomes one U+FFFD and an `A`. A byte with which no such sequence begins is a
+    /// maximal subpart of its own: `E0 80` becomes two U+FFFD, since no well-formed sequence begins with `E0
+    /// 80`. In UTF-16 it is a lone surrogate or an odd last byte. But a leading surrogate and an odd byte
+    /// that end the input are one, as in browsers and Python. For all other UTF-16, and for valid input, this
+    /// call and `feed_into` write the same.
     ///
-    /// Bytes that may still become a character are held, at most three. Everything before them
-    /// comes out. `read`, `written` and `is_full` are as those of `feed_into`, and `replaced` is 0:
-    /// this call does not count. You may mix it with the other calls: each goes on from what the
-    /// recoder holds. End the input by `finish_lossy_into`.
+    /// Bytes that may still become a character are carried over, at most three. Everything before them is
+    /// written. `read`, `written` and `is_full` are as for `feed_into`, and `replaced` is 0: this call does
+    /// not count. You may mix it with the other calls: each continues with the bytes that the recoder carries
+    /// over. End the input by `finish_lossy_into`.
     ///
     /// Cost: O(n) in what is read and written.
     pub fn feed_lossy_into(&mut self, part: &[u8], room: &mut [u8]) -> Progress
@@ -45,11 +45,11 @@ impl Recoder {
         progress(done.read, done.written, 0, done.is_full)
     }
 
-    /// `finish_into` after `feed_lossy_into`. If the recoder holds the front of a character, that
-    /// becomes one U+FFFD, in each form. `read` and `replaced` are 0.
+    /// Finishes as `finish_into` does, after `feed_lossy_into`. If the recoder carries over the front of a
+    /// character, that becomes one U+FFFD, in each encoding. `read` and `replaced` are 0.
     ///
-    /// If `is_full` is false, nothing is held any more. If it is true, the next character did not
-    /// fit: call this again, with new room. Room for four bytes is enough for any character.
+    /// If `is_full` is false, nothing is carried over any more. If it is true, the next character did not
+    /// fit: call this again, with a new buffer. Capacity for four bytes is enough for any character.
     ///
     /// Cost: constant.
     pub fn finish_lossy_into(&mut self, room: &mut [u8]) -> Progress

@@ -1,4 +1,4 @@
-//! What the front of some bytes shows.
+//! The scalar at the front of some bytes.
 ghost use Rattle.std.specs.Prelude.{◌≡◌, ◌+◌, ◌<◌, ◌≤◌, ◌++◌, length, min, take, IfSome, IfNone, IsTrue, IsFalse, Some, ◌%◌};
 ghost use Rattle.utf_base.specs.Code.{utf8};
 ghost use Rattle.utf_base.specs.Kinds.{fault_kind};
@@ -22,16 +22,16 @@ use utf_lanes::byte_order::ByteOrder;
 use utf_lanes::byte_pairs::unit;
 use utf_lanes::text_front::front_of_text;
 
-// What begins some bytes.
+// The piece that begins some bytes.
 #[derive(Clone, Copy, Drop)]
 pub(crate) enum ShownPiece {
-    // A character, and how many bytes its code has.
+    // A character, and its length in bytes.
     Char(char, usize),
-    // A fault, and how many bytes it has.
+    // A fault, and its length in bytes.
     Fault(usize),
 }
 
-// What begins some bytes: the scalar, or U+FFFD for a fault, how many bytes it has, and how many faults it is: one, or none.
+// The scalar that begins some bytes, or U+FFFD for a fault; its length in bytes, and the number of faults, 0 or 1.
 #[derive(Clone, Copy, Drop)]
 pub(crate) struct NextScalar {
     pub(crate) c: char,
@@ -39,7 +39,7 @@ pub(crate) struct NextScalar {
     pub(crate) faults: usize,
 }
 
-// The same of a piece.
+// The scalar of a piece, or U+FFFD for a fault.
 #[inline(always)]
 pub(crate) fn shown(piece: ShownPiece) -> NextScalar
     ensures { result ≡ front_of piece }
@@ -54,7 +54,7 @@ pub(crate) fn shown(piece: ShownPiece) -> NextScalar
     }
 }
 
-// What begins the bytes; `None` where that depends on what follows them. Of four bytes no fault has to be named.
+// The piece that begins bytes of UTF-8; `None` if more input is needed.
 #[inline(always)]
 pub(crate) fn next_of_utf8(way: Way, bytes: &[u8]) -> Option<ShownPiece>
     ensures some { IfSome result (λ x. IsNext way Form.Utf8 bytes.now x) }
@@ -71,7 +71,7 @@ pub(crate) fn next_of_utf8(way: Way, bytes: &[u8]) -> Option<ShownPiece>
     }
 }
 
-// The same of four bytes or more.
+// The piece that begins four bytes or more of UTF-8.
 #[inline(always)]
 fn piece_of_four(way: Way, bytes: &[u8]) -> ShownPiece
     requires { 4 ≤ length bytes.now }
@@ -83,7 +83,8 @@ fn piece_of_four(way: Way, bytes: &[u8]) -> ShownPiece
     }
 }
 
-// The same of bytes that are fewer than the first asks for.
+// The piece that begins bytes of UTF-8 that are fewer than the first asks for; `None` if more input is
+// needed.
 #[inline(always)]
 fn piece_of_few(way: Way, bytes: &[u8]) -> Option<ShownPiece>
     requires { AwaitsKind Form.Utf8 bytes.now }
@@ -97,7 +98,7 @@ fn piece_of_few(way: Way, bytes: &[u8]) -> Option<ShownPiece>
     Some(fault_of_utf8(way, bytes))
 }
 
-// The fault that begins bytes with which no code does, whatever follows them: one byte, or a maximal subpart.
+// The fault that begins bytes, if no code does whatever follows them: one byte, or a maximal subpart.
 #[inline(always)]
 fn fault_of_utf8(way: Way, bytes: &[u8]) -> ShownPiece
     requires { BeginsNoCode bytes.now }
@@ -109,7 +110,7 @@ fn fault_of_utf8(way: Way, bytes: &[u8]) -> ShownPiece
     }
 }
 
-// Whether bytes that are too few are the front of a code. Else the first is a fault, whatever follows.
+// Returns true if too few bytes are the front of a code. Otherwise the first is a fault, whatever follows.
 #[cold]
 #[inline(never)]
 pub(crate) fn is_front_of_code(bytes: &[u8]) -> bool
@@ -123,7 +124,8 @@ pub(crate) fn is_front_of_code(bytes: &[u8]) -> bool
     may_be_second(bytes[0], bytes[1]) && (bytes.len() < 3 || is_continuation(bytes[2]))
 }
 
-// What begins the bytes as UTF-16, whose faults are units either way; `None` where that depends on what follows them.
+// The piece that begins bytes of UTF-16, whose faults are units in either way of replacing; `None` if more input is
+// needed.
 #[inline(always)]
 pub(crate) fn next_of_utf16<E: ByteOrder>(bytes: &[u8]) -> Option<ShownPiece>
     ensures some { (way : Way) → IfSome result (λ x. IsNext way (utf16_form E.HIGH_FIRST) bytes.now x) }
@@ -137,7 +139,7 @@ pub(crate) fn next_of_utf16<E: ByteOrder>(bytes: &[u8]) -> Option<ShownPiece>
     }
 }
 
-// The character that begins the bytes, and how many bytes it has; `None` at a fault, and near the end.
+// The character that begins the bytes, and its length; `None` at a fault, and near the end.
 #[inline(always)]
 pub(crate) fn next_valid_of_utf16<E: ByteOrder>(bytes: &[u8]) -> Option<(char, usize)>
     ensures { IfSome result (λ x. BeginsChar (utf16_form E.HIGH_FIRST) bytes.now x.0 x.1) }
@@ -162,7 +164,7 @@ pub(crate) fn next_valid_of_utf16<E: ByteOrder>(bytes: &[u8]) -> Option<(char, u
     }
 }
 
-// The eight characters of ASCII that sixteen bytes are as units. `None` where a unit is anything else.
+// The eight ASCII characters of sixteen bytes of UTF-16. `None` if a unit is not ASCII.
 #[inline(always)]
 pub(crate) fn ascii_of_units<E: ByteOrder>(bytes: &[u8]) -> Option<[u8; 8]>
     requires { length bytes.now ≡ 16 }
@@ -209,7 +211,7 @@ fn eight_are_ascii(units: [u16; 8]) -> bool
         && units[7] < 0x80
 }
 
-// The same numbers as bytes.
+// Narrows eight units of ASCII to bytes.
 #[inline(always)]
 #[tactic(auto, using(crate::proofs::Blocks::eight_bytes))]
 fn eight_bytes(units: [u16; 8]) -> [u8; 8]
@@ -236,7 +238,7 @@ fn low(unit: u16) -> u8
     (unit % 256) as u8
 }
 
-// The first four bytes, or all where they are fewer.
+// The first four bytes, or all if they are fewer.
 #[inline(always)]
 pub(crate) fn first_four(bytes: &[u8]) -> &[u8]
     ensures { result.now ≡ take 4 bytes.now }
@@ -244,7 +246,7 @@ pub(crate) fn first_four(bytes: &[u8]) -> &[u8]
     &bytes[..bytes.len().min(4)]
 }
 
-// The held bytes and at most three that follow them.
+// Concatenates the carried-over bytes with up to three bytes of input.
 #[inline]
 pub(crate) fn join(held: &[u8], part: &[u8]) -> ([u8; 6], usize)
     requires { length held.now ≤ most_held }

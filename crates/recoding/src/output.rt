@@ -1,16 +1,16 @@
-//! Where recoded bytes go.
+//! Outputs for transcoded bytes.
 ghost use Rattle.std.specs.Prelude.{◌≡◌, ◌≤◌, length};
 
 use std::simd::prelude::*;
 
-// Where bytes are put one after another: it has room for so many, and takes no memory.
+// An output to which bytes are appended: it has a fixed capacity, and does not allocate.
 pub(crate) trait Output {
     ghost use Rattle.std.specs.Prelude.{ℕ, ◌+◌, ◌≤◌, List, [], ◌∷◌, ◌++◌, length};
 
-    // How many more bytes it takes.
+    // The remaining capacity, in bytes.
     ghost room: { Self → ℕ };
 
-    // The first became the second since these bytes were appended.
+    // The second output is the first with these bytes appended.
     ghost appends: { Self → List ℕ → Self → Type 0 };
 
     fn room(&self) -> usize
@@ -35,6 +35,6 @@ pub(crate) trait Output {
 
     ghost appends_more: { (a b c : Self) (xs ys : List ℕ) → appends a xs b → appends b ys c → appends a (xs ++ ys) c };
 
-    // No more room is lost than was taken.
+    // The capacity shrinks by no more than was appended.
     ghost appends_room: { (a b : Self) (xs : List ℕ) → appends a xs b → room a ≤ room b + length xs };
 }

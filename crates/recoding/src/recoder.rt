@@ -1,4 +1,4 @@
-//! Recoding of text that comes in parts, which may be cut anywhere, also inside of a code or of a unit.
+//! Transcoding of text that comes in parts, which may be cut anywhere, also inside a character or a unit.
 ghost use Rattle.std.specs.Prelude.{◌≡◌, ◌<◌, ◌≤◌, [], ◌+◌, ◌*◌, min, length, OnOk, OnErr, IsOk, IfErr, ℕ, List, ◌-◌, ◌++◌, take, drop, IsTrue, IsFalse};
 ghost use Rattle.recoding.specs.Outputs.{Extends};
 ghost use Rattle.recoding.specs.Replacing.{FillsPlace, IsFullBy, IsLastFullBy, Takes, TakesAll, TakesLast, at_place};
@@ -17,7 +17,7 @@ use crate::way::Way;
 use std::alloc::{AllocError, Allocator};
 use std::marker::Model;
 
-/// Converts text that comes in parts from one form into another. It holds at most three bytes
+/// Converts text that comes in parts from one encoding into another. It carries over at most three bytes
 /// between calls.
 ///
 /// Each invalid byte of UTF-8 becomes U+FFFD, the replacement character. In UTF-16 each lone
@@ -25,7 +25,8 @@ use std::marker::Model;
 /// begin in one part and end in another: the output does not depend on how the input was divided.
 #[derive(Debug, Drop)]
 pub struct Recoder {
-    // The first field, so that no store of the others overlaps it, for which each call would wait.
+    // The first field, so that no store to the others overlaps it, which would stall each call on store
+    // forwarding.
     count: usize,
     from: Form,
     to: Form,
@@ -44,7 +45,7 @@ impl Model for Recoder {
     ghost invariant = { λ r. r.count ≤ 3 };
 }
 
-/// A recoder that could not be finished, because memory was refused.
+/// A recoder that could not be finished, because an allocation failed.
 #[derive(Debug, Drop)]
 pub struct Unfinished {
     /// The recoder as it was.
@@ -53,17 +54,17 @@ pub struct Unfinished {
     pub cause: AllocError,
 }
 
-// So `?` gives up what was not finished, and says why.
+// So `?` drops what was not finished, and returns the reason.
 impl From<Unfinished> for AllocError {
     ghost from_gives = { λ unfinished error. error ≡ unfinished.cause };
 
-    /// Why it was not finished: so `?` gives up the recoder.
+    /// Why it was not finished: so `?` drops the recoder.
     fn from(unfinished: Unfinished) -> AllocError {
         unfinished.cause
     }
 }
 
-// One to three bytes, and then zeros. So each goes by itself, where a copy of so many would be a call.
+// One to three bytes, followed by zeros. Unrolled: a variable-length copy would call memcpy.
 #[inline(always)]
 fn padded_to_three(bytes: &[u8]) -> [u8; 3]
     requires some { 0 < length bytes.now }
@@ -82,7 +83,7 @@ fn padded_to_three(bytes: &[u8]) -> [u8; 3]
 }
 
 impl Recoder {
-    /// A recoder that holds nothing and has replaced nothing.
+    /// A recoder that carries over nothing and has replaced nothing.
     #[tactic(auto, unfolding(crate::specs::RecodedBytes::outcome, crate::specs::Faults::replaced_in_all, crate::specs::LossyBytes::lossy_outcome))]
     pub fn new(from: Form, to: Form) -> Recoder
         ensures nothing { result ≡ fresh from to }
@@ -100,14 +101,14 @@ impl Recoder {
         }
     }
 
-    /// Takes the next part, and appends to `out` what it becomes. If the last bytes of the part may
-    /// begin a character, or are half a unit, the recoder holds them for the next call. Everything
-    /// before them comes out.
+    /// Takes the next part, and appends to `out` what it becomes. If the last bytes of the part may begin a
+    /// character, or are half a unit, the recoder carries them over to the next call. Everything before them
+    /// is written.
     ///
-    /// If memory is refused, nothing has changed: feed the same part again. (All memory is asked
-    /// for before the first byte is put out.) An empty part asks for no memory.
+    /// If allocation fails, nothing has changed: feed the same part again. (All memory is allocated before
+    /// the first byte is written.) An empty part allocates nothing.
     ///
-    /// Cost: O(n) in the part, allocates at most three bytes for each byte that is held or in the
+    /// Cost: O(n) in the part, allocates at most three bytes for each byte that is carried over or in the
     /// part.
     #[inline(always)]
     #[tactic(auto, using(crate::proofs::RecodedLists::outcome_fed, crate::proofs::Advancing::fed_counts, crate::proofs::Taking::all_feeds, crate::proofs::Taking::all_counted, crate::proofs::Taking::all_lacks))]
@@ -127,7 +128,7 @@ impl Recoder {
         ensures replaces { OnOk result (CountsFed self.old part.now self.new) }
         ensures counts { OnOk result (KeepsCount self.old part.now self.new) }
     {
-        // To read it tells a proof that few bytes are held, also where the part has none.
+        // Reading it brings the invariant `count ≤ 3` into scope, also for an empty part.
         let count = self.count;
         if part.is_empty() {
             return Ok(());
@@ -138,7 +139,7 @@ impl Recoder {
         self.feed_joined(part, out)
     }
 
-    // `feed` of some bytes where nothing is held.
+    // `feed` of some bytes if nothing is carried over.
     #[inline(always)]
     fn feed_alone<A: Allocator>(
         &mut self,
@@ -157,7 +158,7 @@ impl Recoder {
         Ok(())
     }
 
-    // The same where something is, kept apart so that the test is inlined.
+    // `feed` if bytes are carried over: outlined slow path, so that the test is inlined.
     #[inline(never)]
     fn feed_joined<A: Allocator>(
         &mut self,
@@ -175,8 +176,8 @@ impl Recoder {
         Ok(())
     }
 
-    // Takes a part where nothing is held, and there is room for what comes of it. Answers how many faults were replaced, which are
-    // not counted yet.
+    // Takes a part if nothing is carried over and the output fits. Returns the number of faults that were replaced,
+    // which are not counted yet.
     #[inline(always)]
     fn append<A: Allocator>(&mut self, part: &[u8], out: &mut Vec<u8, A>) -> usize
         requires none { length self.old.held ≡ 0 }
@@ -190,14 +191,15 @@ impl Recoder {
         run.replaced
     }
 
-    // The same where something is held.
+    // Takes a part if bytes are carried over and the output fits. Returns the number of faults that were
+    // replaced, which are not counted yet.
     fn append_joined<A: Allocator>(&mut self, part: &[u8], out: &mut Vec<u8, A>) -> usize
         requires { HasRoomFor out.old (length self.old.held + length part.now) }
         ensures takes { Takes Extends Way.Faults self.old part.now out.old out.new
             (length part.now) result self.new }
         ensures waits { Lacks self.old.from self.new.held }
     {
-        // To read it tells a proof that few bytes are held.
+        // Reading it brings the invariant `count ≤ 3` into scope.
         let _held = self.count;
         let first = self.take_held::<Vec<u8, A>>(Way::Faults, part, out);
         if first.is_waiting {
@@ -206,7 +208,7 @@ impl Recoder {
         first.replaced + self.append(&part[first.read..], out)
     }
 
-    // Appends what the held bytes become at the end to a list that has room for it.
+    // Appends what the carried-over bytes become at the end to a list with enough capacity.
     fn append_last<A: Allocator>(&mut self, out: &mut Vec<u8, A>)
         requires { HasRoomFor out.old (length self.old.held) }
         ensures { Finishes self.old out.old.items out.new.items }
@@ -214,7 +216,7 @@ impl Recoder {
         let _done = self.take_last::<Vec<u8, A>>(Way::Faults, out);
     }
 
-    // The bytes that are held.
+    // The carried-over bytes.
     #[inline(always)]
     fn held_bytes(&self) -> &[u8]
         ensures bytes { result.now ≡ self.now.held }
@@ -223,7 +225,7 @@ impl Recoder {
         &self.held[..self.count]
     }
 
-    // Holds these bytes in place of those that were held.
+    // Replaces the carried-over bytes.
     pub(crate) fn hold(&mut self, bytes: &[u8])
         requires { length bytes.now ≤ most_held }
         ensures { self.new ≡ record (self.old) { held = bytes.now } }
@@ -234,7 +236,7 @@ impl Recoder {
         }
     }
 
-    // Counts so many more faults, as far as 64 bits do.
+    // Adds to the count of faults, as far as 64 bits count.
     #[inline(always)]
     fn count_faults(&mut self, count: usize)
         ensures { self.new ≡ record (self.old) { replaced = saturated (self.old.replaced + count) } }
@@ -244,12 +246,12 @@ impl Recoder {
         }
     }
 
-    /// Ends the input: appends to `out` what the held bytes become. In UTF-8 each of them becomes
-    /// one U+FFFD. In UTF-16 a leading surrogate becomes one, and so does an odd byte.
+    /// Ends the input: appends to `out` what the carried-over bytes become. In UTF-8 each of them becomes one
+    /// U+FFFD. In UTF-16 a leading surrogate becomes one, and so does an odd byte.
     ///
-    /// If memory is refused, the error contains the recoder as it was: finish that again. If
-    /// nothing is held, no memory is asked for. `replaced_at_end`, called before, gives how many
-    /// invalid bytes became U+FFFD in all.
+    /// If allocation fails, the error contains the recoder as it was: finish that again. If nothing is
+    /// carried over, nothing is allocated. `replaced_at_end`, called before, returns how many invalid bytes
+    /// became U+FFFD in all.
     ///
     /// Cost: constant, allocates at most nine bytes.
     #[inline(always)]
@@ -268,7 +270,7 @@ impl Recoder {
         self.finish_held(out)
     }
 
-    // `finish` where something is held, kept apart so that the test is inlined.
+    // `finish` if bytes are carried over: outlined slow path, so that the test is inlined.
     #[inline(never)]
     fn finish_held<A: Allocator>(self, out: &mut Vec<u8, A>) -> Result<(), Unfinished>
         ensures ok { OnOk result (Finishes self out.old.items out.new.items) }
@@ -287,8 +289,8 @@ impl Recoder {
         Ok(())
     }
 
-    /// A recoder that holds these bytes and has replaced nothing. With the bytes that another recoder holds it goes on
-    /// where that one was.
+    /// A recoder that carries over these bytes and has replaced nothing. With the bytes that another recoder carries
+    /// over it continues in its place.
     ///
     /// Condition: there are at most three bytes.
     pub fn holding(from: Form, to: Form, held: &[u8]) -> Recoder
@@ -300,14 +302,14 @@ impl Recoder {
         recoder
     }
 
-    // The form of the input and that of the output.
+    // The encodings of the input and of the output.
     #[inline(always)]
     pub(crate) fn forms(&self) -> (Form, Form)
         ensures from { result.0 ≡ self.now.from }
         ensures to { result.1 ≡ self.now.to }
         ensures few { length self.now.held ≤ most_held }
     {
-        // To read it tells a proof that few bytes are held.
+        // Reading it brings the invariant `count ≤ 3` into scope.
         let _ = self.count;
         (self.from, self.to)
     }
@@ -320,7 +322,7 @@ impl Recoder {
         self.held_bytes()
     }
 
-    /// How many invalid bytes, lone surrogates and odd last bytes the recoder has replaced by
+    /// The number of invalid bytes, lone surrogates and odd last bytes that the recoder has replaced by
     /// U+FFFD since it was made. A U+FFFD in the input does not count. The count stops at 2^64 - 1.
     ///
     /// `feed`, `feed_into` and `finish_into` count. The calls that stop at the first invalid byte
@@ -331,7 +333,7 @@ impl Recoder {
         self.replaced
     }
 
-    /// What `replaced` will be if the input ends now: the bytes that are held are then invalid, and become U+FFFD too.
+    /// The value of `replaced` if the input ends now: the carried-over bytes are then invalid, and become U+FFFD too.
     #[tactic(auto, using(crate::proofs::Advancing::counts_all))]
     pub fn replaced_at_end(&self) -> u64
         ensures replaces { result ≡ saturated (self.now.replaced + fault_count self.now.from self.now.held) }
@@ -341,16 +343,16 @@ impl Recoder {
         self.replaced.saturating_add(count as u64)
     }
 
-    /// `feed` into room of a fixed size, as iconv(3) does: it reads and writes as far as there is
-    /// room. `read` bytes of the part were fed. To go on, call again with the bytes after them, and
-    /// with new room.
+    /// `feed` into a buffer of a fixed size, as iconv(3) does: it reads and writes as far as there is
+    /// capacity. `read` bytes of the part were fed. To continue, call again with the bytes after them, and
+    /// with a new buffer.
     ///
-    /// After the bytes that were written, the rest of the room may hold anything. Use only its first
+    /// After the bytes that were written, the rest of the buffer may hold anything. Use only its first
     /// `written` bytes.
     ///
-    /// If `is_full` is false, the whole part was read. If it is true, the next character did not
-    /// fit. At most three of the bytes that were read are held for the next call, and nothing is
-    /// lost. With room for four bytes, each call reads or writes something.
+    /// If `is_full` is false, the whole part was read. If it is true, the next character did not fit. At most
+    /// three of the bytes that were read are carried over to the next call, and nothing is lost. With
+    /// capacity for four bytes, each call reads or writes something.
     ///
     /// Cost: O(n) in what is read and written.
     #[inline(always)]
@@ -378,7 +380,8 @@ impl Recoder {
         self.feed_joined_into(part, room)
     }
 
-    // `feed_into` where something is held, kept apart so that the counts of the other way stay in registers.
+    // `feed_into` if bytes are carried over: outlined, so that the counts of the other path stay in
+    // registers.
     #[inline(never)]
     fn feed_joined_into(&mut self, part: &[u8], room: &mut [u8]) -> Progress
         ensures feeds { FeedsInto self.old part.now room.old room.new result.read result.written self.new }
@@ -397,7 +400,7 @@ impl Recoder {
         done
     }
 
-    // Takes a part into room of a fixed size. Faults are not counted yet.
+    // Takes a part into a buffer of a fixed size. Faults are not counted yet.
     #[inline(always)]
     pub(crate) fn take(&mut self, way: Way, part: &[u8], room: &mut [u8]) -> Progress
         ensures takes { Takes FillsPlace way self.old part.now
@@ -415,7 +418,7 @@ impl Recoder {
         self.take_joined(way, part, room)
     }
 
-    // The same where nothing is held, from a place of the room on.
+    // Takes a part if nothing is carried over, into a buffer from an offset on. Faults are not counted yet.
     #[inline(always)]
     fn take_alone(&mut self, way: Way, part: &[u8], room: &mut [u8], place: usize) -> Progress
         requires none { length self.old.held ≡ 0 }
@@ -434,7 +437,7 @@ impl Recoder {
         Progress { read: end, ..done }
     }
 
-    // The same where something is, kept apart so that the test is inlined.
+    // Takes a part if bytes are carried over: outlined, so that the test is inlined.
     #[inline(never)]
     fn take_joined(&mut self, way: Way, part: &[u8], room: &mut [u8]) -> Progress
         ensures takes { Takes FillsPlace way self.old part.now
@@ -445,7 +448,7 @@ impl Recoder {
         ensures read { IsFalse result.is_full → result.read ≡ length part.now }
         ensures waits { IsFalse result.is_full → Lacks self.old.from self.new.held }
     {
-        // To read it tells a proof that few bytes are held.
+        // Reading it brings the invariant `count ≤ 3` into scope.
         let _held = self.count;
         let (first, written) = self.take_held_into(way, part, room);
         if first.is_full || first.is_waiting {
@@ -459,11 +462,11 @@ impl Recoder {
         }
     }
 
-    /// `finish` into room of a fixed size. `read` is 0. After the bytes that were written, the rest of
-    /// the room may hold anything.
+    /// `finish` into a buffer of a fixed size. `read` is 0. After the bytes that were written, the rest of
+    /// the buffer may hold anything.
     ///
-    /// If `is_full` is false, nothing is held any more. If it is true, the next character did not
-    /// fit: call this again, and not `feed_into`, with new room. Room for four bytes is enough for
+    /// If `is_full` is false, nothing is carried over any more. If it is true, the next character did not
+    /// fit: call this again, and not `feed_into`, with a new buffer. Capacity for four bytes is enough for
     /// any character.
     #[inline(always)]
     pub fn finish_into(&mut self, room: &mut [u8]) -> Progress
@@ -488,7 +491,7 @@ impl Recoder {
         done
     }
 
-    // Takes what is held at the end into room of a fixed size. Faults are not counted yet.
+    // Takes the carried-over bytes at the end into a buffer of a fixed size. Faults are not counted yet.
     #[inline(never)]
     pub(crate) fn take_last_into(&mut self, way: Way, room: &mut [u8]) -> Progress
         ensures takes { TakesLast FillsPlace way self.old
@@ -504,7 +507,7 @@ impl Recoder {
     }
 }
 
-// How many faults the bytes have, which nothing follows.
+// The number of faults in the bytes, which nothing follows.
 fn faults_at_end(from: Form, bytes: &[u8]) -> usize
     ensures { result ≡ fault_count from bytes.now }
 {

@@ -1,5 +1,5 @@
-//! Runs over bytes, by the way that is quickest for the forms: to the end of a list that has room for what comes of them, or into room
-//! of a fixed size.
+//! Runs over bytes, by the fastest way for the encodings: to the end of a list that can hold the whole output, or
+//! into a buffer of a fixed size.
 ghost use Rattle.std.specs.Prelude.{◌≡◌, ◌+◌, ◌-◌, ◌<◌, ◌≤◌, ◌++◌, length, drop, IfOk, IfErr, OnErr, IsTrue, IsFalse};
 ghost use Rattle.recoding.specs.Outputs.{Extends};
 ghost use Rattle.recoding.specs.Recoded.{Lacks, most_held};
@@ -22,14 +22,14 @@ use crate::way::Way;
 use std::alloc::Allocator;
 use utf_lanes::byte_order::{BigEndian, LittleEndian};
 
-// How many bytes a run recoded, and how many of their faults became U+FFFD.
+// The number of bytes that a run transcoded, and of their faults that became U+FFFD.
 #[derive(Clone, Copy, Drop)]
 pub(crate) struct Run {
     pub(crate) read: usize,
     pub(crate) replaced: usize,
 }
 
-// Recodes the bytes as far as no later byte can change what they show.
+// Transcodes the bytes as far as no later byte can change their scalars.
 #[inline(always)]
 pub(crate) fn recode_whole<A: Allocator>(
     from: Form,
@@ -45,7 +45,7 @@ pub(crate) fn recode_whole<A: Allocator>(
     by_forms!(from, to, run_whole::<A>(bytes, out))
 }
 
-// The same from one form into another. Each pair of forms has a copy of it, which answers two numbers in registers.
+// `recode_whole`, monomorphised for a pair of encodings: it returns two numbers in registers.
 #[inline(never)]
 fn run_whole<S: Text, T: Text, K: Kernel<S, T>, A: Allocator>(
     bytes: &[u8],
@@ -64,9 +64,9 @@ fn run_whole<S: Text, T: Text, K: Kernel<S, T>, A: Allocator>(
     }
 }
 
-// Recodes the bytes as far as no later byte can change what they show and there is room from the place on. `read` counts
-// the bytes that were recoded, and `written` all that now stands in the room. What was recoded is so by the three bytes
-// that follow it, and not by others.
+// Transcodes the bytes as far as no later byte can change their scalars and there is capacity from the offset on.
+// `read` is the number of bytes that were transcoded, and `written` the length of all that is now in the buffer. The
+// three bytes that follow decide the last ones, and no others.
 #[inline(always)]
 pub(crate) fn recode_into(
     way: Way,
@@ -88,7 +88,7 @@ pub(crate) fn recode_into(
     by_forms!(from, to, run_into(way, bytes, room, place))
 }
 
-// The same from one form into another. Each pair of forms has a copy of it, whose counts stay in registers.
+// `recode_into`, monomorphised for a pair of encodings: its counts stay in registers.
 #[inline(never)]
 fn run_into<S: Text, T: Text, K: Kernel<S, T>>(
     way: Way,
@@ -111,7 +111,7 @@ fn run_into<S: Text, T: Text, K: Kernel<S, T>>(
     progress(done.read, out.len, done.replaced, done.is_full)
 }
 
-// How far a call came.
+// The progress of a call.
 #[inline(always)]
 pub(crate) fn progress(read: usize, written: usize, replaced: usize, is_full: bool) -> Progress
     ensures { result ≡ record { read = read; written = written; replaced = replaced; is_full = is_full } }
@@ -124,7 +124,8 @@ pub(crate) fn progress(read: usize, written: usize, replaced: usize, is_full: bo
     }
 }
 
-// How far a run to the first fault came: how many bytes it recoded, how many it wrote, and what it stopped at.
+// The progress of a run to the first fault: the number of bytes transcoded, the number written, and the piece
+// at which it stopped.
 #[derive(Clone, Copy, Drop)]
 pub(crate) struct StrictRun {
     pub(crate) read: usize,
@@ -132,8 +133,8 @@ pub(crate) struct StrictRun {
     pub(crate) first: FirstPiece,
 }
 
-// Recodes the text at the front of what is held and a part into the room, to the first piece that is none, that what follows
-// decides, or that does not fit.
+// Transcodes the text at the front of the carried-over bytes and a part into the buffer, up to the first piece that
+// is a fault, that what follows decides, or that does not fit.
 pub(crate) fn recode_to_fault(
     from: Form,
     to: Form,
@@ -156,7 +157,7 @@ pub(crate) fn recode_to_fault(
     }
 }
 
-// The same to any output.
+// `recode_to_fault`, for any type of output.
 fn run_strictly<O: BlockOutput>(
     from: Form,
     to: Form,
@@ -180,7 +181,7 @@ fn run_strictly<O: BlockOutput>(
     (read + more, first)
 }
 
-// The same where nothing is held: in blocks, and then piece by piece.
+// `run_strictly` if nothing is carried over: in blocks, and then piece by piece.
 fn run_by_pieces<O: BlockOutput>(
     from: Form,
     to: Form,
@@ -199,8 +200,8 @@ fn run_by_pieces<O: BlockOutput>(
     }
 }
 
-// Appends the code of the character that begins the bytes, where one does and it fits. Answers how many bytes it has, or what
-// begins them.
+// Appends the character that begins the bytes, if one does and it fits. Returns its encoded length, or what was found
+// instead.
 #[inline(always)]
 fn put_first<O: Output>(
     from: Form,

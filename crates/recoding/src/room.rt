@@ -9,7 +9,7 @@ use crate::utf16_to_utf8::write_blocks;
 use std::simd::prelude::*;
 use utf_lanes::byte_order::ByteOrder;
 
-// A slice of which some bytes at the front are written.
+// A slice whose first bytes are written.
 #[derive(Drop)]
 pub(crate) struct Room<'a> {
     pub(crate) bytes: &'a mut [u8],
@@ -18,7 +18,7 @@ pub(crate) struct Room<'a> {
 }
 
 impl<'a> Room<'a> {
-    // The slice, of which so many bytes are written.
+    // The slice, with its first `len` bytes written.
     #[inline(always)]
     pub(crate) fn new(bytes: &'a mut [u8], len: usize) -> Room<'a>
         requires { len ≤ length bytes.old }

@@ -1,15 +1,15 @@
-//! How much room recoding takes, and how far a call comes that has some.
+//! The capacity that transcoding needs, and the progress of a call with a limited one.
 ghost use Rattle.std.specs.Prelude.{◌≡◌, ◌≤◌, ◌^◌, IfSome, IfNone};
 ghost use Rattle.recoding.specs.Rooms.{most_bytes, parts_of, widest, IsRoomFor};
 
 use crate::form::Form;
 
-/// The most bytes that input of `len` bytes can become. Into UTF-8 these are three for each byte of
-/// UTF-8, or for each unit of UTF-16. Into UTF-16 they are two. An odd byte at the end counts as a
-/// unit. `None` if a `usize` cannot hold the number.
+/// An upper bound, in bytes, of the output for `len` bytes of input. Into UTF-8 it is three for each byte of
+/// UTF-8, or for each unit of UTF-16. Into UTF-16 it is two. An odd byte at the end counts as a unit. `None`
+/// if a `usize` cannot hold the number.
 ///
-/// For a part that you feed to a recoder, `len` is the length of the part plus the number of bytes
-/// that the recoder holds.
+/// For a part that you feed to a recoder, `len` is the length of the part plus the number of bytes that the
+/// recoder carries over.
 pub fn room_for(from: Form, to: Form, len: usize) -> Option<usize>
     ensures most { IfSome result (λ n. n ≡ most_bytes from to len) }
     ensures enough { IfSome result (λ n. IsRoomFor from to len n) }
@@ -36,15 +36,15 @@ fn count_parts(from: Form, len: usize) -> usize
     }
 }
 
-/// How far a call went that writes into room of a fixed size.
+/// The progress of a call that writes into a buffer of a fixed size.
 #[derive(Clone, Copy, Debug, PartialEq, Eq, Drop)]
 pub struct Progress {
-    /// How many bytes of the part were read.
+    /// The number of bytes of the part that were read.
     pub read: usize,
-    /// How many bytes of the room were written, from its front. The rest of it may hold anything.
+    /// The number of bytes of the buffer that were written, from its front. The rest of it may hold anything.
     pub written: usize,
-    /// How many invalid bytes, lone surrogates and odd last bytes this call replaced by U+FFFD.
+    /// The number of invalid bytes, lone surrogates and odd last bytes that this call replaced by U+FFFD.
     pub replaced: usize,
-    /// Whether the call ended because the next character does not fit into the room that remained.
+    /// Whether the call ended because the next character does not fit into the buffer that remained.
     pub is_full: bool,
 }

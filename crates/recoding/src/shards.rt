@@ -1,26 +1,33 @@
-//! Where bytes may be cut into shards that are recoded by themselves.
-ghost use Rattle.std.specs.Prelude.{ℕ, ◌+◌, ◌<◌, ◌≤◌, length, min, IsTrue, IsFalse};
-ghost use Rattle.utf_base.specs.Code.{utf8, utf16};
-ghost use Rattle.utf_base.specs.Piece.{Stands};
+//! Offsets where bytes may be cut into shards that are transcoded separately.
+ghost use Rattle.std.specs.Prelude.{◌≡◌, ◌+◌, ◌-◌, ◌/◌, ◌%◌, ◌<◌, ◌≤◌, get_or, length, min, IsTrue, IsFalse, true, false};
+ghost use Rattle.utf_base.specs.Units.{is_leading_surrogate};
 ghost use Rattle.utf_lanes.specs.BytePairs.{units_of};
+ghost use Rattle.recoding.specs.Boundaries.{IsBoundary, IsLastTo};
 ghost use Rattle.recoding.specs.RecodedBytes.{IsRecodedApart};
-ghost use Rattle.recoding.specs.Shards.{BeginsNoPair, IsLastOutside, IsLastShardEnd, IsLastUnitsEnd, LiesOver};
+ghost use Rattle.recoding.specs.Shards.{BeginsPart, IsLastOutsidePart, IsLastUnitsShardEnd, IsLossyApart, IsShardEnd};
 
+use crate::boundaries::units_boundary;
 use crate::form::Form;
-use encode_unicode::CharExt;
+use crate::subparts::subpart_len;
+use encode_unicode::{CharExt, U16UtfExt};
 use utf_lanes::byte_order::{BigEndian, ByteOrder, LittleEndian};
 use utf_lanes::byte_pairs::unit;
 
-/// The last offset, up to `at`, that is not inside a character, and in UTF-16 not inside a unit. It
-/// is at most three bytes before `at`. If `at` is the length or more, it is the length.
+/// The last offset, up to `at`, that is not inside a character or a maximal subpart, and in UTF-16
+/// not inside a unit. It is at most three bytes before `at`. If `at` is the length or more, it is
+/// the length.
 ///
-/// You may convert the bytes before it and the bytes after it separately, also on several machines,
-/// and join the outputs: this is the law `shards_join`. The call looks at six bytes around `at`.
-#[tactic(auto, using(crate::proofs::RecodedLists::recoded_apart))]
+/// You may convert the bytes before it and the bytes after it separately, also on several machines, and join
+/// the outputs. You get the output for the whole, in each of the three ways: to the first invalid byte, with
+/// one U+FFFD for each invalid byte, and with one for each maximal subpart. This is the law `shards_join`.
+/// The call reads seven bytes around `at`, and tests in UTF-16 whether the input ends there.
+#[tactic(auto, using(crate::proofs::LossyShards::end_is_boundary, crate::proofs::LossyShards::recoded_apart_there, crate::proofs::LossyShards::lossy_apart))]
 pub fn shard_end(from: Form, bytes: &[u8], at: usize) -> usize
-    ensures end { IsLastShardEnd from bytes.now at result }
+    ensures end { IsLastTo (IsShardEnd from bytes.now) (length bytes.now) at result }
     ensures near { min at (length bytes.now) ≤ result + 3 }
+    ensures boundary { IsBoundary from bytes.now result }
     ensures joined { IsRecodedApart from bytes.now result }
+    ensures lossy { IsLossyApart from bytes.now result }
 {
     if bytes.len() <= at {
         return bytes.len();
@@ -34,54 +41,49 @@ pub fn shard_end(from: Form, bytes: &[u8], at: usize) -> usize
 
 fn utf8_end(bytes: &[u8], at: usize) -> usize
     requires { at < length bytes.now }
-    ensures end { IsLastOutside utf8 bytes.now at result }
+    ensures end { IsLastOutsidePart bytes.now at result }
     ensures near { at ≤ result + 3 }
 {
     for place in at.saturating_sub(3)..at {
-        if lies_over(bytes, place, at) {
+        if at < place + part_len(&bytes[place..]) {
             return place;
         }
     }
     at
 }
 
-// Whether a code that begins at the one place lies over the other.
-fn lies_over(bytes: &[u8], place: usize, at: usize) -> bool
-    requires { place ≤ length bytes.now }
-    ensures yes { IsTrue result → LiesOver utf8 bytes.now place at }
-    ensures no { IsFalse result → (s : ℕ) → Stands utf8 bytes.now place s → place + length (utf8 s) ≤ at }
+// The length in bytes of the part that begins these: a character, or a maximal subpart.
+fn part_len(bytes: &[u8]) -> usize
+    requires { 0 < length bytes.now }
+    ensures part { BeginsPart bytes.now result }
+    ensures within { result ≤ length bytes.now }
 {
-    match char::from_utf8_slice_start(&bytes[place..]) {
-        Ok((_, len)) => at < place + len,
-        Err(_) => false,
+    match char::from_utf8_slice_start(bytes) {
+        Ok((_, len)) => len,
+        Err(_) => subpart_len(bytes),
     }
 }
 
 fn units_end<E: ByteOrder>(bytes: &[u8], at: usize) -> usize
     requires { at < length bytes.now }
-    ensures end { IsLastUnitsEnd E.HIGH_FIRST bytes.now at result }
+    ensures end { IsLastUnitsShardEnd E.HIGH_FIRST bytes.now at result }
     ensures near { at ≤ result + 3 }
 {
-    let place = at - at % 2;
-    if 2 <= place && is_pair::<E>(&bytes[place - 2..]) {
-        place - 2
+    let end = units_boundary::<E>(bytes, at);
+    if end + 1 == bytes.len() && ends_in_leading_surrogate::<E>(bytes, end) {
+        end - 2
     } else {
-        place
+        end
     }
 }
 
-// Whether the code of two units begins the bytes.
-fn is_pair<E: ByteOrder>(bytes: &[u8]) -> bool
-    ensures yes { IsTrue result → LiesOver utf16 (units_of E.HIGH_FIRST bytes.now) 0 1 }
-    ensures no { IsFalse result → BeginsNoPair (units_of E.HIGH_FIRST bytes.now) }
+// Returns true if the unit before the offset is a leading surrogate.
+fn ends_in_leading_surrogate<E: ByteOrder>(bytes: &[u8], end: usize) -> bool
+    requires within { end ≤ length bytes.now }
+    requires even { end % 2 ≡ 0 }
+    ensures some { IsTrue result → 2 ≤ end }
+    ensures yes { IsTrue result → is_leading_surrogate (get_or (units_of E.HIGH_FIRST bytes.now) (end / 2 - 1) 0) ≡ true }
+    ensures no { IsFalse result → 2 ≤ end → is_leading_surrogate (get_or (units_of E.HIGH_FIRST bytes.now) (end / 2 - 1) 0) ≡ false }
 {
-    if bytes.len() < 4 {
-        return false;
-    }
-    let first = unit::<E>(bytes[0], bytes[1]);
-    let second = unit::<E>(bytes[2], bytes[3]);
-    match char::from_utf16_slice_start(&[first, second]) {
-        Ok((_, len)) => 1 < len,
-        Err(_) => false,
-    }
+    2 <= end && unit::<E>(bytes[end - 2], bytes[end - 1]).is_utf16_leading_surrogate()
 }

@@ -1,4 +1,4 @@
-//! Strict recoding of text that comes in parts: to the first faulty byte, and on from there.
+//! Strict transcoding of text that comes in parts: up to the first invalid byte, and on from there.
 ghost use Rattle.std.specs.Prelude.{◌≡◌, ◌≢◌, ◌+◌, ◌-◌, ◌<◌, ◌≤◌, [], length, ◌++◌, drop};
 ghost use Rattle.recoding.specs.FirstFaults.{TellsFirst, TellsFirstAtEnd};
 ghost use Rattle.recoding.specs.Recoded.{most_held};
@@ -12,20 +12,22 @@ use crate::recoder::Recoder;
 use crate::recoder_runs::{StrictRun, recode_to_fault};
 
 impl Recoder {
-    /// `feed_into` that stops at the first invalid byte, and tells where it is and why it is invalid.
+    /// Feeds a part as `feed_into` does, but stops at the first invalid byte, and returns its offset and its
+    /// kind.
     ///
     /// What was written is exactly the text before that byte. The invalid byte counts as read, and nothing is written
-    /// for it. To go on after it, call again with the bytes of the part after those that were read. To refuse the
+    /// for it. To continue after it, call again with the bytes of the part after those that were read. To reject the
     /// input, stop. A call stops at each invalid byte of UTF-8, and at each lone surrogate of UTF-16.
     ///
-    /// The kind never depends on how the input was divided. So bytes are held, at most three, where later bytes decide
-    /// whether they are invalid, or of which kind. After `E9 0A`, the kind of `E9` is `InterruptedSequence` if a third
-    /// byte comes, and `TooFewBytes` if the input ends. You may mix calls of `feed_into` and of this one: each goes on
-    /// from what the other holds.
+    /// The kind never depends on how the input was divided. So bytes are carried over, at most three, if later bytes
+    /// decide whether they are invalid, or their kind. After `E9 0A`, the kind of `E9` is `InterruptedSequence` if a
+    /// third byte comes, and `TooFewBytes` if the input ends. You may mix calls of `feed_into` and of this one: each
+    /// continues with the bytes that the other carries over.
     ///
-    /// `Outcome::AllRead`: the whole part was read. `Outcome::Full`: the next character did not fit. With room for four
-    /// bytes, each call that is given a byte reads or writes something, or passes an invalid byte that was held. With
-    /// two bytes of room for each byte that is held or in the part, the room is never full.
+    /// `Outcome::AllRead`: the whole part was read. `Outcome::Full`: the next character did not fit. With capacity
+    /// for four bytes, each call that is given a byte reads or writes something, or passes an invalid byte that was
+    /// carried over. With two bytes of capacity for each byte that is carried over or in the part, the buffer is
+    /// never full.
     ///
     /// Cost: O(n) in what is read and written.
     pub fn feed_strict_into(&mut self, part: &[u8], room: &mut [u8]) -> StrictProgress
@@ -47,8 +49,8 @@ impl Recoder {
         }
     }
 
-    // Holds no longer what a run recoded, nor the fault at which it stopped, and holds what it left undecided. Answers how many bytes
-    // of the part are read, and why the call ends.
+    // Drops the carried-over bytes that a run transcoded, and the fault at which it stopped, and carries over what it
+    // left undecided. Returns how many bytes of the part are read, and why the call ends.
     fn end_run(&mut self, run: StrictRun, part: &[u8]) -> (usize, Outcome)
         requires few { length self.old.held ≤ most_held }
         requires within { run.read ≤ length self.old.held + length part.now }
@@ -69,7 +71,7 @@ impl Recoder {
         }
     }
 
-    // Holds no longer so many of the bytes at the front. Answers how many more those were than the held ones.
+    // Drops up to `count` carried-over bytes from the front. Returns how many of `count` were beyond them.
     pub(crate) fn pass(&mut self, count: usize) -> usize
         ensures held { self.new ≡ record (self.old) { held = drop count self.old.held } }
         ensures more { result ≡ count - length self.old.held }
@@ -84,13 +86,13 @@ impl Recoder {
         more
     }
 
-    /// `finish_into` that stops at the first invalid byte. `read` is 0.
+    /// Finishes as `finish_into` does, but stops at the first invalid byte. `read` is 0.
     ///
-    /// If the recoder holds the front of a character, its first byte is invalid, of the kind `TooFewBytes` or
-    /// `Incomplete`. To go on after it, call this again.
+    /// If the recoder carries over the front of a character, its first byte is invalid, of the kind
+    /// `TooFewBytes` or `Incomplete`. To continue after it, call this again.
     ///
-    /// `Outcome::AllRead`: nothing is held any more. `Outcome::Full`: the next character did not fit. Room for four
-    /// bytes is enough for any character, and room for six for all.
+    /// `Outcome::AllRead`: nothing is carried over any more. `Outcome::Full`: the next character did not fit.
+    /// Capacity for four bytes is enough for any character, and for six bytes for all.
     pub fn finish_strict_into(&mut self, room: &mut [u8]) -> StrictProgress
         ensures finishes { FinishesStrictly self.old room.old room.new result self.new }
         ensures read { result.read ≡ 0 }
@@ -120,7 +122,7 @@ impl Recoder {
     }
 }
 
-// Nothing was held.
+// The progress if nothing was carried over.
 fn finished() -> StrictProgress
     ensures { result ≡ record { read = 0; written = 0; outcome = Outcome.AllRead } }
 {
@@ -131,7 +133,7 @@ fn finished() -> StrictProgress
     }
 }
 
-// A fault of so many bytes, after which so many are held.
+// A fault of `len` bytes, after which `held` bytes are carried over.
 fn faulty(kind: FaultKind, len: usize, held: usize) -> Outcome
     requires len { len ≤ 2 }
     requires held { held ≤ most_held }

@@ -1,15 +1,19 @@
-//! How long a maximal subpart of UTF-8 is.
-ghost use Rattle.std.specs.Prelude.{◌≤◌, length, IsTrue};
+//! The length of a maximal subpart of UTF-8.
+ghost use Rattle.std.specs.Prelude.{◌<◌, ◌≤◌, length, IsTrue};
+ghost use Rattle.utf_base.specs.Code.{utf8};
+ghost use Rattle.utf_base.specs.Front.{NoneBegins};
+ghost use Rattle.utf_base.specs.Subparts.{IsMaximalSubpart};
 ghost use Rattle.recoding.specs.NextScalars.{MayBeSecond};
-ghost use Rattle.recoding.specs.Lossy.{BeginsLongCode, BeginsNoCode, BeginsSubpart, ThirdContinues};
+ghost use Rattle.recoding.specs.Lossy.{BeginsLongCode, ThirdContinues};
 
 use utf_base::elements::is_continuation;
 
-// How many bytes the maximal subpart has that begins bytes with which no code does, whatever follows them.
+// The length of the maximal subpart that begins the bytes, if no code begins them.
 #[inline(never)]
 pub(crate) fn subpart_len(bytes: &[u8]) -> usize
-    requires { BeginsNoCode bytes.now }
-    ensures subpart { BeginsSubpart bytes.now result }
+    requires some { 0 < length bytes.now }
+    requires none { NoneBegins utf8 bytes.now }
+    ensures subpart { IsMaximalSubpart utf8 bytes.now 0 result }
     ensures within { result ≤ length bytes.now }
 {
     if !begins_long_code(bytes) {
@@ -18,7 +22,7 @@ pub(crate) fn subpart_len(bytes: &[u8]) -> usize
     if third_continues(bytes) { 3 } else { 2 }
 }
 
-// Whether the first two bytes begin a code of three or four.
+// Returns true if the first two bytes begin a code of three or four.
 #[inline(always)]
 fn begins_long_code(bytes: &[u8]) -> bool
     ensures yes { IsTrue result → BeginsLongCode bytes.now }
@@ -27,7 +31,7 @@ fn begins_long_code(bytes: &[u8]) -> bool
     bytes.len() >= 2 && bytes[0] >= 0xe0 && bytes[0] < 0xf5 && may_be_second(bytes[0], bytes[1])
 }
 
-// Whether there is a third byte, and it is a continuation byte.
+// Returns true if there is a third byte, and it is a continuation byte.
 #[inline(always)]
 #[tactic(auto, using(crate::proofs::CodeFronts::continues_where, crate::proofs::CodeFronts::continues_not))]
 fn third_continues(bytes: &[u8]) -> bool
@@ -37,7 +41,7 @@ fn third_continues(bytes: &[u8]) -> bool
     bytes.len() >= 3 && is_continuation(bytes[2])
 }
 
-// Whether a code of three or four bytes that begins with the first byte may have this second one.
+// Returns true if a code of three or four bytes that begins with the first byte may have this second one.
 #[inline(always)]
 pub(crate) fn may_be_second(first: u8, second: u8) -> bool
     ensures yes { IsTrue result → MayBeSecond first second }

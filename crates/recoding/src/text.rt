@@ -1,4 +1,4 @@
-//! The forms as types, so that each pair of them has a copy of the loops.
+//! The encodings as types, for which the loops are monomorphised.
 ghost use Rattle.std.specs.Prelude.{◌≡◌, ◌<◌, ◌≤◌, length, IfSome, IfNone, IsTrue, IsFalse};
 ghost use Rattle.recoding.specs.Recoded.{Lacks, written};
 ghost use Rattle.recoding.specs.NextScalars.{fault_len};
@@ -17,27 +17,27 @@ use std::marker::PhantomData;
 use utf_lanes::byte_order::ByteOrder;
 use utf_lanes::text_front::front_of_text;
 
-// A form of text.
+// An encoding of text.
 pub(crate) trait Text {
     ghost use Rattle.recoding.specs.declared.form.Form.{Form};
 
-    // Which form it is.
+    // Which encoding it is.
     ghost form: { Form };
 
-    // Whether the same begins some bytes in each way.
+    // Whether the bytes begin with the same piece in each way of replacing.
     const IS_ONE_WAY: bool;
 
-    // What begins the bytes; `None` where that depends on what follows them.
+    // The piece that begins the bytes; `None` if that depends on what follows them.
     fn next_piece(way: Way, bytes: &[u8]) -> Option<ShownPiece>
         ensures some { IfSome result (λ x. IsNext way form bytes.now x) }
         ensures few { IfNone result (length bytes.now ≤ 3) }
         ensures lacks { IfNone result (Lacks form bytes.now) };
 
-    // The character that begins the bytes, and how many bytes it has; `None` at a fault, and near the end.
+    // The character that begins the bytes, and its length; `None` at a fault, and near the end.
     fn next_valid(bytes: &[u8]) -> Option<(char, usize)>
         ensures { IfSome result (λ x. BeginsChar form bytes.now x.0 x.1) };
 
-    // How many bytes there have to be for `next_valid` to answer a character.
+    // The least number of bytes for which `next_valid` returns a character.
     fn least_valid() -> usize
         ensures { 0 < result };
 
@@ -45,7 +45,7 @@ pub(crate) trait Text {
     fn first_piece(bytes: &[u8]) -> FirstPiece
         ensures { IsFirstPiece form bytes.now result };
 
-    // How many bytes a fault has.
+    // The length of a fault in bytes.
     fn fault_bytes() -> usize
         ensures { result ≡ fault_len form };
 
@@ -58,11 +58,11 @@ pub(crate) trait Text {
         requires { length (written form c) ≤ O.room out.old }
         ensures { O.appends out.old (written form c) out.new };
 
-    // How many bytes it has.
+    // The length of the code of the character.
     fn code_len(c: char) -> usize
         ensures { result ≡ length (written form c) };
 
-    // Appends the code of the character, where it fits, and answers whether it does.
+    // Appends the code of the character, if it fits, and returns whether it does.
     #[inline(always)]
     fn put_fitting<O: Output>(c: char, out: &mut O) -> bool
         ensures put { IsTrue result → O.appends out.old (written form c) out.new }
@@ -77,7 +77,7 @@ pub(crate) trait Text {
         Self::put_at_end(c, out)
     }
 
-    // The same where the room is less than any code may have.
+    // Appends the code of the character, if it fits, to an output with less capacity than the longest code.
     #[inline(never)]
     fn put_at_end<O: Output>(c: char, out: &mut O) -> bool
         ensures put { IsTrue result → O.appends out.old (written form c) out.new }

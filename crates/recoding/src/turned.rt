@@ -9,22 +9,22 @@ use utf_lanes::byte_order::ByteOrder;
 use utf_lanes::byte_pairs::{swapped_16, swapped_64};
 use utf_lanes::unit_blocks::units_len;
 
-// What swaps the bytes of each pair of a block of N bytes.
+// Swaps the bytes of each pair of a block of N bytes.
 trait BlockSwapper<const N: usize> {
-    // Appends the block that begins at the place, its pairs swapped.
+    // Appends the block that begins at the offset, with its pairs swapped.
     fn put_swapped_block<O: Output>(bytes: &[u8], place: usize, out: &mut O)
         requires within { place + N ≤ length bytes.now }
         requires room { N ≤ O.room out.old }
         ensures { O.appends out.old (swapped (take N (drop place bytes.now))) out.new };
 }
 
-// One pair.
+// Blocks of one pair.
 struct Pair;
 
-// By vectors of sixteen lanes.
+// Blocks of one vector of sixteen lanes.
 struct Sixteen;
 
-// By vectors of 64.
+// Blocks of one vector of 64 lanes.
 struct SixtyFour;
 
 impl BlockSwapper<2> for Pair {
@@ -48,8 +48,8 @@ impl BlockSwapper<64> for SixtyFour {
     }
 }
 
-// Appends the well-formed units at the front of the bytes, the two bytes of each swapped where the order that is wanted is
-// another, and answers how many bytes they have.
+// Appends the well-formed units at the front of the bytes, with the two bytes of each swapped if the output has the
+// other byte order, and returns their length in bytes.
 #[inline(never)]
 pub(crate) fn copy_units<O: Output, E: ByteOrder, W: ByteOrder>(bytes: &[u8], out: &mut O) -> usize
     requires { length bytes.now ≤ O.room out.old }
@@ -63,7 +63,7 @@ pub(crate) fn copy_units<O: Output, E: ByteOrder, W: ByteOrder>(bytes: &[u8], ou
     len
 }
 
-// Appends the bytes, those of each pair swapped or as they are.
+// Appends the bytes, with those of each pair swapped if `swaps` is set.
 #[inline(always)]
 fn put_turned<O: Output>(swaps: bool, bytes: &[u8], out: &mut O)
     requires even { length bytes.now % 2 ≡ 0 }
@@ -77,7 +77,7 @@ fn put_turned<O: Output>(swaps: bool, bytes: &[u8], out: &mut O)
     }
 }
 
-// Appends the bytes, those of each pair swapped.
+// Appends the bytes, with those of each pair swapped.
 #[inline(always)]
 fn put_swapped<O: Output>(bytes: &[u8], out: &mut O)
     requires even { length bytes.now % 2 ≡ 0 }
@@ -94,7 +94,8 @@ fn put_swapped<O: Output>(bytes: &[u8], out: &mut O)
     put_last(bytes, rest.len() - place, out);
 }
 
-// The same in blocks of N bytes. Answers where the last block ends.
+// Appends the bytes, with those of each pair swapped, in blocks of N bytes. Returns the end of the last
+// block.
 #[inline(always)]
 fn put_blocks<O: Output, const N: usize, B: BlockSwapper<N>>(bytes: &[u8], out: &mut O) -> usize
     requires some { 0 < N }
@@ -113,7 +114,7 @@ fn put_blocks<O: Output, const N: usize, B: BlockSwapper<N>>(bytes: &[u8], out: 
     place
 }
 
-// The same of the last few.
+// Appends the last `count` bytes, with those of each pair swapped.
 #[inline(always)]
 fn put_last<O: Output>(bytes: &[u8], count: usize, out: &mut O)
     requires even { length bytes.now % 2 ≡ 0 }

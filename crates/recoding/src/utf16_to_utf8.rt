@@ -1,5 +1,5 @@
-//! Blocks of units of UTF-16 as UTF-8, written into room from a place on: of thirty-two units while there are as many, and then of
-//! sixteen. Each is written whole, with what is none of its bytes, which the next block overwrites.
+//! Blocks of units of UTF-16 converted to UTF-8, written into a buffer from an offset on: of thirty-two units while
+//! there are as many, and then of sixteen. Stores a full vector; the next store overwrites the tail.
 ghost use Rattle.std.specs.Prelude.{◌≡◌, ℕ, ◌+◌, ◌<◌, ◌≤◌, length};
 ghost use Rattle.recoding.specs.NextScalars.{utf16_form};
 ghost use Rattle.recoding.specs.Replacing.{FillsPlace, at_place};
@@ -15,24 +15,26 @@ use utf_lanes::utf16_blocks::{
     write_ascii_units, write_characters, write_sixteen, write_thirty_two,
 };
 
-// How many bytes a block has, and how much room what comes of it takes, with bytes that are none of its own.
+// The length of a block in bytes, and the capacity that storing its output as full vectors needs.
 pub(crate) const BLOCK: usize = 32;
 
 pub(crate) const ROOM: usize = 64;
 
-// The same of a wide one, of thirty-two units.
+// The length in bytes of a wide block, of thirty-two units.
 const WIDE_BLOCK: usize = 64;
 
 const WIDE_ROOM: usize = 112;
 
-// How many bytes an input has at least for blocks of thirty-two: of fewer the blocks of sixteen stand in line, where no call is made.
+// The least length in bytes of an input for blocks of thirty-two: shorter inputs take the inlined 16-unit
+// loop.
 const LONG: usize = 1024;
 
-// How many bytes go block by block from the first block with surrogates on, before characters alone are looked for again.
+// The number of bytes that are converted as mixed blocks from the first block with surrogates on, before blocks
+// without surrogates are tried again.
 const MIXED: usize = 256;
 
-// Writes what comes of the blocks at the front of the bytes, as far as they have no fault and there is room. Answers how many bytes
-// they have, and where theirs end.
+// Converts the blocks at the front of the bytes, as far as they have no fault and there is capacity. Returns their
+// length in bytes, and the offset after the output.
 #[inline(always)]
 pub(crate) fn write_blocks<E: ByteOrder>(
     bytes: &[u8],
@@ -49,7 +51,7 @@ pub(crate) fn write_blocks<E: ByteOrder>(
     write_all_blocks::<E>(bytes, room, start)
 }
 
-// The same of a long input.
+// Converts the blocks at the front of a long input.
 #[inline(never)]
 fn write_all_blocks<E: ByteOrder>(bytes: &[u8], room: &mut [u8], start: usize) -> (usize, usize)
     requires { start ≤ length room.old }
@@ -61,7 +63,7 @@ fn write_all_blocks<E: ByteOrder>(bytes: &[u8], room: &mut [u8], start: usize) -
     (wide + len, end)
 }
 
-// The same of wide ones alone.
+// Converts only wide blocks.
 #[inline(always)]
 fn write_wide_blocks<E: ByteOrder>(bytes: &[u8], room: &mut [u8], start: usize) -> (usize, usize)
     requires { start ≤ length room.old }
@@ -81,7 +83,7 @@ fn write_wide_blocks<E: ByteOrder>(bytes: &[u8], room: &mut [u8], start: usize) 
     (place, end)
 }
 
-// The same of some of them: of those that are ASCII, of characters after them, and of some that have surrogates too.
+// Converts wide blocks: those that are ASCII, then characters without surrogates, and then some with surrogates.
 #[inline(always)]
 fn write_some_blocks<E: ByteOrder>(bytes: &[u8], room: &mut [u8], start: usize) -> (usize, usize)
     requires { start ≤ length room.old }
@@ -95,7 +97,7 @@ fn write_some_blocks<E: ByteOrder>(bytes: &[u8], room: &mut [u8], start: usize) 
     (place + mixed, end)
 }
 
-// The same of wide ones that are ASCII.
+// Converts wide blocks that are ASCII.
 #[inline(always)]
 fn write_ascii_blocks<E: ByteOrder>(bytes: &[u8], room: &mut [u8], start: usize) -> (usize, usize)
     requires { start ≤ length room.old }
@@ -115,7 +117,7 @@ fn write_ascii_blocks<E: ByteOrder>(bytes: &[u8], room: &mut [u8], start: usize)
     (place, end)
 }
 
-// The same of wide ones that are characters.
+// Converts wide blocks without surrogates.
 #[inline(always)]
 fn write_character_blocks<E: ByteOrder>(
     bytes: &[u8],
@@ -136,8 +138,8 @@ fn write_character_blocks<E: ByteOrder>(
     write_characters_from::<E>(low, high, bytes, room, start)
 }
 
-// The same where these characters are the first block. Each block is loaded and judged before the one before it is written, so that
-// a processor does both at once.
+// Converts wide blocks without surrogates, the first of which is given. Each block is loaded and validated before the
+// previous one is written, so that the CPU overlaps both.
 #[inline(always)]
 fn write_characters_from<E: ByteOrder>(
     first_low: u8x32,
@@ -170,7 +172,7 @@ fn write_characters_from<E: ByteOrder>(
     (read + WIDE_BLOCK, write_characters(low, high, room, end))
 }
 
-// The same of wide ones of any units, as far as some have surrogates.
+// Converts wide blocks of any units, as far as some have surrogates.
 #[inline(never)]
 fn write_mixed_blocks<E: ByteOrder>(bytes: &[u8], room: &mut [u8], start: usize) -> (usize, usize)
     requires { start ≤ length room.old }
@@ -194,7 +196,7 @@ fn write_mixed_blocks<E: ByteOrder>(bytes: &[u8], room: &mut [u8], start: usize)
     (place, end)
 }
 
-// The same of those of sixteen units.
+// Converts blocks of sixteen units.
 #[inline(always)]
 fn write_short_blocks<E: ByteOrder>(bytes: &[u8], room: &mut [u8], start: usize) -> (usize, usize)
     requires { start ≤ length room.old }

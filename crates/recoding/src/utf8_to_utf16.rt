@@ -1,5 +1,5 @@
-//! Text in UTF-8 as UTF-16, written into room from a place on. Each block is written whole, with what is none of its units, which the
-//! next block overwrites.
+//! Text in UTF-8 converted to UTF-16, written into a buffer from an offset on. Stores full vectors; the next store
+//! overwrites the tail.
 ghost use Rattle.std.specs.Prelude.{◌≡◌, ℕ, ◌+◌, ◌-◌, ◌*◌, ◌<◌, ◌≤◌, IsTrue, length, slice_index};
 ghost use Rattle.utf_lanes.specs.UnitCodes.{Writes};
 ghost use Rattle.utf_lanes.specs.Utf8ToUtf16.{utf16_bytes};
@@ -13,7 +13,7 @@ use utf_lanes::text_blocks::ends_character;
 use utf_lanes::text_puts::{write_64, write_first, write_rest};
 use utf_lanes::text_units::ascii_units;
 
-// Writes the units that the places of some text give. Answers where they end.
+// Writes the units of the offsets of some text. Returns the offset after them.
 #[inline(never)]
 pub(crate) fn widen_text<E: ByteOrder>(text: &[u8], room: &mut [u8], at: usize) -> usize
     requires long { 19 ≤ length text.now }
@@ -27,8 +27,8 @@ pub(crate) fn widen_text<E: ByteOrder>(text: &[u8], room: &mut [u8], at: usize) 
     write_rest::<E>(text, place, room, end)
 }
 
-// The same of the places from 16 on, in blocks of 64, of which fewer are left. Answers where the last block ends, and where its
-// units do.
+// Writes the units of the offsets from 16 on, in blocks of 64, until fewer are left. Returns the end of the last
+// block, and the offset after its units.
 #[inline(always)]
 fn write_wide<E: ByteOrder>(text: &[u8], room: &mut [u8], at: usize) -> (usize, usize)
     requires long { 16 ≤ length text.now }
@@ -48,7 +48,7 @@ fn write_wide<E: ByteOrder>(text: &[u8], room: &mut [u8], at: usize) -> (usize, 
     (place, end)
 }
 
-// The same of 64 places. Answers where their units end.
+// Writes the units of 64 offsets. Returns the offset after them.
 #[inline(always)]
 fn write_some<E: ByteOrder>(text: &[u8], place: usize, room: &mut [u8], at: usize) -> usize
     requires start { 3 ≤ place }
@@ -63,7 +63,7 @@ fn write_some<E: ByteOrder>(text: &[u8], place: usize, room: &mut [u8], at: usiz
     write_64::<E>(text, place, room, at)
 }
 
-// The same where they are ASCII, after bytes that ask for no more.
+// Writes the units of 64 offsets that are ASCII, after bytes that ask for no more.
 #[inline(always)]
 fn write_ascii<E: ByteOrder>(text: &[u8], place: usize, room: &mut [u8], at: usize) -> usize
     requires start { 3 ≤ place }
@@ -79,7 +79,7 @@ fn write_ascii<E: ByteOrder>(text: &[u8], place: usize, room: &mut [u8], at: usi
     lay_wide(u8x64::from_array(back), room, middle)
 }
 
-// Whether 64 places are ASCII, after bytes that ask for no more.
+// Returns true if 64 offsets are ASCII, after bytes that ask for no more.
 #[inline(always)]
 fn is_plain(text: &[u8], place: usize) -> bool
     requires start { 3 ≤ place }

@@ -1,7 +1,7 @@
-//! The ways to replace what is no character.
+//! The ways of replacing invalid input.
 ghost use Rattle.std.specs.Prelude.{◌≡◌};
 
-// What becomes one U+FFFD.
+// What one U+FFFD replaces.
 #[derive(Clone, Copy, Drop)]
 pub(crate) enum Way {
     // Each fault.
@@ -10,22 +10,22 @@ pub(crate) enum Way {
     Subparts,
 }
 
-// A way as a type, which a compiler knows, or as a value.
+// A way of replacing as a type, which the compiler knows, or as a value.
 pub(crate) trait Replacing: Copy + Drop {
     ghost use Rattle.recoding.specs.declared.way.Way.{Way};
 
-    // Which way it is.
+    // The way of replacing.
     ghost way: { Self → Way };
 
     fn way(self) -> Way
         ensures { result ≡ way self };
 }
 
-// Each fault becomes one U+FFFD.
+// One U+FFFD replaces each fault.
 #[derive(Clone, Copy, Drop)]
 pub(crate) struct Each;
 
-// Each maximal subpart does.
+// One U+FFFD replaces each maximal subpart.
 #[derive(Clone, Copy, Drop)]
 pub(crate) struct Subparts;
 

@@ -1,4 +1,4 @@
-//! How much room is enough, and runs over equal bytes.
+//! How much capacity is enough, and runs over equal bytes.
 
 use cuts::Form;
 use std::test::Fail;

@@ -1,4 +1,4 @@
-//! The callers in `uses_runs` that look for faults, that cut at them, and that mend them in a table of pieces.
+//! The callers in `uses_runs` that find faults, cut at them, and repair them in a table of pieces.
 use cuts::{Form, PieceTable};
 use std::test::Fail;
 use uses_runs::{bounds, editor, faults, fronts, strict};
@@ -34,7 +34,7 @@ fn fronts_end_at_faults(rt: HostRuntime) {
     assert!(rt; fronts::good_wire_len(b"a\0\x00\xd8") == 2);
 }
 
-// As `UnicodeDecodeError.start`.
+// Expected values as Python's `UnicodeDecodeError.start`.
 #[test]
 fn first_faults_are_told(rt: HostRuntime) -> Result<(), Fail> {
     let mut room = [0; 32];

@@ -1,4 +1,4 @@
-//! Tests of the callers in `uses_runs`: what they answer, with expected values from outside.
+//! Tests of the callers in `uses_runs`: what they return, with expected values from outside.
 #![tactic(auto)]
 
 #[cfg(test)]

@@ -1,4 +1,4 @@
-//! The callers in `uses_runs` that recode parts, lines, packets and rings.
+//! The callers in `uses_runs` that transcode parts, lines, packets and rings.
 use cuts::{Form, Recoder};
 use std::test::Fail;
 use uses_runs::parts::{
@@ -6,7 +6,7 @@ use uses_runs::parts::{
 };
 use uses_runs::rooms::{feed_by_packets, feed_packet, send_end};
 
-// FF and the two bytes of E2 82 are faults by RFC 3629, section 4; EF BF BD is U+FFFD itself.
+// FF and the two bytes of E2 82 are faults by RFC 3629, section 4; EF BF BD is an encoded U+FFFD.
 #[test]
 fn faults_are_counted(rt: HostRuntime) -> Result<(), Fail> {
     let mut recoder = Recoder::new(Form::Utf8, Form::Utf16Le);
@@ -18,7 +18,7 @@ fn faults_are_counted(rt: HostRuntime) -> Result<(), Fail> {
     let last = recoder.finish_into(&mut room);
     assert!(rt; last.replaced == 2 && recoder.replaced() == 3);
     assert!(rt; count_two(rt.alloc(), Form::Utf8, b"\xff\xef\xbf", b"\xbda\xe2\x82")? == 3);
-    // D800 is alone, and half a unit follows it.
+    // D800 is unpaired, and half a unit follows it.
     assert!(rt; count_two(rt.alloc(), Form::Utf16Be, b"\xd8", b"\x00\x41")? == 2);
     Ok(())
 }
@@ -59,7 +59,7 @@ fn a_code_lies_over_two_parts(rt: HostRuntime) -> Result<(), Fail> {
     Ok(())
 }
 
-// As Python encodes "a€", U+FFFD and U+1F0A0.
+// Expected values as Python encodes "a€", U+FFFD and U+1F0A0.
 #[test]
 fn a_ring_and_shards_are_recoded_as_one_text(rt: HostRuntime) -> Result<(), Fail> {
     let want = b"\0a\x20\xac\xff\xfd\xd8\x3c\xdc\xa0";

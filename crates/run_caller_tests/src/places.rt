@@ -1,5 +1,5 @@
-//! The callers in `uses_runs` that look for places in damaged bytes, and that read records and blocks. Expected values as Python's
-//! `bytes` and `str` give them.
+//! The callers in `uses_runs` that look up offsets in damaged bytes, and that read records and blocks. Expected
+//! values as Python's `bytes` and `str` give them.
 use cuts::boundaries::{ceil, floor, following, previous, truncated};
 use std::process::Abort;
 use std::test::Fail;
@@ -10,7 +10,7 @@ use uses_runs::strings::closing_quote;
 use uses_runs::wire::first_text;
 use uses_runs::{boundaries, cursor};
 
-// "a", "€", half of one, a quote, "b" and "🂠".
+// "a", "€", a truncated "€", a quote, "b" and "🂠".
 fn damaged() -> &'static [u8] {
     b"a\xe2\x82\xac\xe2\x82\"b\xf0\x9f\x82\xa0"
 }
@@ -43,7 +43,7 @@ fn boundaries_are_found_in_damage(rt: HostRuntime) {
     assert!(rt; before == b"a".as_slice() && after == &bytes[4..]);
 }
 
-// Steps on from place to place, and at each of them back again.
+// Steps forward from offset to offset, and backward again at each of them.
 fn steps_on(rt: &impl Abort, src: &[u8], places: &[usize]) {
     let mut place = cursor::front(src);
     for next in places {

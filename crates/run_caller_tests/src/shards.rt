@@ -1,7 +1,10 @@
 //! The callers in `uses_runs` that ask shards for their faults and pieces.
-use cuts::{Form, shard_end};
+use cuts::{Form, Outcome, Recoder, shard_end};
 use encode_unicode::error::{Utf8Error, Utf8ErrorKind};
 use encode_unicode::{U8SliceExt, Utf8Char};
+use std::alloc::{AllocError, Allocator};
+use std::test::Fail;
+use uses_runs::lossy::{feed_lossy_by_packets, send_lossy_end};
 use uses_runs::shards::{faults_in_shards, pieces_in_shards};
 
 // By hand: "a", a fault, "€", three faults, "!" and two faults.
@@ -27,8 +30,8 @@ fn is_same(answer: Result<Utf8Char, Utf8Error>, wanted: Result<char, Utf8ErrorKi
     }
 }
 
-// The piece with this number of two shards: the first is given with the three bytes after it, and what begins in those is left
-// out.
+// The piece with this number in two shards: the first is given with the three bytes after it, and pieces that begin
+// in those are left out.
 fn piece_of_shards(
     bytes: &[u8],
     at: usize,
@@ -44,7 +47,7 @@ fn piece_of_shards(
     Some((place.wrapping_add(end), answer, len))
 }
 
-// Whether two shards have these pieces.
+// Returns true if two shards have these pieces.
 fn shards_have(bytes: &[u8], at: usize, wanted: &[Wanted]) -> bool {
     for number in 0..wanted.len() {
         let Some((place, answer, len)) = piece_of_shards(bytes, at, number) else {
@@ -74,5 +77,115 @@ fn shards_have_the_pieces_of_the_whole(rt: HostRuntime) {
     ];
     for at in 0..=12 {
         assert!(rt; shards_have(bytes, at, &wanted), "cut at {at}");
+    }
+}
+
+// Appends the bytes as UTF-8 with one U+FFFD for each maximal subpart.
+fn append_lossy<A: Allocator>(
+    out: &mut Vec<u8, A>,
+    form: Form,
+    bytes: &[u8],
+) -> Result<(), AllocError> {
+    let mut recoder = Recoder::new(form, Form::Utf8);
+    feed_lossy_by_packets(&mut recoder, bytes, out)?;
+    send_lossy_end(&mut recoder, out)?;
+    Ok(())
+}
+
+// Returns true if the bytes become that text in two shards, whatever offset the end of the first is asked
+// for.
+fn becomes<A: Allocator + Copy>(
+    alloc: A,
+    form: Form,
+    bytes: &[u8],
+    text: &[u8],
+) -> Result<bool, AllocError> {
+    for at in 0..=bytes.len() {
+        let end = shard_end(form, bytes, at);
+        let mut out = Vec::new(alloc);
+        append_lossy(&mut out, form, &bytes[..end])?;
+        append_lossy(&mut out, form, &bytes[end..])?;
+        if out.as_slice() != text {
+            return Ok(false);
+        }
+    }
+    Ok(true)
+}
+
+// Expected values as Python decodes these bytes with errors="replace".
+#[test]
+fn shards_are_lossy_as_the_whole(rt: HostRuntime) -> Result<(), Fail> {
+    let alloc = rt.alloc();
+    assert!(rt; becomes(alloc, Form::Utf8, b"\xe2\x82A", b"\xef\xbf\xbdA")?);
+    assert!(rt;
+        becomes(
+            alloc,
+            Form::Utf8,
+            b"\xf0\x9f\x98\xe2\x82",
+            b"\xef\xbf\xbd\xef\xbf\xbd"
+        )?
+    );
+    assert!(rt;
+        becomes(
+            alloc,
+            Form::Utf8,
+            b"\xe0\x80A",
+            b"\xef\xbf\xbd\xef\xbf\xbdA"
+        )?
+    );
+    assert!(rt;
+        becomes(
+            alloc,
+            Form::Utf8,
+            b"\xf0\x9f\x98\x80\xf0\x9f\x98",
+            b"\xf0\x9f\x98\x80\xef\xbf\xbd"
+        )?
+    );
+    assert!(rt; becomes(alloc, Form::Utf16Le, b"\x3d\xd8A", b"\xef\xbf\xbd")?);
+    assert!(rt;
+        becomes(
+            alloc,
+            Form::Utf16Le,
+            b"\x3d\xd8\x00\xde\x3d\xd8A",
+            b"\xf0\x9f\x98\x80\xef\xbf\xbd"
+        )?
+    );
+    assert!(rt; becomes(alloc, Form::Utf16Be, b"\0A\xd8\x3dA", b"A\xef\xbf\xbd")?);
+    Ok(())
+}
+
+// Up to the first invalid byte: what each shard writes, and how many of its bytes precede that byte.
+#[test]
+fn shards_stop_at_the_first_fault_of_the_whole(rt: HostRuntime) {
+    let bytes = b"a\xe2\x82\xac\xc3\xa9\xe2\x82A";
+    let want = b"\0a\x20\xac\0\xe9";
+    for at in 0..=9 {
+        let end = shard_end(Form::Utf8, bytes, at);
+        let mut out = [0; 32];
+        let (mut read, mut written) = to_fault(&bytes[..end], &mut out);
+        if read == end {
+            let more = to_fault(&bytes[end..], &mut out[written.min(32)..]);
+            read = read.wrapping_add(more.0);
+            written = written.wrapping_add(more.1);
+        }
+        assert!(rt;
+            read == 6 && &out[..written.min(32)] == want.as_slice(),
+            "cut at {at}"
+        );
+    }
+}
+
+// The length of the text before the first invalid byte, in UTF-8 and in big-endian UTF-16, in bytes.
+fn to_fault(bytes: &[u8], out: &mut [u8]) -> (usize, usize) {
+    let mut recoder = Recoder::new(Form::Utf8, Form::Utf16Be);
+    let fed = recoder.feed_strict_into(bytes, out);
+    if let Outcome::Faulty(fault) = fed.outcome {
+        return (fed.read.wrapping_sub(fault.back), fed.written);
+    }
+    let end = fed.written.min(out.len());
+    let last = recoder.finish_strict_into(&mut out[end..]);
+    match last.outcome {
+        Outcome::Faulty(fault) => (fed.read.wrapping_sub(fault.back), fed.written),
+        _ => (fed.read, fed.written),
     }
 }

@@ -1,11 +1,11 @@
-//! A text with undo: edits of damaged text are taken back, one after another.
+//! A text with undo: edits of damaged text are undone, one after another.
 use cuts::{Change, Counts};
 use std::alloc::{AllocError, Allocator};
 use std::process::Abort;
 use std::test::Fail;
 use uses_runs::undo::{UndoBuffer, part};
 
-// Puts other bytes in place of some, where these are in the text.
+// Replaces some bytes by others, if the former are in the text.
 fn put<A: Allocator + Copy>(
     edited: &mut UndoBuffer<A>,
     start: usize,
@@ -16,7 +16,7 @@ fn put<A: Allocator + Copy>(
     edited.replace(start.min(end), end, new)
 }
 
-// The text has these bytes, and this many faulty ones.
+// Checks that the text has these bytes, and this many invalid ones.
 fn stands<A: Allocator + Copy>(
     rt: &impl Abort,
     alloc: A,
@@ -53,7 +53,7 @@ fn edits_of_damaged_text_are_taken_back(rt: HostRuntime) -> Result<(), Fail> {
     Ok(())
 }
 
-// A letter between the two bytes of a character, and out again.
+// Inserts a letter between the two bytes of a character, and removes it again.
 #[test]
 fn a_character_that_broke_in_two_is_whole_again(rt: HostRuntime) -> Result<(), Fail> {
     let whole = Counts {
@@ -88,7 +88,7 @@ fn nothing_is_taken_back_where_nothing_was_edited(rt: HostRuntime) -> Result<(),
     Ok(())
 }
 
-// What goes lies in several chunks.
+// The removed bytes lie in several chunks.
 #[test]
 fn a_long_part_is_taken_out_and_put_back(rt: HostRuntime) -> Result<(), Fail> {
     let bytes = "\u{20ac}1234567".repeat(rt.alloc(), 2_000)?;

@@ -5,17 +5,17 @@ use fakes::rows::wrong_row;
 use std::alloc::{AllocError, Allocator, Global};
 use std::io;
 
-/// A column, the first of which is number 0. A row has `|` between them, and one that is not there is empty.
+/// A column by its number, from 0. A row has `|` between columns; a missing column is empty.
 pub(crate) fn column(row: &str, number: usize) -> &str {
     row.split('|').nth(number).unwrap_or("")
 }
 
-/// The number that stands in a column, where one does.
+/// The number in a column, if there is one.
 pub(crate) fn number(column: &str) -> Option<usize> {
     column.parse::<usize>().ok()
 }
 
-/// The texts of a column, with `,` after each.
+/// The words of a column, with `,` after each.
 pub(crate) fn words_of<A: Allocator + Copy>(
     alloc: A,
     column: &str,
@@ -27,7 +27,7 @@ pub(crate) fn words_of<A: Allocator + Copy>(
     Ok(words)
 }
 
-/// The lines of a column, with `;` in place of each line feed.
+/// The lines of a column, which has `;` for each line feed.
 pub(crate) fn lines_of(alloc: Global, column: &str) -> Result<Vec<u8>, AllocError> {
     let mut lines = Vec::new(alloc);
     for byte in column.bytes() {

@@ -1,4 +1,4 @@
-//! Rows of the entries of a walk, with `;` after each: `OFFSET LENGTH ANSWER` or `none`. An answer is a scalar in
+//! Rows of the entries of a walk, with `;` after each: `OFFSET LENGTH ANSWER` or `none`. A result is a scalar in
 //! six hexadecimal digits or the name of an error.
 
 use crate::columns::{column, lines_of, number};
@@ -51,8 +51,8 @@ fn kind_of(name: &str) -> Option<Utf8ErrorKind> {
     }
 }
 
-/// Whether the entries of the first column are written as they stand there, and their answers as the second has
-/// them.
+/// Returns true if the entries of the first column are written back unchanged, and their results as the
+/// second column has them.
 pub(crate) fn agrees(alloc: Global, row: &str) -> io::Result<bool> {
     let entries = entries_of(alloc, column(row, 0))?;
     let mut out = Counted::new(Vec::new(alloc));

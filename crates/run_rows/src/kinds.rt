@@ -1,4 +1,4 @@
-//! What is held against the rows.
+//! The kinds of rows, and their checks.
 
 use crate::recodings::{held_agree, parts_agree, refused_parts_agree, rooms_agree, shards_agree};
 use crate::trials::{growths_agree, interrupted_agree, reads_agree, writes_agree};
@@ -6,7 +6,7 @@ use crate::{entries, lines, lists, places, replacements, runs};
 use std::alloc::Global;
 use std::io;
 
-/// What is held against the rows of one file.
+/// The check that the rows of one file go through.
 #[derive(Clone, Copy)]
 pub(crate) enum Kind {
     Runs,
@@ -63,7 +63,7 @@ impl Kind {
         ]
     }
 
-    /// What stands before its count.
+    /// The label before its count.
     pub(crate) fn name(self) -> &'static str {
         match self {
             Kind::Runs => "runs of both programs",
@@ -111,7 +111,7 @@ impl Kind {
         }
     }
 
-    /// Whether the row holds. A row that cannot be read is an error of the kind `InvalidData`.
+    /// Returns true if the row agrees. A row that cannot be read is an error of the kind `InvalidData`.
     pub(crate) fn agrees(self, alloc: Global, row: &str) -> io::Result<bool> {
         match self {
             Kind::Runs => runs::agrees(alloc, row),

@@ -1,4 +1,4 @@
-//! Each write of some lines is refused in turn, until none is: there is an error, and never `Ok` with a line
+//! Each write of some lines fails in turn, until none does: there is an error, and never `Ok` with a line
 //! missing. The rows are those of whole runs of `pieces`.
 
 use crate::columns::word_of;
@@ -21,7 +21,7 @@ fn write(alloc: Global, row: &Row<'_>, out: &mut Counted<Fuse<'_>>) -> io::Resul
     }
 }
 
-// How many of the lines name an error: these alone have a capital letter.
+// The number of lines that name an error: only these have a capital letter.
 fn errors_of(lines: &[u8]) -> usize {
     let mut errors = 0usize;
     for line in lines.split(|byte| *byte == b'\n') {
@@ -32,7 +32,7 @@ fn errors_of(lines: &[u8]) -> usize {
     errors
 }
 
-// How often the writes are refused before all are taken, or none where they then end in another way.
+// How often a write fails before all succeed, or `None` if they then end in another way.
 fn refusals(alloc: Global, row: &Row<'_>, failure: Failure, most: usize) -> Option<usize> {
     let kind = match failure {
         Failure::Error(kind) => kind,
@@ -55,7 +55,7 @@ fn refusals(alloc: Global, row: &Row<'_>, failure: Failure, most: usize) -> Opti
     None
 }
 
-/// Whether each write is refused that there is, however it fails.
+/// Returns true if a failure of each write is reported, whatever its kind.
 pub(crate) fn agrees(alloc: Global, row: &str) -> io::Result<bool> {
     let row = parse(alloc, row)?;
     if row.recodes || row.status == 2 {

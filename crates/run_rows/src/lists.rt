@@ -1,7 +1,7 @@
 //! Rows of lists that a call collects: `CALL|ELEMENTS|WORD|ANSWERS|GROWTHS`.
 //!
-//! The elements are bytes or units in hexadecimal, and the answers have `;` after each. The last column says how
-//! many growths are refused before the list is whole: its room begins at four entries and doubles.
+//! The elements are bytes or units in hexadecimal, and the results have `;` after each. The last column says how
+//! many allocations fail before the list is complete: its capacity begins at four entries and doubles.
 
 use crate::columns::{column, number, word_of};
 use cuts::{
@@ -115,7 +115,7 @@ enum Call {
 }
 
 impl Call {
-    // The list as text, where the growths that are left are enough.
+    // The list as text, if the remaining allocations are enough.
     fn collect(&self, alloc: Global, budget: &Budget<Global>) -> Result<Vec<u8>, AllocError> {
         match self {
             Call::WalkBytes(bytes, word) => walk_bytes(alloc, budget, bytes, word),
@@ -139,14 +139,14 @@ fn call_of(alloc: Global, row: &str) -> io::Result<Call> {
     }
 }
 
-// Whether the list is that of the row, with a line feed or `;` after each entry.
+// Returns true if the list is that of the row, with a line feed or `;` after each entry.
 fn is_list(list: &[u8], answers: &str) -> bool {
     list.iter()
         .map(|byte| if *byte == b'\n' { b';' } else { *byte })
         .eq(answers.bytes())
 }
 
-/// Whether the list is as the row says, and is refused as often.
+/// Returns true if the list is as the row says, after as many failed allocations.
 pub(crate) fn agrees(alloc: Global, row: &str) -> io::Result<bool> {
     let call = call_of(alloc, row)?;
     for growths in 0..100 {

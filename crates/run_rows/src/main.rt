@@ -1,7 +1,8 @@
-//! Whole runs, programs, tables and recoders against rows that another program computed. Each read, write and
-//! growth of each row is also refused in turn, until none is.
+//! Compares whole runs, programs, tables and recoders with rows that another program computed. Each read,
+//! write and allocation of each row also fails in turn, until none does.
 //!
-//! It prints how many rows agree. A row that differs, or that cannot be read, is printed too, and the status is then 1.
+//! It prints how many rows agree. A row that differs, or that cannot be read, is printed too, and the status is then
+//! 1.
 #![tactic(auto)]
 
 mod columns;
@@ -29,7 +30,7 @@ fn main(rt: HostRuntime) -> io::Result<ExitCode> {
     Ok(ExitCode::from(status))
 }
 
-// Prints how many rows of the kind's file agree, and each that does not. Answers whether all do.
+// Prints how many rows of the kind's file agree, and each that does not. Returns whether all do.
 fn report(rt: &HostRuntime, kind: Kind) -> io::Result<bool> {
     let file = fs::read_to_string(rt, kind.file())?;
     let mut count = 0u32;

@@ -1,7 +1,8 @@
-//! Rows of calls that answer a place or a size: `CALL|ELEMENTS|ASKED|ANSWER`.
+//! Rows of calls that return an offset or a size: `CALL|ELEMENTS|ASKED|ANSWER`.
 //!
-//! The elements are bytes or units in hexadecimal. `shard_end` is asked `FORM PLACE`, and `room_for` `FORM FORM LENGTH`,
-//! where `none` stands for no size. `front_of_text` is asked for a scalar, and answers the length of its code.
+//! The elements are bytes or units in hexadecimal. `shard_end` has the arguments `FORM PLACE`, and `room_for` has
+//! `FORM FORM LENGTH`, where `none` represents no size. `front_of_text` is given a scalar, and returns its encoded
+//! length.
 
 use crate::columns::{column, number};
 use crate::recodings::form_of;
@@ -10,7 +11,7 @@ use fakes::rows::{bytes_of, units_of, wrong_row};
 use std::alloc::Global;
 use std::io;
 
-/// Whether the call answers what the row says.
+/// Returns true if the call returns what the row says.
 pub(crate) fn agrees(alloc: Global, row: &str) -> io::Result<bool> {
     let answer = answer_of(alloc, row)?;
     Ok(match column(row, 3) {
@@ -37,7 +38,7 @@ fn end_of(asked: &str, bytes: &[u8]) -> io::Result<usize> {
     Ok(shard_end(form_of(form)?, bytes, at))
 }
 
-// How many bytes the code of the scalar has that begins the bytes, or 0 where another does.
+// The encoded length of the scalar if the bytes begin with it, or 0 if they begin with another.
 fn text_len(asked: &str, bytes: &[u8]) -> Option<usize> {
     let (c, len) = front_of_text(bytes)?;
     Some(if number(asked) == Some(c as usize) {

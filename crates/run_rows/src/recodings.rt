@@ -1,9 +1,11 @@
-//! Rows of bytes and what they are recoded as: `FROM TO|INPUT|OUTPUT|GROWTHS`, in hexadecimal.
+//! Rows of bytes and what they are transcoded to: `FROM TO|INPUT|OUTPUT|GROWTHS`, in hexadecimal.
 //!
-//! The last column says how many growths are refused where the bytes are fed one by one: one for each of them, and
-//! one for an end that leaves some held. Bytes are held while they are the front of a code.
+//! The last column says how many allocations fail when the bytes are fed one by one: one for each of them, and
+//! one for the end if bytes are carried over. Bytes are carried over while they are the beginning of a
+//! character.
 //!
-//! And rows of bytes and what is held of them: `FROM TO|FED|OUTPUT|HELD`, where the output is that before the end.
+//! Other rows have bytes and which of them are carried over: `FROM TO|FED|OUTPUT|HELD`; the output is the one
+//! before the end.
 
 use crate::columns::{column, number};
 use cuts::{Form, Recoder, shard_end};
@@ -12,7 +14,7 @@ use fakes::rows::{bytes_of, wrong_row};
 use std::alloc::{AllocError, Allocator, Global};
 use std::io;
 
-/// The form of that name.
+/// The encoding of that name.
 pub(crate) fn form_of(name: &str) -> io::Result<Form> {
     match name {
         "utf8" => Ok(Form::Utf8),
@@ -22,19 +24,19 @@ pub(crate) fn form_of(name: &str) -> io::Result<Form> {
     }
 }
 
-// The two forms of the row.
+// The two encodings of the row.
 fn forms_of(row: &str) -> io::Result<(Form, Form)> {
     let (from, to) = column(row, 0).split_once(' ').ok_or(wrong_row())?;
     Ok((form_of(from)?, form_of(to)?))
 }
 
-// The recoder that the row asks for.
+// A new recoder for the encodings of the row.
 fn recoder_of(row: &str) -> io::Result<Recoder> {
     let (from, to) = forms_of(row)?;
     Ok(Recoder::new(from, to))
 }
 
-// The same, where it holds what the other holds.
+// A new recoder that has taken over the bytes that another carries over.
 fn taken_over(row: &str, recoder: &Recoder) -> io::Result<Recoder> {
     let (from, to) = forms_of(row)?;
     Ok(Recoder::holding(from, to, recoder.held()))
@@ -45,7 +47,8 @@ fn finish<A: Allocator>(recoder: Recoder, out: &mut Vec<u8, A>) -> Result<(), Al
     Ok(())
 }
 
-// Appends what comes of the input, cut at this place with nothing between.
+// Appends the transcoded input, fed in two parts that are cut at this offset, with an empty part between
+// them.
 fn recode_two(row: &str, front: &[u8], back: &[u8], out: &mut Vec<u8>) -> io::Result<()> {
     let mut recoder = recoder_of(row)?;
     recoder.feed(front, out)?;
@@ -54,7 +57,7 @@ fn recode_two(row: &str, front: &[u8], back: &[u8], out: &mut Vec<u8>) -> io::Re
     Ok(finish(recoder, out)?)
 }
 
-// Appends what comes of the input, fed in parts of so many bytes.
+// Appends the transcoded input, fed in parts of `size` bytes.
 fn recode_parts(row: &str, input: &[u8], size: usize, out: &mut Vec<u8>) -> io::Result<()> {
     let mut recoder = recoder_of(row)?;
     for part in input.chunks(size.max(1)) {
@@ -63,13 +66,13 @@ fn recode_parts(row: &str, input: &[u8], size: usize, out: &mut Vec<u8>) -> io::
     Ok(finish(recoder, out)?)
 }
 
-// Whether what stands after the word is the output of the row.
+// Returns true if the bytes after `BEFORE` are the output of the row.
 fn is_output(alloc: Global, row: &str, out: &[u8]) -> io::Result<bool> {
     let output = bytes_of(alloc, column(row, 2))?;
     Ok(out.strip_prefix(BEFORE) == Some(output.as_slice()))
 }
 
-// What stands in the output before.
+// The initial contents of each output.
 const BEFORE: &[u8] = b"before";
 
 fn before(alloc: Global) -> Result<Vec<u8>, AllocError> {
@@ -78,8 +81,8 @@ fn before(alloc: Global) -> Result<Vec<u8>, AllocError> {
     Ok(out)
 }
 
-/// Whether the row holds however its input is cut: into two parts, with an empty one between them, and into parts
-/// of any one size. What comes of them stands after what was there.
+/// Returns true if the row agrees however its input is cut: into two parts, with an empty one between them,
+/// and into parts of any one size. The output is appended to what was there.
 pub(crate) fn parts_agree(alloc: Global, row: &str) -> io::Result<bool> {
     let input = bytes_of(alloc, column(row, 1))?;
     for place in 0..=input.len() {
@@ -95,11 +98,11 @@ pub(crate) fn parts_agree(alloc: Global, row: &str) -> io::Result<bool> {
     Ok(true)
 }
 
-// How many bytes of room are enough for each row.
+// The capacity, in bytes, that is enough for each row.
 const AMPLE: usize = 512;
 
-// Appends what comes of the input in a first room of so many bytes and then in an ample one, where another recoder
-// takes over after each call.
+// Appends the transcoded input, first through a buffer of `size` bytes and then through one of `AMPLE`; another
+// recoder takes over after each call.
 fn recode_rooms(row: &str, input: &[u8], size: usize, out: &mut Vec<u8>) -> io::Result<()> {
     let mut room = [0; AMPLE];
     let mut recoder = recoder_of(row)?;
@@ -111,7 +114,8 @@ fn recode_rooms(row: &str, input: &[u8], size: usize, out: &mut Vec<u8>) -> io::
     finish_rooms(row, recoder, size, out)
 }
 
-// The same of the end.
+// Finishes first into a buffer of `size` bytes and then into one of `AMPLE`; another recoder takes over after
+// each call.
 fn finish_rooms(row: &str, recoder: Recoder, size: usize, out: &mut Vec<u8>) -> io::Result<()> {
     let mut room = [0; AMPLE];
     let mut recoder = taken_over(row, &recoder)?;
@@ -123,7 +127,7 @@ fn finish_rooms(row: &str, recoder: Recoder, size: usize, out: &mut Vec<u8>) -> 
     Ok(())
 }
 
-/// Whether the row holds for a first room of each size, from none to as many bytes as the output has.
+/// Returns true if the row agrees for a first buffer of each size, from none to the length of the output.
 pub(crate) fn rooms_agree(alloc: Global, row: &str) -> io::Result<bool> {
     let input = bytes_of(alloc, column(row, 1))?;
     for size in 0..=column(row, 2).len() / 2 {
@@ -136,8 +140,8 @@ pub(crate) fn rooms_agree(alloc: Global, row: &str) -> io::Result<bool> {
     Ok(true)
 }
 
-/// Whether the row holds where its input is cut into two shards, at the place that is asked for each place in it, and
-/// each is recoded by itself.
+/// Returns true if the row agrees when its input is cut into two shards, at the boundary for each offset in it, and
+/// each is transcoded separately.
 pub(crate) fn shards_agree(alloc: Global, row: &str) -> io::Result<bool> {
     let input = bytes_of(alloc, column(row, 1))?;
     let (from, _) = forms_of(row)?;
@@ -153,14 +157,15 @@ pub(crate) fn shards_agree(alloc: Global, row: &str) -> io::Result<bool> {
     Ok(true)
 }
 
-// Whether the output is that of the row, and the recoder holds what the row says.
+// Returns true if the output is that of the row, and the recoder carries over the bytes that the row says.
 fn is_left(alloc: Global, row: &str, recoder: &Recoder, out: &[u8]) -> io::Result<bool> {
     let output = bytes_of(alloc, column(row, 2))?;
     let held = bytes_of(alloc, column(row, 3))?;
     Ok(out == output.as_slice() && recoder.held() == held.as_slice())
 }
 
-// Whether it is so where the bytes are fed in parts of so many, to a list.
+// Returns true if output and carried-over bytes agree when the bytes are fed in parts of `size` bytes, to a
+// list.
 fn is_left_of(alloc: Global, row: &str, fed: &[u8], size: usize) -> io::Result<bool> {
     let mut out = Vec::new(alloc);
     let mut recoder = recoder_of(row)?;
@@ -170,7 +175,8 @@ fn is_left_of(alloc: Global, row: &str, fed: &[u8], size: usize) -> io::Result<b
     is_left(alloc, row, &recoder, &out)
 }
 
-// The same into an ample room.
+// Returns true if output and carried-over bytes agree when the bytes are fed in parts of `size` bytes, into
+// an ample buffer.
 fn is_left_of_room(alloc: Global, row: &str, fed: &[u8], size: usize) -> io::Result<bool> {
     let mut out = Vec::new(alloc);
     let mut room = [0; AMPLE];
@@ -182,7 +188,8 @@ fn is_left_of_room(alloc: Global, row: &str, fed: &[u8], size: usize) -> io::Res
     is_left(alloc, row, &recoder, &out)
 }
 
-/// Whether the row of held bytes holds, by `feed` and by `feed_into`, for parts of any one size.
+/// Returns true if the row of carried-over bytes agrees, by `feed` and by `feed_into`, for parts of any one
+/// size.
 pub(crate) fn held_agree(alloc: Global, row: &str) -> io::Result<bool> {
     let fed = bytes_of(alloc, column(row, 1))?;
     for size in 1..=fed.len() {
@@ -193,8 +200,8 @@ pub(crate) fn held_agree(alloc: Global, row: &str) -> io::Result<bool> {
     Ok(true)
 }
 
-// Feeds the byte with no growth allowed, and where that is refused with one more. Answers whether it was and left
-// the output as it is.
+// Feeds the byte with no allocation allowed and, if that fails, with one more. Returns whether it failed and
+// left the output as it was.
 fn feed_refused(
     recoder: &mut Recoder,
     byte: u8,
@@ -211,7 +218,8 @@ fn feed_refused(
     Ok(is_unchanged)
 }
 
-// The same of the end.
+// Finishes with no allocation allowed and, if that fails, with one more. Returns whether it failed and left
+// the output as it was.
 fn finish_refused(
     recoder: Recoder,
     budget: &Budget<Global>,
@@ -229,8 +237,8 @@ fn finish_refused(
     }
 }
 
-/// Whether each growth of `feed` and `finish` that is refused leaves recoder and output as they were, and the call
-/// made again gives what it should. The output is taken out after each byte, so that each growth is refused.
+/// Returns true if each failed allocation of `feed` and `finish` leaves recoder and output as they were, and the
+/// repeated call gives the expected output. The output is taken out after each byte, so that each call allocates.
 pub(crate) fn refused_parts_agree(alloc: Global, row: &str) -> io::Result<bool> {
     let budget = Budget::new(alloc, 0);
     let mut all = before(alloc)?;

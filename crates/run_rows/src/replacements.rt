@@ -1,7 +1,7 @@
 //! Rows of replacements in a table: `BYTES|PIECES|START|END|NEW|BYTES|PIECES|GROWTHS|GROWTHS`.
 //!
-//! The bytes and the pieces stand there before and after it, in hexadecimal and with `;` after each piece. The last
-//! two columns may say how many growths are refused of the new table, and of the replacement.
+//! The bytes and the pieces are given before and after the replacement, in hexadecimal and with `;` after each
+//! piece. The last two columns may say how many allocations fail of the new table, and of the replacement.
 
 use crate::columns::{column, number};
 use crate::entries::entries_of;
@@ -12,7 +12,7 @@ use fakes::rows::bytes_of;
 use std::alloc::{AllocError, Allocator, Global};
 use std::io;
 
-// Whether the table is that of the two columns from this one on.
+// Returns true if the table has the bytes and pieces of the two columns from this one on.
 fn is_table<A: Allocator + Copy>(
     alloc: Global,
     table: &PieceTable<A>,
@@ -30,7 +30,7 @@ fn is_table<A: Allocator + Copy>(
     )
 }
 
-// The replacement of the row, where it lies in the table.
+// Makes the replacement of the row, if its range is in the table.
 fn replace<A: Allocator + Copy>(
     table: &mut PieceTable<A>,
     row: &str,
@@ -44,7 +44,7 @@ fn replace<A: Allocator + Copy>(
     Some(table.replace(start, end, new, &mut Steps::new()))
 }
 
-// How often the new table is refused, where it is then that of the row.
+// How often the new table's allocation fails, if the table is then that of the row.
 fn refusals_of_new(alloc: Global, row: &str) -> io::Result<Option<usize>> {
     let bytes = bytes_of(alloc, column(row, 0))?;
     for growths in 0..100 {
@@ -56,7 +56,8 @@ fn refusals_of_new(alloc: Global, row: &str) -> io::Result<Option<usize>> {
     Ok(None)
 }
 
-// How often the replacement is refused, where the table is then as it was, and in the end as the row says.
+// How often the replacement's allocation fails, if that leaves the table as it was, and the table is in the
+// end that of the row.
 fn refusals_of_replacing(alloc: Global, row: &str) -> io::Result<Option<usize>> {
     let bytes = bytes_of(alloc, column(row, 0))?;
     let new = bytes_of(alloc, column(row, 4))?;
@@ -73,12 +74,12 @@ fn refusals_of_replacing(alloc: Global, row: &str) -> io::Result<Option<usize>> 
     Ok(None)
 }
 
-// Whether there is a count, and it is that of the column, where the column has one.
+// Returns true if there is a count and it equals that of the column, if the column has one.
 fn is_count(count: Option<usize>, column: &str) -> bool {
     count.is_some() && (column.is_empty() || count == number(column))
 }
 
-/// Whether the replacement is as the row says, and the table as it was wherever memory is refused.
+/// Returns true if the replacement is as the row says, and the table is as it was whenever allocation fails.
 pub(crate) fn agrees(alloc: Global, row: &str) -> io::Result<bool> {
     Ok(
         is_count(refusals_of_new(alloc, row)?, column(row, 7))

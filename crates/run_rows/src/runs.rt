@@ -1,8 +1,8 @@
 //! Rows of whole runs of `pieces` and `recode`: `WORDS|INPUT|STATUS|OUTPUT|SAID|GROWTHS`.
 //!
 //! The words have `,` after each, and the first is the program's name. The input is in hexadecimal, and so is the
-//! output of `recode`, and that of `pieces` has `;` in place of each line feed. What is said on standard error
-//! has no line feed, and the last column may say how many growths the run asks for.
+//! output of `recode`; that of `pieces` has `;` for each line feed. The message on standard error has no line
+//! feed, and the last column may say how many allocations the run makes.
 
 use crate::columns::{column, lines_of, number, words_of};
 use cuts::programs::mains::arguments_of;
@@ -13,7 +13,7 @@ use fakes::rows::{bytes_of, wrong_row};
 use std::alloc::{AllocError, Allocator, Global};
 use std::io;
 
-/// What a row says.
+/// The contents of a row.
 #[derive(Drop)]
 pub(crate) struct Row<'a> {
     pub(crate) recodes: bool,
@@ -44,7 +44,7 @@ pub(crate) fn parse(alloc: Global, row: &str) -> io::Result<Row<'_>> {
     })
 }
 
-/// How the streams of a run fail, how many bytes they pass a call, and how many growths are allowed.
+/// How the streams of a run fail, how many bytes they pass a call, and how many allocations succeed.
 #[derive(Clone, Copy)]
 pub(crate) struct Trial {
     pub(crate) reads: Plan,
@@ -54,7 +54,7 @@ pub(crate) struct Trial {
 }
 
 impl Trial {
-    /// Nothing fails, with so many bytes a call.
+    /// A trial without failures, of at most `most` bytes a call.
     pub(crate) fn pass(most: usize) -> Trial {
         Trial {
             reads: Plan::pass(),
@@ -65,17 +65,17 @@ impl Trial {
     }
 }
 
-/// What a run did.
+/// The outcome of a run.
 #[derive(Drop)]
 pub(crate) struct Ended<'a> {
     pub(crate) status: u8,
-    /// How often it read.
+    /// The number of reads.
     pub(crate) reads: usize,
     pub(crate) out: Fuse<'a>,
     pub(crate) stderr: Fuse<'a>,
 }
 
-/// The row's run on its input.
+/// Runs the program of the row on its input.
 pub(crate) fn run<'a>(
     alloc: Global,
     row: &'a Row<'_>,
@@ -138,7 +138,7 @@ fn recode<'a, A: Allocator + Copy>(
 }
 
 impl Ended<'_> {
-    /// Whether it is the whole run of the row.
+    /// Returns true if the run is the whole run of the row.
     pub(crate) fn is_whole(&self, row: &Row<'_>) -> bool {
         usize::from(self.status) == row.status
             && self.out.written.as_slice() == row.output.as_slice()
@@ -146,7 +146,7 @@ impl Ended<'_> {
             && self.says(row.said)
     }
 
-    /// Whether it ended early, with this text on standard error after the program's name.
+    /// Returns true if the run ended early, with this message on standard error after the program's name.
     pub(crate) fn is_stopped(&self, row: &Row<'_>, text: &str) -> bool {
         let name = if row.recodes { "recode: " } else { "pieces: " };
         self.status == 3
@@ -158,12 +158,12 @@ impl Ended<'_> {
             && self.says_after(name.len(), text)
     }
 
-    // Whether nothing was read or written.
+    // Returns true if nothing was read or written.
     fn is_idle(&self) -> bool {
         self.reads == 0 && self.out.given.is_empty()
     }
 
-    // Whether the text, and a line feed, was said, or nothing where there is none.
+    // Returns true if the message and a line feed were written, or nothing if there is no message.
     fn says(&self, text: &str) -> bool {
         text.is_empty() && self.stderr.written.is_empty() || self.says_after(0, text)
     }
@@ -176,8 +176,8 @@ impl Ended<'_> {
     }
 }
 
-/// How many writes of so many bytes at most the lines take, where lines are gathered as long as one of 80 bytes finds
-/// room in 64 KiB.
+/// The number of writes, of at most `most` bytes, for these lines, if lines are gathered while one of 80 bytes fits
+/// in 64 KiB.
 pub(crate) fn writes_of(lines: &[u8], most: usize) -> usize {
     let most = most.max(1);
     let mut writes = 0usize;
@@ -194,9 +194,9 @@ pub(crate) fn writes_of(lines: &[u8], most: usize) -> usize {
     writes.saturating_add(gathered.div_ceil(most))
 }
 
-// Whether the streams were asked no more often than it takes, where each call passes all that it is given: one read
-// for the whole of a short input and one for its end, one write for each 64 KiB of lines of `pieces`, and at most one
-// for each read of `recode`.
+// Returns true if the streams were called no more often than needed, if each call passes all that it is given: one
+// read for the whole of a short input and one for its end, one write for each 64 KiB of lines of `pieces`, and at
+// most one for each read of `recode`.
 fn asks_no_more(ended: &Ended<'_>, row: &Row<'_>) -> bool {
     if row.status == 2 {
         return ended.is_idle();
@@ -212,8 +212,8 @@ fn asks_no_more(ended: &Ended<'_>, row: &Row<'_>) -> bool {
         }
 }
 
-/// Whether the row's run is as it says, by the arguments after the program's name, and asks its streams no more often
-/// than it takes, and not at all where the arguments are wrong.
+/// Returns true if the row's run is as it says, by the arguments after the program's name, and calls its streams
+/// no more often than needed, and not at all if the arguments are invalid.
 pub(crate) fn agrees(alloc: Global, row: &str) -> io::Result<bool> {
     let words = words_of(alloc, column(row, 0))?;
     let row = parse(alloc, row)?;

@@ -1,4 +1,4 @@
-//! Each read, write and growth of a run is refused in turn, until none is.
+//! Each read, write and allocation of a run fails in turn, until none does.
 
 use crate::runs::{Row, Trial, parse, run, writes_of};
 use fakes::fuse::{Failure, Plan};
@@ -6,7 +6,7 @@ use std::alloc::{AllocError, Global};
 use std::io;
 use std::io::ErrorKind;
 
-// What is refused of a run.
+// What fails in a run.
 #[derive(Clone, Copy)]
 enum Refused {
     Read(ErrorKind),
@@ -17,7 +17,7 @@ enum Refused {
 }
 
 impl Refused {
-    // The trial that passes so many calls.
+    // The trial in which the first `passes` calls succeed.
     fn trial(self, passes: u32, most: usize) -> Trial {
         let mut trial = Trial::pass(most);
         match self {
@@ -30,7 +30,7 @@ impl Refused {
         trial
     }
 
-    // What is said of it.
+    // The message for it.
     fn text(self) -> &'static str {
         match self {
             Refused::Read(_) | Refused::Reads => "cannot read",
@@ -40,8 +40,8 @@ impl Refused {
     }
 }
 
-// How often it is refused before the run is whole, or none where it then ends in another way. Nothing is written
-// by `pieces` where a read or a growth is refused, and each write that is refused is its last.
+// How often it fails before the run is whole, or `None` if the run then ends in another way. `pieces` writes
+// nothing if a read or an allocation fails, and each write that fails is its last.
 fn refusals(
     alloc: Global,
     row: &Row<'_>,
@@ -65,7 +65,7 @@ fn refusals(
     Ok(None)
 }
 
-/// Whether each read can be refused, by errors and for good.
+/// Returns true if each read can fail, once or for good, and the run reports it.
 pub(crate) fn reads_agree(alloc: Global, row: &str) -> io::Result<bool> {
     let row = parse(alloc, row)?;
     let count = if row.status == 2 {
@@ -85,7 +85,7 @@ pub(crate) fn reads_agree(alloc: Global, row: &str) -> io::Result<bool> {
     Ok(true)
 }
 
-/// Whether a run whose read is interrupted goes on.
+/// Returns true if a run whose read is interrupted goes on.
 pub(crate) fn interrupted_agree(alloc: Global, row: &str) -> io::Result<bool> {
     let row = parse(alloc, row)?;
     for passes in 0..row.input.len().min(100) {
@@ -98,7 +98,8 @@ pub(crate) fn interrupted_agree(alloc: Global, row: &str) -> io::Result<bool> {
     Ok(true)
 }
 
-/// Whether each write can be refused, once and for good, of all that is gathered, of three bytes, and of one.
+/// Returns true if each write can fail, once and for good, of all that is gathered, of three bytes, and of
+/// one.
 pub(crate) fn writes_agree(alloc: Global, row: &str) -> io::Result<bool> {
     let row = parse(alloc, row)?;
     for refused in [
@@ -117,8 +118,8 @@ pub(crate) fn writes_agree(alloc: Global, row: &str) -> io::Result<bool> {
     Ok(true)
 }
 
-// Whether the run has so many writes of so many bytes at most. Those of `recode` go by the parts that it reads: there is
-// one where it writes anything.
+// Returns true if the run makes `count` writes of at most `most` bytes. `recode` makes one for each part that it
+// reads, if it writes anything.
 fn is_write_count(row: &Row<'_>, count: usize, most: usize) -> bool {
     if row.recodes {
         (count > 0) == !row.output.is_empty()
@@ -127,7 +128,7 @@ fn is_write_count(row: &Row<'_>, count: usize, most: usize) -> bool {
     }
 }
 
-/// Whether each growth can be refused.
+/// Returns true if each allocation can fail, and the run reports it.
 pub(crate) fn growths_agree(alloc: Global, row: &str) -> io::Result<bool> {
     let row = parse(alloc, row)?;
     let count = refusals(alloc, &row, Refused::Growth, 2)?;

@@ -1,15 +1,17 @@
-//! The first fault of bytes, beside std's judgement: texts of 1 to 130 bytes, and each fault at each place.
+//! The first fault of bytes, compared with std's `from_utf8`: texts of 1 to 130 bytes, and each fault at each
+//! offset.
 use cuts::valid_up_to;
 use std::process::Abort;
 
 const MOST: usize = 130;
 
-// The codes that fill the bytes: one of each length.
+// The encoded characters that fill the bytes: one of each length.
 fn fills() -> [&'static [u8]; 4] {
     [b"a", b"\xc3\xa9", b"\xe2\x82\xac", b"\xf0\x9f\x98\x80"]
 }
 
-// What no text has: stray bytes, broken and overlong codes, a surrogate, and numbers that are too high.
+// Byte sequences that no text has: unexpected bytes, truncated and overlong sequences, a surrogate, and
+// numbers that are too high.
 fn faults() -> [&'static [u8]; 14] {
     [
         b"\x80",
@@ -29,7 +31,7 @@ fn faults() -> [&'static [u8]; 14] {
     ]
 }
 
-// Some ASCII, and then the code again and again.
+// Some ASCII, followed by repetitions of the encoded character.
 fn filled(code: &[u8], ascii: usize) -> [u8; MOST] {
     let mut bytes = [b'a'; MOST];
     for (to, from) in bytes.iter_mut().skip(ascii).zip(code.iter().cycle()) {
@@ -38,7 +40,7 @@ fn filled(code: &[u8], ascii: usize) -> [u8; MOST] {
     bytes
 }
 
-// The bytes with others in their place.
+// The bytes with others written over them at the offset.
 fn damaged(bytes: [u8; MOST], place: usize, fault: &[u8]) -> [u8; MOST] {
     let mut bytes = bytes;
     for (to, from) in bytes.iter_mut().skip(place).zip(fault.iter()) {
@@ -47,7 +49,7 @@ fn damaged(bytes: [u8; MOST], place: usize, fault: &[u8]) -> [u8; MOST] {
     bytes
 }
 
-// How many bytes at the front std takes for text.
+// The length of the text at the front, by std.
 fn std_valid_up_to(bytes: &[u8]) -> usize {
     match str::from_utf8(bytes) {
         Ok(_) => bytes.len(),
@@ -64,7 +66,7 @@ fn is_found_at_each_place(rt: &impl Abort, code: &[u8], fault: &[u8], len: usize
     }
 }
 
-// The codes take turns from one length to the next.
+// Characters of each length follow one another in turn.
 fn is_found_in_each_length(rt: &impl Abort, fault: &[u8]) {
     let codes = fills();
     for (len, code) in (1..=MOST).zip(codes.iter().cycle()) {
@@ -79,7 +81,8 @@ fn each_fault_is_found(rt: HostRuntime) {
     }
 }
 
-// A text that ends anywhere, also inside a code, and after some ASCII, so that codes lie over each end of a block.
+// Checks texts that end anywhere, also inside a character, after some ASCII, so that characters span each end
+// of a block.
 fn ends_anywhere(rt: &impl Abort, code: &[u8], ascii: usize) {
     let text = filled(code, ascii);
     for len in 0..=MOST {

@@ -1,5 +1,5 @@
-//! Lines and fields of bytes: the parts as Python's `bytes.split` gives them, their offsets summed by hand; lines as `str::lines`
-//! of Rust gives them; counts by hand.
+//! Lines and fields of bytes. Expected values: the parts as Python's `bytes.split` gives them, with offsets added up
+//! by hand; lines as `str::lines` of Rust gives them; counts by hand.
 use cuts::{Span, SplitAscii, SplitLines, char_count, fault_count, lines, split_ascii};
 use std::test::Fail;
 use uses_runs::fields;

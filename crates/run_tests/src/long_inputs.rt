@@ -1,4 +1,5 @@
-//! A million bytes, or units. From the back, a scan of the whole run for each of its bytes would not end in time.
+//! A million bytes, or units. From the end, a scan of the whole run for each of its bytes would not finish in
+//! time.
 use cuts::{
     Counted, End, Item, forward_utf16, merge_utf8, merge_utf16, run_pieces, walk_utf8, walk_utf16,
     write_listing,
@@ -22,13 +23,13 @@ fn strays(alloc: Global, first: u8) -> Result<Vec<u8>, AllocError> {
     Ok(bytes)
 }
 
-// The piece of a byte that no code has.
+// The piece of a byte that no character has.
 fn stray(place: usize) -> Option<Item> {
     let kind = Utf8ErrorKind::UnexpectedContinuationByte;
     Some((place, Err(Utf8Error::new(kind)), 1))
 }
 
-// The character U+40000 of so many bytes, and nothing of none.
+// The piece of the character U+40000, whose encoded length is `len`; `None` if that is 0.
 fn character(len: usize) -> Option<Item> {
     (len > 0).then_some((0, Ok(Utf8Char::new('\u{40000}')), len))
 }
@@ -87,7 +88,7 @@ fn a_million_bytes_are_collected(rt: HostRuntime) -> Result<(), Fail> {
     Ok(())
 }
 
-// A pair, and units that end none.
+// A surrogate pair, followed by trailing surrogates.
 fn stray_units(alloc: Global) -> Result<Vec<u16>, AllocError> {
     let mut units = vec![in alloc; 0xdca3; LEN]?;
     if let Some(unit) = units.first_mut() {
@@ -131,7 +132,7 @@ fn letters_and_faults(alloc: Global) -> Result<Vec<u8>, AllocError> {
     Ok(bytes)
 }
 
-// The lines that a run of `pieces` over the bytes writes, in so many writes.
+// The lines that a run of `pieces` over the bytes writes, in `writes` calls of write.
 fn listed(rt: &(impl Abort + AllocGlobal), bytes: &[u8], writes: usize) -> Vec<u8> {
     let mut input = Fuse::over(rt.alloc(), bytes);
     let mut out = Counted::new(Fuse::ample(rt.alloc()));

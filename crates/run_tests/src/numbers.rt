@@ -1,4 +1,4 @@
-//! Pieces by their numbers, and what an edit changes.
+//! Pieces found by their numbers, and what an edit changes.
 use cuts::{
     ChangedRange, Form, changed_range, forms, number_of, offset_of, unit_char_count,
     unit_number_of, unit_offset_of,

@@ -1,4 +1,4 @@
-//! Every word of eight letters over short bytes, and then calls from the front until there is no answer.
+//! Every word of eight letters over short bytes, then calls from the front until there is no result.
 use cuts::{End, Item, walk_utf8};
 use std::alloc::{AllocError, Global};
 use std::process::Abort;
@@ -6,10 +6,10 @@ use std::test::Fail;
 
 const LETTERS: u32 = 8;
 
-// How many bytes there are at most.
+// The greatest number of bytes.
 const MOST: usize = 8;
 
-// Bytes that are damaged in every way.
+// Short inputs with every kind of damage.
 fn damaged_bytes() -> [&'static [u8]; 17] {
     [
         b"",
@@ -48,7 +48,7 @@ fn word_of(alloc: Global, number: u32, bytes: &[u8]) -> Result<Vec<End>, AllocEr
     Ok(word)
 }
 
-// The pieces that were answered, by where they begin: how many bytes each has.
+// The lengths of the pieces that were returned, by the offsets where they begin.
 fn lengths_by_place(rt: &impl Abort, answers: &[Option<Item>]) -> [usize; MOST] {
     let mut lengths = [0; MOST];
     for (place, _, len) in answers.iter().copied().flatten() {
@@ -59,7 +59,7 @@ fn lengths_by_place(rt: &impl Abort, answers: &[Option<Item>]) -> [usize; MOST] 
     lengths
 }
 
-// From the front to the end, each piece begins where the one before it ends.
+// Returns true if each piece, from the front to the end, begins where the one before it ends.
 fn lie_end_to_end(lengths: &[usize], end: usize) -> bool {
     let mut place = 0usize;
     for (begin, len) in lengths.iter().copied().enumerate() {

@@ -15,7 +15,7 @@ placed xs a n t = take t xs ++ (take n (drop a xs) ++ drop (t + n) xs)
 as_placed : {X : Type 0} (xs : List X) (a n t : ℕ) → copy_within xs a (a + n) t ≡ placed xs a n t
 as_placed xs a n t = let count : a + n - a ≡ n = omega arith in rw (count, append_assoc) refl
 
--- b items and the n after them are b + n
+-- b items and the n after them are b + n items
 together : {X : Type 0} (xs : List X) (a b n : ℕ) → take (b + n) (drop a xs) ≡ take b (drop a xs) ++ take n (drop (a + b) xs)
 together xs a b n = take-add b n (drop a xs) ∙ ap (λ ys. take b (drop a xs) ++ take n ys) (drop-drop b a xs)
 
@@ -64,7 +64,7 @@ placed_down xs a n b t down room =
     rw (first_two (take t xs) (take n (drop a xs)) zs t n front mid, later, there, past_two (take t xs) (take n (drop a xs)) zs t n b front mid, drop-drop b (t + n) xs, together xs a n b, append_assoc, append_assoc, sum)
     refl
 
--- those of the second part to a place after, and then those of the first
+-- the second part moved to an offset after, and then the first part
 pub copied_up : {X : Type 0} (xs : List X) (a b n t : ℕ) → a ≤ t → t + (b + n) ≤ length xs
     → copy_within (copy_within xs (a + b) (a + b + n) (t + b)) a (a + b) t ≡ copy_within xs a (a + b + n) t
 copied_up xs a b n t up room =
@@ -72,7 +72,7 @@ copied_up xs a b n t up room =
     ap (λ ys. copy_within ys a (a + b) t) (as_placed xs (a + b) n (t + b))
     ∙ (as_placed (placed xs (a + b) n (t + b)) a b t ∙ (placed_up xs a b n t up room ∙ (sym (as_placed xs a (b + n) t) ∙ ap (λ e. copy_within xs a e t) whole)))
 
--- those of the first part to a place before, and then those of the second
+-- the first part moved to an offset before, and then the second part
 pub copied_down : {X : Type 0} (xs : List X) (a n b t : ℕ) → t ≤ a → a + (n + b) ≤ length xs
     → copy_within (copy_within xs a (a + n) t) (a + n) (a + n + b) (t + n) ≡ copy_within xs a (a + n + b) t
 copied_down xs a n b t down room =
@@ -80,7 +80,7 @@ copied_down xs a n b t down room =
     ap (λ ys. copy_within ys (a + n) (a + n + b) (t + n)) (as_placed xs a n t)
     ∙ (as_placed (placed xs a n t) (a + n) b (t + n) ∙ (placed_down xs a n b t down room ∙ (sym (as_placed xs a (n + b) t) ∙ ap (λ e. copy_within xs a e t) whole)))
 
--- the same where all of them go to the front
+-- both parts moved to the front
 pub copied_front : {X : Type 0} (xs : List X) (a n b : ℕ) → a + (n + b) ≤ length xs
     → copy_within (copy_within xs a (a + n) 0) (a + n) (a + n + b) n ≡ copy_within xs a (a + n + b) 0
 copied_front xs a n b room =
@@ -125,7 +125,7 @@ up_within ws ms zs g le =
     rw (none, all, empty, count, front, later, moved, sum, rest)
     (ap (λ us. ws ++ (us ++ zs)) (append-nil (stays ++ some)) ∙ (ap (λ us. ws ++ us) (append_assoc stays some zs) ∙ sym grouped))
 
--- A part of a list, from the place a on, in its place.
+-- A part of a list from the offset a on.
 abbrev middle : {X : Type 0} → List X → ℕ → ℕ → List X
 middle xs a k = take k (drop a xs)
 
@@ -143,7 +143,7 @@ moved_down_in_part xs f e t down ordered within =
     let moved = down_within (take t xs) (middle xs t (e - t)) (drop (e - t) (drop t xs)) (f - t) (omega arith) in
     rw mid (rw (in_place xs t (e - t), front, mid, start, end) at moved)
 
--- and those that are moved to its end
+-- the items of a part that are moved to its end
 pub moved_up_in_part : {X : Type 0} (xs : List X) (f e t : ℕ) → f ≤ t → f ≤ e → t + (e - f) ≤ length xs
     → put_mid f (t + (e - f) - f) xs (copy_within (middle xs f (t + (e - f) - f)) 0 (length (middle xs f (t + (e - f) - f)) - (t - f)) (t - f)) ≡ copy_within xs f e t
 moved_up_in_part xs f e t up ordered within =

@@ -1,4 +1,5 @@
--- What an edit changes of the pieces of a text: what is counted anew in a part of it, and which pieces stay.
+-- The pieces of a text after an edit: the counts of a part of it that is counted anew, and the pieces that
+-- stay.
 use Rattle.std.proofs.Common.{◌≡◌, ℕ, ◌+◌, ◌-◌, ◌<◌, ◌≤◌, ◌⊎◌, List, [], ◌++◌, length, take, drop, map, min, arith, refl, ap, ap₂, sym, ◌∙◌, subst, ⊎_elim, inl, inr, length-append, length-drop}
 use Rattle.std.proofs.lemmas.Bool.{cases_lt}
 use Rattle.std.proofs.lemmas.List.{drop-append-le, length-take-le, take-append-drop, take-append-le, take_at}
@@ -16,7 +17,7 @@ use Rattle.utf_base.proofs.Utf8Code.{utf8_is_code}
 use Rattle.encode_unicode.specs.Pieces.{pieces}
 use Rattle.encode_unicode.specs.Window.{Item}
 use Rattle.text_buffers.specs.declared.buffers.counts.Counts.{Counts}
-use Rattle.text_buffers.specs.declared.buffers.text_buffer.Edit.{Edit}
+use Rattle.text_buffers.specs.declared.buffers.edits.Edit.{Edit}
 use Rattle.text_buffers.specs.Changes.{IsRecount, IsChange}
 use Rattle.text_buffers.specs.ChunkEdits.{IsWindow, Surrounds}
 use Rattle.text_buffers.specs.Chunks.{EndOutside}
@@ -49,7 +50,7 @@ window_of_recount xs s e a b first last =
       within = last.between.within;
     }
 
--- What was counted in a window before an edit and after it is a recount.
+-- The counts of a window before an edit and after it are a recount.
 pub recount_is : (xs ys new : List ℕ) (s e a b u : ℕ) (gone come : Counts) → s ≤ e → e ≤ length xs → IsWindow xs s e a b → ys ≡ splice xs s e new → u ≡ length ys - (length xs - b)
     → IsLastBetween xs (s - 3) a → IsFirstBetween xs (min (length xs) (e + 3)) b → gone ≡ counts_of (slice_range xs a b) → come ≡ counts_of (slice_range ys a u) → IsRecount xs ys s e a gone come
 recount_is xs ys new s e a b u gone come lo hi w replaced until first last was is =
@@ -71,7 +72,7 @@ recount_is xs ys new s e a b u gone come lo hi w replaced until first last was i
       long = omega arith;
     }
 
--- A part of some bytes, between two places over which no code lies.
+-- A part of some bytes, between two offsets that no code covers.
 module _ (p m q : List ℕ) (seams : Seams p m q) where
   inside_of_part : (k : ℕ) → Inside utf8 m k → Inside utf8 (p ++ (m ++ q)) (length p + k)
   inside_of_part k i = inside_rest utf8 p (m ++ q) k (inside_front utf8 m q k i)
@@ -112,7 +113,7 @@ slice_in_whole p m q a b lo hi =
     let left : drop (length p + a) (p ++ (m ++ q)) ≡ drop a m ++ q = drop-append-add p (m ++ q) a ∙ drop-append-le a m q (omega arith) in
     ap (λ n. take n (drop (length p + a) (p ++ (m ++ q)))) span ∙ (ap (take (b - a)) left ∙ take-append-le (b - a) (drop a m) q (omega (arith, length-drop a m)))
 
--- What was counted anew in the part, was so in the whole.
+-- A recount of the part is a recount of the whole.
 recount_of_part : (p m n q : List ℕ) (s e a : ℕ) (gone come : Counts) → Seams p m q → (length p ≡ 0) ⊎ (3 ≤ s) → (length q ≡ 0) ⊎ (e + 3 ≤ length m) → s ≤ e → e ≤ length m
     → IsRecount m n s e a gone come → IsRecount (p ++ (m ++ q)) (p ++ (n ++ q)) (length p + s) (length p + e) (length p + a) gone come
 recount_of_part p m n q s e a gone come seams before following lo hi r =
@@ -133,7 +134,7 @@ recount_of_part p m n q s e a gone come seams before following lo hi r =
       long = omega arith;
     }
 
--- The same of the part between two places.
+-- A recount of the part between two offsets is a recount of the whole.
 module _ (xs new : List ℕ) (s e a b : ℕ) (lo : s ≤ e) (hi : e ≤ length xs) (w : IsWindow xs s e a b) where
   pub recount_of_window : (place : ℕ) (gone come : Counts) → a ≤ place
       → IsRecount (slice_range xs a b) (splice (slice_range xs a b) (s - a) (e - a) new) (s - a) (e - a) (place - a) gone come
@@ -162,7 +163,7 @@ module _ (xs new : List ℕ) (s e a b : ℕ) (lo : s ≤ e) (hi : e ≤ length x
       (omega arith) (omega arith) r in
       rw (← whole, ← edit.bytes, start, end, at) at part
 
--- and of the chunks that an edit reaches
+-- a recount of the chunks that an edit reaches is a recount of the whole
 pub recount_of_chunks : (chunks : List (List ℕ)) (x : Edit) (new now : List ℕ) (place : ℕ) (gone come : Counts) → EndOutside chunks → Surrounds chunks x → x.first.place ≤ place
     → now ≡ splice (concat (slice_range chunks x.first.number x.last.number)) (x.start - x.first.place) (x.end - x.first.place) new
     → IsRecount (concat (slice_range chunks x.first.number x.last.number)) now (x.start - x.first.place) (x.end - x.first.place) (place - x.first.place) gone come
@@ -172,7 +173,7 @@ recount_of_chunks chunks x new now place gone come outside around from is r =
     recount_of_window (concat chunks) new x.start x.end x.first.place x.last.place around.ordered around.within (window_around chunks [] x [] outside around) place gone come from
     (rw parts.part (rw is at r))
 
--- One number is that of a place.
+-- An offset has one number.
 split_unique : (items : List Item) (m k r : ℕ) → IsSplitAt items m k → IsSplitAt items m r → k ≡ r
 split_unique items m k r a b =
     let le : k ≤ r = splits_in_order items m m k r (omega arith) a b in
@@ -182,7 +183,7 @@ split_unique items m k r a b =
 split_at : (xs : List ℕ) (b : ℕ) → b ≤ length xs → (Inside utf8 xs b → ⊥) → IsSplitAt (pieces xs) b (length (pieces (take b xs)))
 split_at xs b le out = bytes_split xs b le out b (inl (omega arith)) (λ n lo hi. absurd (omega arith))
 
--- how many pieces are before the end of a part
+-- the number of pieces before the end of a part
 count_up_to : (xs : List ℕ) (a b : ℕ) → a ≤ b → b ≤ length xs → (Inside utf8 xs a → ⊥) → length (pieces (take b xs)) ≡ length (pieces (take a xs)) + length (pieces (slice_range xs a b))
 count_up_to xs a b lo hi out =
     let up_to = take_up_to xs a b lo hi in
@@ -196,7 +197,7 @@ none_at_end : (xs : List ℕ) (items : List Item) → IsForwardRunBetween xs (le
 none_at_end xs items run =
     run_between_unique utf8 fault_kind utf8_is_code xs (length xs) (length xs) items [] run (record { cut = cut_none utf8 xs (length xs); kinds = All-nil (HasKind fault_kind xs) })
 
--- The pieces of bytes of which a part was replaced, around the window of what was counted anew.
+-- The pieces of bytes of which a part was replaced, around the window that was counted anew.
 module _ (xs new ys : List ℕ) (s e a number : ℕ) (gone come : Counts) (lo : s ≤ e) (hi : e ≤ length xs) (replaced : ys ≡ splice xs s e new) (r : IsRecount xs ys s e a gone come)
     (split : IsSplitAt (pieces ys) a number) where
   w : IsWindow xs s e a (a + gone.bytes)
@@ -223,7 +224,7 @@ module _ (xs new ys : List ℕ) (s e a number : ℕ) (gone come : Counts) (lo : 
   within_new : a + come.bytes ≤ length ys
   within_new = omega (arith, r.long, within)
 
-  -- what came begins and ends between two pieces
+  -- the new bytes begin and end between two pieces
   outside_before : Inside utf8 ys a → ⊥
   outside_before i =
       let edit = window_edit xs new s e a (a + gone.bytes) lo hi w in

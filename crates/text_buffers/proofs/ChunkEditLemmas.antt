@@ -1,25 +1,24 @@
--- Chunks that an edit reaches, and those that come in their place.
+-- The chunks that an edit reaches, and the chunks that replace them.
 use Rattle.std.proofs.Common.{◌≡◌, ℕ, zero, suc, ◌+◌, ◌-◌, ◌^◌, ◌<◌, ◌≤◌, List, [], ◌∷◌, ◌++◌, length, get_or, take, drop, arith, refl, ap, ap₂, sym, ◌∙◌, ⊎_elim, Ok, Err, Result, length-append}
-use Rattle.std.proofs.lemmas.Bool.{cases_lt}
 use Rattle.std.proofs.lemmas.List.{append-nil, length-take-le, set-get_or, take-append-drop, take_at, drop_at}
+use Rattle.std.proofs.lemmas.List.Elements.{All-append, All-drop, All-set, All-take}
 use Rattle.std.proofs.lemmas.List.Edits.{split_between, length-between}
 use Rattle.std.proofs.lemmas.List.Folds.{concat-append}
 use Rattle.std.proofs.Math.Seq.{drop-append-add, drop-cons}
 use Rattle.std.proofs.Math.ListN.{set}
 use Rattle.std.specs.List.{concat, splice}
-use Rattle.std.specs.Prelude.{OnErr, slice_range}
+use Rattle.std.specs.Prelude.{All, OnErr, slice_range}
 use Rattle.utf_base.specs.Code.{utf8}
 use Rattle.text_buffers.specs.declared.buffers.counts.Counts.{Counts}
-use Rattle.text_buffers.specs.declared.buffers.text_buffer.Edit.{Edit}
+use Rattle.text_buffers.specs.declared.buffers.edits.Edit.{Edit}
 use Rattle.text_buffers.specs.ChunkEdits.{IsWindow, Surrounds}
 use Rattle.text_buffers.specs.Chunks.{EndOutside}
-use Rattle.text_buffers.specs.CountedChunks.{IsCounted}
+use Rattle.text_buffers.specs.CountedChunks.{AreChunks}
 use Rattle.text_buffers.specs.Counts.{counts_of, sum_of, exchange_of, AreAmong, IsSmall}
-use Rattle.text_runs.specs.PieceBoundaries.{IsLastBetween}
 use Rattle.text_buffers.proofs.ChunkLists.{take_up_to, EndOutside-one, EndOutside-append, EndOutside-front, EndOutside-rest, spot_within, concat-take-more, concat-take-le}
 use Rattle.text_buffers.proofs.CountLemmas.{Seams, counts_joined, counts_small}
 use Rattle.text_runs.proofs.JoinedPieces.{inside_front, inside_rest}
-use Rattle.text_buffers.proofs.WindowEdits.{window_edit}
+use Rattle.text_buffers.proofs.WindowEdits.{length-splice, window_edit}
 
 -- The bytes of the chunks from one to another.
 pub record ChunkParts (chunks : List (List ℕ)) (i j p q : ℕ) : Type 0 where
@@ -49,7 +48,7 @@ chunk_parts chunks i j p q lo hi first last =
     let parts = parts_of (concat chunks) (concat P) (concat M) (concat Q) p q bytes (sym first) end in
     record { whole = whole; front = parts.0; part = parts.1; rest = parts.2 }
 
--- What comes of the chunks where others take the place of those that an edit reaches.
+-- The chunks after others have replaced those that an edit reaches.
 pub record ChunksEdited (chunks made : List (List ℕ)) (x : Edit) (new : List ℕ) : Type 0 where
   pub bytes : concat (splice chunks x.first.number x.last.number made) ≡ splice (concat chunks) x.start x.end new
   pub ends : EndOutside (splice chunks x.first.number x.last.number made)
@@ -108,7 +107,7 @@ edit_ends {chunks} {x} around =
     ⊎_elim (λ (end : x.last.place ≡ length (concat chunks)). omega arith) (λ (near : x.end + 3 ≤ x.last.place). omega arith) around.following
 
 module _ (chunks : List (List ℕ)) (x : Edit) (outside : EndOutside chunks) (around : Surrounds chunks x) where
-  -- how long they are, and that no code lies over their ends
+  -- the length of the chunks that an edit reaches, and that no code covers their ends
   pub reached_len : length (concat (slice_range chunks x.first.number x.last.number)) ≡ x.last.place - x.first.place
   reached_len =
       let parts = parts_around chunks [] x [] outside around in
@@ -129,56 +128,38 @@ front_kept chunks made x around =
     let before : length (take x.first.number chunks) ≡ x.first.number = length-take-le x.first.number chunks around.first.within in
     take_at (take x.first.number chunks) (made ++ drop x.last.number chunks) x.first.number before
 
--- the window that is counted anew begins in them
-pub window_reached : (chunks : List (List ℕ)) (x : Edit) (p : ℕ) → EndOutside chunks → Surrounds chunks x → IsLastBetween (concat chunks) (x.start - 3) p → x.first.place ≤ p
-window_reached chunks x p outside around window =
-    ⊎_elim
-    (λ (lt : p < x.first.place).
-    let low : x.first.place ≤ x.start - 3 = ⊎_elim (λ (none : x.first.place ≡ 0). omega arith) (λ (near : x.first.place + 3 ≤ x.start). omega arith) around.before in
-    absurd (outside.outside x.first.number (rw around.first.begins at (window.last x.first.place lt low))))
-    (λ (ge : x.first.place ≤ p). ge)
-    (cases_lt p x.first.place)
+-- The properties of the chunks after the edit.
+pub edit_held : (chunks made : List (List ℕ)) (x : Edit) (new : List ℕ) → ChunksEdited chunks made x new → length (splice (concat chunks) x.start x.end new) < 2 ^ 64
+    → AreChunks (splice chunks x.first.number x.last.number made)
+edit_held chunks made x new edit small = record { ends = edit.ends; small = rw edit.bytes small }
 
--- how long what takes their place is, at most
-pub made_small : (chunks made : List (List ℕ)) (x : Edit) (new : List ℕ) → ChunksEdited chunks made x new → length (splice (concat chunks) x.start x.end new) < 2 ^ 64 → length (concat made) < 2 ^ 64
-made_small chunks made x new edit small =
-    let first = concat-append (take x.first.number chunks) (made ++ drop x.last.number chunks) in
-    let second = concat-append made (drop x.last.number chunks) in
-    omega (
-      arith,
-      ap length edit.bytes,
-      ap length first,
-      ap length second,
-      length-append (concat (take x.first.number chunks)) (concat (made ++ drop x.last.number chunks)),
-      length-append (concat made) (concat (drop x.last.number chunks)),
-    )
+pub edit_few : (chunks made : List (List ℕ)) (i j : ℕ) → All (λ x. length x ≤ 2048) chunks → All (λ x. length x ≤ 2048) made → All (λ x. length x ≤ 2048) (splice chunks i j made)
+edit_few chunks made i j of_chunks of_made =
+    let P : List ℕ → Type 0 = λ x. length x ≤ 2048 in
+    All-append P (take i chunks) (made ++ drop j chunks) (All-take P i chunks of_chunks) (All-append P made (drop j chunks) of_made (All-drop P j chunks of_chunks))
 
--- The counts afterwards.
-pub edit_counted : (chunks made : List (List ℕ)) (x : Edit) (new : List ℕ) (counts gone come now : Counts) → IsCounted chunks counts → ChunksEdited chunks made x new
+-- The counts after the edit.
+pub edit_counted : (chunks made : List (List ℕ)) (x : Edit) (new : List ℕ) (counts gone come now : Counts) → counts ≡ counts_of (concat chunks) → ChunksEdited chunks made x new
     → gone ≡ counts_of (concat (slice_range chunks x.first.number x.last.number)) → come ≡ counts_of (concat made) → now ≡ exchange_of counts gone come
-    → length (splice (concat chunks) x.start x.end new) < 2 ^ 64 → IsCounted (splice chunks x.first.number x.last.number made) now
-edit_counted chunks made x new counts gone come now counted edit was is exchanged small = record {
-  ends = edit.ends;
-  counted =
-      exchanged
-      ∙ (ap (λ k. exchange_of k gone come) counted.counted
-      ∙ (ap₂ (λ g h. exchange_of (counts_of (concat chunks)) g h) was is
-      ∙ (sym edit.counts ∙ ap counts_of (sym edit.bytes))));
-  small = rw edit.bytes small;
-}
+    → now ≡ counts_of (concat (splice chunks x.first.number x.last.number made))
+edit_counted chunks made x new counts gone come now counted edit was is exchanged =
+    exchanged
+    ∙ (ap (λ k. exchange_of k gone come) counted
+    ∙ (ap₂ (λ g h. exchange_of (counts_of (concat chunks)) g h) was is
+    ∙ (sym edit.counts ∙ ap counts_of (sym edit.bytes))))
 
-pub edit_counts_small : (chunks made : List (List ℕ)) (x : Edit) (new : List ℕ) (counts gone come : Counts) → IsCounted chunks counts → ChunksEdited chunks made x new
+pub edit_counts_small : (chunks made : List (List ℕ)) (x : Edit) (new : List ℕ) (counts gone come : Counts) → counts ≡ counts_of (concat chunks) → ChunksEdited chunks made x new
     → gone ≡ counts_of (concat (slice_range chunks x.first.number x.last.number)) → come ≡ counts_of (concat made)
     → length (splice (concat chunks) x.start x.end new) < 2 ^ 64 → IsSmall (exchange_of counts gone come)
 edit_counts_small chunks made x new counts gone come counted edit was is small =
-    let done = edit_counted chunks made x new counts gone come (exchange_of counts gone come) counted edit was is refl small in
-    rw done.counted (counts_small (concat (splice chunks x.first.number x.last.number made)) done.small)
+    rw (edit_counted chunks made x new counts gone come (exchange_of counts gone come) counted edit was is refl)
+    (counts_small (concat (splice chunks x.first.number x.last.number made)) (edit_held chunks made x new edit small).small)
 
-pub edit_part : (chunks made : List (List ℕ)) (x : Edit) (new : List ℕ) (counts gone : Counts) → IsCounted chunks counts → ChunksEdited chunks made x new
+pub edit_part : (chunks made : List (List ℕ)) (x : Edit) (new : List ℕ) (counts gone : Counts) → counts ≡ counts_of (concat chunks) → ChunksEdited chunks made x new
     → gone ≡ counts_of (concat (slice_range chunks x.first.number x.last.number)) → AreAmong gone counts
-edit_part chunks made x new counts gone counted edit was = rw (was, counted.counted) edit.part
+edit_part chunks made x new counts gone counted edit was = rw (was, counted) edit.part
 
--- One chunk that is changed where it stands.
+-- One chunk that is changed in place.
 set_spliced : {X : Type 0} (xs : List X) (i : ℕ) (y : X) → i < length xs → set xs i y ≡ take i xs ++ (y ∷ drop (i + 1) xs)
 set_spliced [] i y lt = absurd (omega arith)
 set_spliced (x ∷ xs) zero y lt = refl
@@ -214,7 +195,7 @@ one_edited chunks x new was now outside around one is becomes =
           (now_is ∙ (becomes ∙ ap (λ zs. splice zs (x.start - x.first.place) (x.end - x.first.place) new) (sym was_is)));
     }
 
--- how long the chunk was
+-- the length of the chunk before the edit
 pub one_len : (chunks : List (List ℕ)) (x : Edit) (was : List ℕ) → EndOutside chunks → Surrounds chunks x → x.last.number ≡ x.first.number + 1 → was ≡ get_or chunks x.first.number was
     → length was ≡ x.last.place - x.first.place
 one_len chunks x was outside around one is =
@@ -222,10 +203,22 @@ one_len chunks x was outside around one is =
     let reached : slice_range chunks x.first.number x.last.number ≡ was ∷ [] = ap (λ j. slice_range chunks x.first.number j) one ∙ one_reached chunks x.first.number was lt is in
     sym (ap length (ap concat reached ∙ append-nil was)) ∙ reached_len chunks x outside around
 
+-- the length of the chunk after the edit
+pub one_few : (chunks : List (List ℕ)) (x : Edit) (new was now : List ℕ) → EndOutside chunks → Surrounds chunks x → x.last.number ≡ x.first.number + 1 → x.last.place - x.first.place + length new ≤ 2048
+    → was ≡ get_or chunks x.first.number was → now ≡ splice was (x.start - x.first.place) (x.end - x.first.place) new → All (λ y. length y ≤ 2048) chunks
+    → All (λ y. length y ≤ 2048) (set chunks x.first.number now)
+one_few chunks x new was now outside around one room is becomes few =
+    let long = one_len chunks x was outside around one is in
+    let ordered = around.ordered in
+    let begins = edit_begins around in
+    let ends = edit_ends around in
+    let len = length-splice was new (x.start - x.first.place) (x.end - x.first.place) (omega arith) (omega arith) in
+    All-set (λ y. length y ≤ 2048) chunks x.first.number now (omega (arith, ap length becomes)) few
+
 pub set_read : (chunks : List (List ℕ)) (i : ℕ) (x y : List ℕ) → x ≡ get_or chunks i x → y ≡ x → set chunks i y ≡ chunks
 set_read chunks i x y is same = ap (λ z. set chunks i z) (same ∙ is) ∙ set-get_or chunks i x
 
--- The counts of one chunk more.
+-- The counts with one more chunk.
 pub chunk_counts : (chunks : List (List ℕ)) (k : ℕ) (x : List ℕ) → EndOutside chunks → k < length chunks → x ≡ get_or chunks k x
     → counts_of (concat (take (k + 1) chunks)) ≡ sum_of (counts_of (concat (take k chunks))) (counts_of x)
 chunk_counts chunks k x outside lt is =

@@ -1,4 +1,4 @@
--- The faults of a chunk are those of the text.
+-- The faults of a chunk are faults of the text.
 use Rattle.std.proofs.Common.{◌≡◌, ℕ, ◌+◌, ◌-◌, ◌<◌, ◌≤◌, List, ◌++◌, length, take, drop, arith, None, length-append}
 use Rattle.std.specs.List.{concat}
 use Rattle.utf_base.specs.Code.{utf8}

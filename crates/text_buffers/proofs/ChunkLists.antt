@@ -3,19 +3,16 @@ use Rattle.std.proofs.Common.{◌≡◌, ℕ, zero, suc, subst, ◌+◌, ◌-◌
 use Rattle.std.proofs.lemmas.Bool.{cases_lt}
 use Rattle.std.proofs.lemmas.List.{take_all, length-take-le, take_more, take-append-drop, take-append-le, append-nil, take_at}
 use Rattle.std.proofs.lemmas.List.Edits.{split_between, length-between}
+use Rattle.std.proofs.lemmas.List.Elements.{All-nil, All-push}
 use Rattle.std.proofs.lemmas.List.Folds.{concat-append}
 use Rattle.std.proofs.Math.Seq.{take-append-add}
 use Rattle.std.specs.List.{concat}
-use Rattle.std.specs.Prelude.{slice_range}
+use Rattle.std.specs.Prelude.{All, slice_range}
 use Rattle.utf_base.specs.Code.{utf8}
 use Rattle.utf_base.specs.Piece.{Inside}
 use Rattle.utf_base.proofs.Standing.{outside_front, outside_end}
 use Rattle.text_buffers.specs.Chunks.{EndOutside, IsSpot}
 use Rattle.text_runs.proofs.JoinedPieces.{inside_front, inside_rest, inside_before, inside_following}
-
--- how long the first k chunks are
-abbrev pub end_of_chunk : List (List ℕ) → ℕ → ℕ
-end_of_chunk chunks k = length (concat (take k chunks))
 
 take_past : (a b : List (List ℕ)) (k : ℕ) → length a ≤ k → take k (a ++ b) ≡ a ++ take (k - length a) b
 take_past a b k le =
@@ -35,7 +32,7 @@ take_up_to xs i j lo hi =
     ∙ (ap (λ ys. take (length p + length m) ys) (split_between xs i j lo) ∙ (take-append-add p (m ++ q) (length m) ∙ ap (λ ys. p ++ ys) (take_at m q (length m) refl)))
 
 module _ (a b : List (List ℕ)) where
-  -- the chunks of both, where no code lies over the seam
+  -- the chunks of both lists, if no code covers the seam
   pub EndOutside-append : EndOutside a → EndOutside b → (Inside utf8 (concat a ++ concat b) (length (concat a)) → ⊥) → EndOutside (a ++ b)
   EndOutside-append of_a of_b seam = record {
     outside = λ k i.
@@ -83,13 +80,13 @@ module _ (a b : List (List ℕ)) where
 pub EndOutside-take : (chunks : List (List ℕ)) (k : ℕ) → EndOutside chunks → EndOutside (take k chunks)
 EndOutside-take chunks k outside = EndOutside-front (take k chunks) (drop k chunks) (subst EndOutside (sym (take-append-drop k chunks)) outside)
 
--- How long chunks are: each front of them is no longer than all.
+-- The length of chunks: each front of them is no longer than all.
 pub concat-take-le : (chunks : List (List ℕ)) (k : ℕ) → length (concat (take k chunks)) ≤ length (concat chunks)
 concat-take-le chunks k =
     let parts : concat (take k chunks) ++ concat (drop k chunks) ≡ concat chunks = sym (concat-append (take k chunks) (drop k chunks)) ∙ ap concat (take-append-drop k chunks) in
     omega (arith, ap length parts, length-append (concat (take k chunks)) (concat (drop k chunks)))
 
--- one chunk more
+-- one more chunk
 pub concat-take-more : (chunks : List (List ℕ)) (k : ℕ) (x : List ℕ) → k < length chunks → x ≡ get_or chunks k x → concat (take (k + 1) chunks) ≡ concat (take k chunks) ++ x
 concat-take-more chunks k x lt is =
     let more : take (k + 1) chunks ≡ take k chunks ++ x ∷ [] = take_more chunks k x lt ∙ ap (λ y. take k chunks ++ y ∷ []) (sym is) in
@@ -107,10 +104,7 @@ next_spot chunks k p x spot lt is =
 pub spot_within : (chunks : List (List ℕ)) (k p : ℕ) → IsSpot chunks k p → p ≤ length (concat chunks)
 spot_within chunks k p spot = let begins = spot.begins in omega (arith, concat-take-le chunks k)
 
-pub first_spot : (chunks : List (List ℕ)) → IsSpot chunks 0 0
-first_spot chunks = record { within = omega arith; begins = refl }
-
--- a chunk alone
+-- a single chunk
 pub EndOutside-one : (x : List ℕ) → EndOutside (x ∷ [])
 EndOutside-one x = record { outside = ends }
   where
@@ -126,22 +120,23 @@ EndOutside-none = record { outside = λ k i. let within = i.stands.within in let
     outside_none zero i = outside_front utf8 [] i
     outside_none (suc k) i = outside_front utf8 [] i
 
--- One chunk more of some bytes.
+-- One more chunk of some bytes.
 pub record Divided (xs : List ℕ) (chunks : List (List ℕ)) (place : ℕ) : Type 0 where
   pub bytes : concat chunks ≡ take place xs
   pub ends : EndOutside chunks
+  pub few : All (λ x. length x ≤ 2048) chunks
   pub within : place ≤ length xs
   pub outside : Inside utf8 xs place → ⊥
 
 pub divided_none : (xs : List ℕ) → Divided xs [] 0
-divided_none xs = record { bytes = refl; ends = EndOutside-none; within = omega arith; outside = outside_front utf8 xs }
+divided_none xs = record { bytes = refl; ends = EndOutside-none; few = All-nil (λ x. length x ≤ 2048); within = omega arith; outside = outside_front utf8 xs }
 
 pub divided_all : (xs : List ℕ) (chunks : List (List ℕ)) (place : ℕ) → Divided xs chunks place → length xs ≤ place → concat chunks ≡ xs
 divided_all xs chunks place d le = d.bytes ∙ take_all place xs le
 
-pub divided_more : (bytes : List ℕ) (chunks : List (List ℕ)) (place end : ℕ) (x : List ℕ) → Divided bytes chunks place → place < end → end ≤ length bytes → (Inside utf8 bytes end → ⊥)
+pub divided_more : (bytes : List ℕ) (chunks : List (List ℕ)) (place end : ℕ) (x : List ℕ) → Divided bytes chunks place → place < end → end ≤ length bytes → end ≤ place + 2048 → (Inside utf8 bytes end → ⊥)
     → x ≡ slice_range bytes place end → Divided bytes (chunks ++ x ∷ []) end
-divided_more bytes chunks place end x d lt within outside is =
+divided_more bytes chunks place end x d lt within low outside is =
     let one : concat (x ∷ []) ≡ x = append-nil x in
     let up_to : take end bytes ≡ take place bytes ++ slice_range bytes place end = take_up_to bytes place end (omega arith) within in
     let joined : concat chunks ++ x ≡ take end bytes = ap (λ ys. ys ++ x) d.bytes ∙ (ap (λ ys. take place bytes ++ ys) is ∙ sym up_to) in
@@ -152,6 +147,7 @@ divided_more bytes chunks place end x d lt within outside is =
           EndOutside-append chunks (x ∷ []) d.ends (EndOutside-one x) (λ i.
           let front : Inside utf8 (take end bytes) place = rw (one, joined, long) at i in
           d.outside (subst (λ ys. Inside utf8 ys place) (take-append-drop end bytes) (inside_front utf8 (take end bytes) (drop end bytes) place front)));
+      few = All-push (λ y. length y ≤ 2048) chunks x d.few (omega (arith, ap length is, length-between bytes place end within));
       within = within;
       outside = outside;
     }

@@ -1,4 +1,5 @@
--- Rows of chunks that have no fault: a search for one goes over them at once. A row is one chunk of the same text in other chunks.
+-- Rows of chunks that have no fault: a search for one skips them as a whole. A row is one chunk in a coarser
+-- division of the text.
 use Rattle.std.proofs.Common.{◌≡◌, ℕ, ◌+◌, ◌-◌, ◌≤◌, List, [], ◌∷◌, ◌++◌, length, get_or, take, drop, arith, ap, sym, ◌∙◌, subst, length-append}
 use Rattle.std.proofs.lemmas.List.{append-nil, length-take-le, take_at}
 use Rattle.std.proofs.lemmas.List.Edits.{split_between}
@@ -79,7 +80,7 @@ module _ (chunks : List (List ℕ)) (k p : ℕ) where
     none_back_in_row i none clean =
         rw grouped_whole at (none_back_of_chunk grouped k p row row_at i (rw grouped_whole none) (none_counted_before row (i - p) clean))
 
--- what is known of a clean row
+-- the properties of a clean row
 pub record CleanRow (chunks : List (List ℕ)) (k bytes : ℕ) : Type 0 where
   pub fits : k + 256 ≤ length chunks
   pub long : bytes ≡ length (concat (slice_range chunks k (k + 256)))
@@ -96,7 +97,7 @@ clean_row_is chunks sums k bytes are c =
       clean = sym (ap (λ (n : Counts). n.faults) is) ∙ c.clean no_counts;
     })
 
--- the row before a chunk ends where that begins
+-- the row before a chunk ends where that chunk begins
 pub row_before : (chunks : List (List ℕ)) (k p bytes : ℕ) → IsSpot chunks (k + 256) p → bytes ≡ length (concat (slice_range chunks k (k + 256))) → (bytes ≤ p) × IsSpot chunks k (p - bytes)
 row_before chunks k p bytes spot is =
     let within = spot.within in
@@ -106,7 +107,7 @@ row_before chunks k p bytes spot is =
     let both = ap length (concat-append (take k chunks) (slice_range chunks k (k + 256))) in
     (omega arith, record { within = omega arith; begins = omega arith })
 
--- One step of a search over such a row, forward and back.
+-- One step of a search over such a row, forward and backward.
 module _ (chunks : List (List ℕ)) (sums : List Counts) (k p bytes : ℕ) (ends : EndOutside chunks) (are : AreSums chunks sums) (spot : IsSpot chunks k p) where
   pub clean_step : IsCleanRow sums k bytes → IsSpot chunks (k + 256) (p + bytes) × ((i : ℕ) → NoneBetween (concat chunks) i p → NoneBetween (concat chunks) i (p + bytes))
   clean_step clean =

@@ -1,4 +1,4 @@
--- What the parts of a text count is what the whole counts, where no code lies over a seam.
+-- The counts of the parts of a text add up to those of the whole, if no code covers a seam.
 use Rattle.std.proofs.Common.{◌≡◌, ℕ, ◌+◌, ◌-◌, ◌^◌, ◌<◌, ◌≤◌, List, ◌++◌, length, arith, ap, sym, ◌∙◌, length-append}
 use Rattle.std.proofs.lemmas.List.Sums.{sum_by-append, count_by-le-length}
 use Rattle.std.specs.Prelude.{count_by, cond, nat_eq}
@@ -11,7 +11,7 @@ use Rattle.text_runs.specs.ForwardRuns.{is_fault, faulty_item_count}
 use Rattle.text_runs.proofs.JoinedCounts.{count_joined, faults_joined, pieces_few}
 use Rattle.text_runs.proofs.JoinedPieces.{inside_rest}
 
--- Counts are equal where each of them is.
+-- Counts are equal if each of them is.
 abbrev make : ℕ → ℕ → ℕ → ℕ → Counts
 make b p f l = record { bytes = b; pieces = p; faults = f; line_feeds = l }
 
@@ -28,7 +28,7 @@ module _ (a b : List ℕ) (seam : Inside utf8 (a ++ b) (length a) → ⊥) where
       same_counts (counts_of (a ++ b)) (sum_of (counts_of a) (counts_of b)) (length-append a b) (count_joined a b seam) (faults_joined a b seam)
       (sum_by-append (λ x. cond (nat_eq x 0x0A) 1 0) a b)
 
--- Where the bytes can be counted, so can all else.
+-- If a `usize` can count the bytes, it can count all else.
 pub counts_small : (xs : List ℕ) → length xs < 2 ^ 64 → IsSmall (counts_of xs)
 counts_small xs small =
     let of_pieces : length (pieces xs) ≤ length xs = pieces_few xs in
@@ -49,7 +49,7 @@ counts_parted p m q seams =
 exchanged : (p m n q : ℕ) → p + (n + q) ≡ p + (m + q) - m + n
 exchanged p m n q = omega arith
 
--- one part comes in place of another
+-- one part replaces another
 pub counts_exchanged : (p m n q : List ℕ) → Seams p m q → Seams p n q → counts_of (p ++ (n ++ q)) ≡ exchange_of (counts_of (p ++ (m ++ q))) (counts_of m) (counts_of n)
 counts_exchanged p m n q was is =
     let P = counts_of p in

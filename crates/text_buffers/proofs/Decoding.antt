@@ -1,4 +1,4 @@
--- The pieces from one place to another, decoded one after another.
+-- The pieces from one offset to another, decoded one after another.
 use Rattle.std.proofs.Common.{◌≡◌, ℕ, ◌+◌, ◌-◌, ◌<◌, ◌≤◌, List, [], ◌∷◌, ◌++◌, length, map, arith}
 use Rattle.std.proofs.lemmas.List.{length_push}
 use Rattle.std.proofs.lemmas.List.Elements.{All-nil, All-push, All-map}
@@ -15,7 +15,7 @@ use Rattle.text_runs.specs.Items.{piece_of}
 use Rattle.text_runs.specs.ForwardRuns.{IsForwardRunBetween}
 use Rattle.text_runs.proofs.PieceRuns.{IsRunTo, IsRunTo-none, IsRunTo-push, at_front}
 
--- The items are the pieces from `place` as far as `next`, and each begins before `until`.
+-- The items are the pieces from `place` up to `next`, and each begins before `until`.
 pub record IsDecodedTo (xs : List ℕ) (place until next : ℕ) (items : List Item) : Type 0 where
   pub run : IsRunTo utf8 fault_kind xs place items next
   pub before : All (λ x. x.0 < until) items
@@ -28,12 +28,12 @@ IsDecodedTo-none xs place until within outside = record {
   few = omega arith;
 }
 
--- the piece at the next place has an element
+-- the piece at the next offset has an element
 pub item_has_some : {xs : List ℕ} {place until next : ℕ} {items : List Item} (x : Item) → IsDecodedTo xs place until next items → next < length xs
     → IsFrontPiece (slice_range xs next (length xs)) x.1 x.2 → 0 < x.2
 item_has_some {xs} {next} x f lt piece = (at_front utf8 fault_kind utf8_is_code no_code_where_fault xs next x.2 x.1 lt f.run.outside piece).some
 
--- one piece more
+-- one more piece
 pub IsDecodedTo-push : {xs : List ℕ} {place until next after : ℕ} (items : List Item) (x : Item) → IsDecodedTo xs place until next items → next < until → next < length xs
     → x.0 ≡ next → IsFrontPiece (slice_range xs next (length xs)) x.1 x.2 → after ≡ next + x.2 → IsDecodedTo xs place until after (items ++ x ∷ [])
 IsDecodedTo-push {xs} {place} {until} {next} items x f lt within at piece step =

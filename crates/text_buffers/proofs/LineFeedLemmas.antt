@@ -1,5 +1,5 @@
 -- The line feeds of a text, counted by chunks.
-use Rattle.std.proofs.Common.{◌≡◌, ℕ, zero, suc, ◌+◌, ◌-◌, ◌<◌, ◌≤◌, ◌⊎◌, List, [], ◌∷◌, ◌++◌, length, get_or, take, drop, arith, refl, ap, sym, ◌∙◌, ⊎_elim, inl, inr, min, length-append}
+use Rattle.std.proofs.Common.{◌≡◌, ℕ, zero, suc, ◌+◌, ◌-◌, ◌<◌, ◌≤◌, ◌⊎◌, List, ◌++◌, length, get_or, take, drop, arith, refl, ap, sym, ◌∙◌, ⊎_elim, inl, inr, min, length-append}
 use Rattle.std.proofs.lemmas.Bool.{cases_lt}
 use Rattle.std.proofs.lemmas.List.{get_or_append_left, get_or-append-add, take_all, take-append-drop}
 use Rattle.std.proofs.lemmas.List.Sums.{sum_by-append}
@@ -12,11 +12,11 @@ use Rattle.text_buffers.proofs.NumberLemmas.{ChunkAt, chunk_whole, chunk_front_l
 pub feeds_append : (a b : List ℕ) → line_feed_count (a ++ b) ≡ line_feed_count a + line_feed_count b
 feeds_append a b = sum_by-append (λ x. cond (nat_eq x 10) 1 0) a b
 
--- a front has no more of them than the whole
+-- a front has no more line feeds than the whole
 pub feeds_of_front : (xs : List ℕ) (n : ℕ) → line_feed_count (take n xs) ≤ line_feed_count xs
 feeds_of_front xs n = omega (arith, ap line_feed_count (take-append-drop n xs), feeds_append (take n xs) (drop n xs))
 
--- where there are some, there is a byte
+-- if there are line feeds, there is a byte
 pub some_feeds : (xs : List ℕ) (line p : ℕ) → line_feed_count (take p xs) ≡ line + 1 → 0 < p
 some_feeds xs line zero e = let none : line_feed_count (take 0 xs) ≡ 0 = refl in absurd (omega arith)
 some_feeds xs line (suc p) e = omega arith
@@ -25,7 +25,7 @@ module _ (chunks : List (List ℕ)) (k p : ℕ) (x : List ℕ) (at : ChunkAt chu
   feeds_to_chunk : (n : ℕ) → n ≤ length x → line_feed_count (take (p + n) (concat chunks)) ≡ line_feed_count (concat (take k chunks)) + line_feed_count (take n x)
   feeds_to_chunk n le = ap line_feed_count (take_to_chunk chunks k p x at n le) ∙ feeds_append (concat (take k chunks)) (take n x)
 
-  -- those before a place are those before its chunk, and those of the chunk
+  -- the line feeds before an offset are those before its chunk, and those of the chunk
   pub feeds_found : (m : ℕ) → p ≤ m → (k + 1 < length chunks → m < length (concat (take (k + 1) chunks)))
       → line_feed_count (take m (concat chunks)) ≡ line_feed_count (concat (take k chunks)) + line_feed_count (take (min (length x) (m - p)) x)
   feeds_found m lo has =
@@ -70,12 +70,3 @@ module _ (chunks : List (List ℕ)) (k p : ℕ) (x : List ℕ) (at : ChunkAt chu
         number = omega (arith, ap (λ i. line_feed_count (take i (concat chunks))) there, feeds_to_chunk n within, start.number);
         begins = λ lt. byte ∙ start.begins above;
       }
-
--- where there is no chunk, there is none
-pub no_feeds : (chunks : List (List ℕ)) (m : ℕ) → length chunks ≡ 0 → line_feed_count (take m (concat chunks)) ≡ 0
-no_feeds [] zero none = refl
-no_feeds [] (suc m) none = refl
-no_feeds (x ∷ chunks) m none = absurd (omega arith)
-
-pub first_line : (xs : List ℕ) → IsLineStart xs 0 0
-first_line xs = record { within = omega arith; number = refl; begins = λ lt. absurd (omega arith) }

@@ -1,4 +1,4 @@
--- What stands at a number or a place of a text, looked up in one of its chunks.
+-- Pieces and lines of a text by number or offset, looked up in one of its chunks.
 use Rattle.std.proofs.Common.{◌≡◌, ℕ, ◌+◌, ◌-◌, ◌<◌, ◌≤◌, ◌⊎◌, List, [], ◌∷◌, ◌++◌, length, get_or, take, drop, map, arith, refl, ap, sym, ◌∙◌, subst, ⊎_elim, inl, inr, Ok, Err, Result, Some, None, Option, length-append, length-drop}
 use Rattle.std.proofs.lemmas.Bool.{cases_lt}
 use Rattle.std.proofs.lemmas.List.{get_or-map, get_or_append_left, get_or-append_right, length-map, take-append-drop, take_all, take-take, take_rest, take_more, take_more_set, get_or-drop}
@@ -27,9 +27,9 @@ use Rattle.text_buffers.proofs.NumberLemmas.{ChunkAt, chunk_whole, chunk_front_l
 use Rattle.text_runs.proofs.PieceRuns.{AtFront, at_front}
 use Rattle.text_runs.proofs.RunLaws.{same_item}
 
--- The pieces of the whole that begin in a chunk are those of the chunk.
+-- The pieces of the whole that begin in a chunk are the pieces of the chunk.
 module _ (chunks : List (List ℕ)) (k p : ℕ) (x : List ℕ) (at : ChunkAt chunks k p x) where
-  -- how many pieces there are, in front of the chunk and up to its end
+  -- the number of pieces before the chunk and up to its end
   pub count_with_chunk : length (pieces (concat (take k chunks))) + length (pieces x) ≤ length (pieces (concat chunks))
   count_with_chunk =
       let P = concat (take k chunks) in
@@ -38,7 +38,7 @@ module _ (chunks : List (List ℕ)) (k p : ℕ) (x : List ℕ) (at : ChunkAt chu
       let whole = count_joined (P ++ x) Q (chunk_end_outside chunks k p x at) in
       omega (arith, ap (λ ys. length (pieces ys)) (chunk_whole chunks k p x at))
 
-  -- the n-th piece of the chunk has so many others of the whole before it
+  -- the n-th piece of the chunk has as many pieces of the whole before it as precede the chunk, and n more
   pub place_in_chunk : (n : ℕ) (d : Item) → n < length (pieces x) → (get_or (pieces (concat chunks)) (length (pieces (concat (take k chunks))) + n) d).0 ≡ p + (get_or (pieces x) n d).0
   place_in_chunk n d lt =
       let P = concat (take k chunks) in
@@ -71,7 +71,7 @@ module _ (chunks : List (List ℕ)) (k p : ℕ) (x : List ℕ) (at : ChunkAt chu
       = ap (λ (y : Piece). y.start) (of_whole ∙ (here ∙ (there ∙ (of_chunk ∙ ap (moved 0 (length P)) of_item)))) in
       omega (arith, chunk_front_len chunks k p x at)
 
-  -- so a place found in the chunk is that of the number
+  -- an offset found in the chunk has the number that is sought
   pub number_has_place : (number n place : ℕ) (y : Item) → n < length (pieces x) → number ≡ length (pieces (concat (take k chunks))) + n → slice_get (pieces x) n ≡ Some y → place ≡ p + y.0
       → Some place ≡ option_map (λ (z : Item). z.0) (slice_get (pieces (concat chunks)) number)
   number_has_place number n place y lt is e there =
@@ -90,7 +90,7 @@ module _ (chunks : List (List ℕ)) (k p : ℕ) (x : List ℕ) (at : ChunkAt chu
           let at_y : place ≡ y.0 = cc in
           number_has_place number n (p + place) y (slice_get_within (pieces x) n y e) is e (omega arith)
 
-  -- the last boundary of the chunk that is not after a place begins a piece that has this place
+  -- the last boundary of the chunk that is not after an offset is where the piece begins that has this offset
   pub boundary_in_chunk : (n q : ℕ) → IsLastBetween x n q → n < length x → (p + q < length (concat chunks)) × (Inside utf8 (concat chunks) (p + q) → ⊥)
   boundary_in_chunk n q last lt =
       let before = last.before in
@@ -109,7 +109,7 @@ module _ (chunks : List (List ℕ)) (k p : ℕ) (x : List ℕ) (at : ChunkAt chu
             (cases_lt (p + n) (y.0 + y.2)),
       )
 
--- The first bytes of a list decide which piece begins it, where these are four, or all.
+-- Four bytes at the front of a list, or all if there are fewer, decide the piece that begins it.
 front_on : (w : List ℕ) (n : ℕ) → take 4 (take n w) ≡ take 4 w → fault_kind (take n w) ≡ fault_kind w
 front_on w n e = sym (four_bytes_decide (take n w)) ∙ (ap fault_kind e ∙ four_bytes_decide w)
 
@@ -121,7 +121,7 @@ pub front_decides : (w : List ℕ) (n : ℕ) (r : Result ℕ Utf8ErrorKind) (len
 front_decides w n (Ok s) len far h = (subst (λ ys. Stands utf8 ys 0 s) (take-append-drop n w) (stands_on utf8 (take n w) (drop n w) s h.0), h.1)
 front_decides w n (Err kind) len far h = (sym (front_on w n (first_four w n far)) ∙ h.0, h.1)
 
--- bytes that are gathered one after another
+-- bytes that are collected one after another
 pub front_more : (xs bytes : List ℕ) (at len byte : ℕ) → len < length bytes → take len bytes ≡ take len (drop at xs) → Some byte ≡ slice_get xs (at + len)
     → (take (len + 1) (slice_set bytes len byte) ≡ take (len + 1) (drop at xs)) × (at + (len + 1) ≤ length xs)
 front_more xs bytes at len byte lt same read =
@@ -134,11 +134,11 @@ front_more xs bytes at len byte lt same read =
       omega arith,
     )
 
--- A piece at the front of what is left of the bytes from a boundary on is one of the bytes.
+-- A piece at the front of the bytes from a boundary on is a piece of the whole.
 pub front_is : (xs : List ℕ) (i : ℕ) (y : Item) → i < length xs → (Inside utf8 xs i → ⊥) → y.0 ≡ i → IsFrontPiece (drop i xs) y.1 y.2 → AtFront utf8 fault_kind xs i y.2 y.1
 front_is xs i y lt out place h = at_front utf8 fault_kind utf8_is_code no_code_where_fault xs i y.2 y.1 lt out (rw (take_rest xs i) h)
 
--- and there is one piece alone at each place
+-- there is only one piece at each offset
 module _ (xs : List ℕ) (i : ℕ) (y : Item) (place : y.0 ≡ i) (front : AtFront utf8 fault_kind xs i y.2 y.1) where
   is_piece : IsPiece utf8 xs (piece_of y)
   is_piece = rw place front.piece
@@ -170,7 +170,7 @@ module _ (xs : List ℕ) (i : ℕ) (y : Item) (place : y.0 ≡ i) (front : AtFro
       get_or_again : (ys : List Item) (n : ℕ) (d : Item) → n < length ys → get_or ys n (get_or ys n d) ≡ get_or ys n d
       get_or_again ys n d lt = get_or_from_slice_get ys n (get_or ys n d) (get_or ys n d) (slice_get-get_or ys n d lt)
 
--- the piece at the place that the number has is that of the number
+-- the piece at the offset that the number has is the piece with that number
 pub number_has_piece : (xs : List ℕ) (number i : ℕ) (y : Item) → Some i ≡ option_map (λ (z : Item). z.0) (slice_get (pieces xs) number) → y.0 ≡ i
     → IsFrontPiece (drop i xs) y.1 y.2 → Some y ≡ slice_get (pieces xs) number
 number_has_piece xs number i y told place h = by_item (slice_get (pieces xs) number) refl told

@@ -1,6 +1,5 @@
--- What is numbered in a text, counted by chunks.
-use Rattle.std.proofs.Common.{◌≡◌, ℕ, ◌+◌, ◌<◌, ◌≤◌, List, [], length, get_or, take, arith, refl, ap, ◌∙◌}
-use Rattle.std.proofs.lemmas.List.{take_all}
+-- Numbered elements of a text, counted by chunks.
+use Rattle.std.proofs.Common.{◌≡◌, ℕ, ◌+◌, ◌<◌, List, [], length, get_or, take, arith, refl, ap, ◌∙◌}
 use Rattle.std.specs.List.{concat}
 use Rattle.text_buffers.specs.declared.buffers.counts.Counts.{Counts}
 use Rattle.text_buffers.specs.declared.buffers.counts.Measure.{Measure}
@@ -16,17 +15,13 @@ measure_of_sum Bytes a b = refl
 measure_of_sum Pieces a b = refl
 measure_of_sum LineFeeds a b = refl
 
--- of nothing
+-- the count of no bytes
 pub measure_none : (m : Measure) → 0 ≡ measure_of m (counts_of [])
 measure_none Bytes = refl
 measure_none Pieces = let few = pieces_few [] in omega arith
 measure_none LineFeeds = refl
 
--- one chunk more
+-- the count with one more chunk
 pub measure_more : (chunks : List (List ℕ)) (m : Measure) (k : ℕ) (x : List ℕ) → EndOutside chunks → k < length chunks → x ≡ get_or chunks k x
     → measure_of m (counts_of (concat (take (k + 1) chunks))) ≡ measure_of m (counts_of (concat (take k chunks))) + measure_of m (counts_of x)
 measure_more chunks m k x ends lt is = ap (measure_of m) (chunk_counts chunks k x ends lt is) ∙ measure_of_sum m (counts_of (concat (take k chunks))) (counts_of x)
-
--- all chunks
-pub measure_all : (chunks : List (List ℕ)) (m : Measure) (k : ℕ) → length chunks ≤ k → measure_of m (counts_of (concat (take k chunks))) ≡ measure_of m (counts_of (concat chunks))
-measure_all chunks m k le = ap (λ cs. measure_of m (counts_of (concat cs))) (take_all k chunks le)

@@ -1,4 +1,4 @@
--- The first fault of a text from a place on, in one of its chunks.
+-- The first fault of a text from an offset on, in one of its chunks.
 use Rattle.std.proofs.Common.{◌≡◌, ℕ, ◌+◌, ◌-◌, ◌<◌, ◌≤◌, List, ◌++◌, length, take, drop, arith, refl, subst, ⊎_elim, min, None, length-drop}
 use Rattle.std.proofs.lemmas.Bool.{cases_lt}
 use Rattle.std.proofs.lemmas.List.{length-take-le, take-append-drop}
@@ -33,7 +33,7 @@ module _ (xs : List ℕ) (i from : ℕ) (first : IsFirstBetween xs (min (length 
   seam : Inside utf8 (take from xs ++ drop from xs) (length (take from xs)) → ⊥
   seam j = first.between.outside (subst (λ ys. Inside utf8 ys from) whole_is (rw of_front at j))
 
-  -- a fault that is not before the place i is not before the boundary
+  -- a fault that is not before the offset i is not before the boundary
   fault_following : (p : ℕ) → i ≤ p → IsFaultAt xs p → from ≤ p
   fault_following p lo h =
       let lt = h.0 in
@@ -76,12 +76,9 @@ module _ (xs : List ℕ) (i from : ℕ) (first : IsFirstBetween xs (min (length 
       absurd (omega arith))
       (cases_lt z.start i)
 
--- No fault of the bytes lies from the place i on and before the place p.
+-- No fault of the bytes lies from the offset i on and before the offset p.
 abbrev pub NoneBetween : List ℕ → ℕ → ℕ → Type 0
 NoneBetween xs i p = (z : Piece) → IsPiece utf8 xs z → z.char ≡ None → i ≤ z.start → p ≤ z.start
-
-pub none_yet : (xs : List ℕ) (i p : ℕ) → p ≤ i → NoneBetween xs i p
-none_yet xs i p le z h e lo = omega arith
 
 pub none_at_all : (xs : List ℕ) (i p : ℕ) → NoneBetween xs i p → length xs ≤ p → HasNoFaultFrom xs i
 none_at_all xs i p none le z h e =
@@ -89,7 +86,7 @@ none_at_all xs i p none le z h e =
     ⊎_elim (λ (before : z.start < i). before) (λ (lo : i ≤ z.start). let far = none z h e lo in absurd (omega arith)) (cases_lt z.start i)
 
 module _ (chunks : List (List ℕ)) (k p : ℕ) (x : List ℕ) (at : ChunkAt chunks k p x) where
-  -- the first one of the chunk from the place i on is that of the whole, where there is none before the chunk
+  -- the first fault of the chunk from the offset i on is that of the whole, if there is none before the chunk
   pub next_of_chunk : (i q : ℕ) → NoneBetween (concat chunks) i p → IsNextFault x (i - p) q → IsNextFault (concat chunks) i (p + q)
   next_of_chunk i q none next =
       let after = next.after in
@@ -107,7 +104,7 @@ module _ (chunks : List (List ℕ)) (k p : ℕ) (x : List ℕ) (at : ChunkAt chu
             (cases_lt z.start (p + length x));
       }
 
-  -- and where the chunk has none, the next one is searched
+  -- if the chunk has none, the next one is searched
   pub none_of_chunk : (i : ℕ) → NoneBetween (concat chunks) i p → HasNoFaultFrom x (i - p) → NoneBetween (concat chunks) i (p + length x)
   none_of_chunk i none here z h e lo =
       let from = none z h e lo in

@@ -1,5 +1,5 @@
--- How many pieces begin before a place, counted by chunks.
-use Rattle.std.proofs.Common.{◌≡◌, ℕ, ◌+◌, ◌-◌, ◌<◌, ◌≤◌, ◌⊎◌, List, [], ◌∷◌, ◌++◌, length, get_or, take, drop, arith, refl, ap, sym, ◌∙◌, subst, ⊎_elim, inl, inr, min, append_assoc, length-drop, length-append}
+-- The number of pieces that begin before an offset, counted by chunks.
+use Rattle.std.proofs.Common.{◌≡◌, ℕ, ◌+◌, ◌-◌, ◌<◌, ◌≤◌, ◌⊎◌, List, [], ◌++◌, length, get_or, take, drop, arith, refl, ap, sym, ◌∙◌, subst, ⊎_elim, inl, inr, min, append_assoc, length-drop, length-append}
 use Rattle.std.proofs.lemmas.Bool.{cases_lt}
 use Rattle.std.proofs.lemmas.List.{take-append-drop, take_all, take_at, drop_all, drop-append-le, take-append-le}
 use Rattle.std.proofs.lemmas.List.Folds.{concat-append}
@@ -42,7 +42,7 @@ module _ (chunks : List (List ℕ)) (k p : ℕ) (x : List ℕ) (at : ChunkAt chu
   chunk_front_outside i =
       at.ends.outside k (rw chunk_whole at (inside_front utf8 (concat (take k chunks) ++ x) (concat (drop (k + 1) chunks)) (length (concat (take k chunks))) i))
 
-  -- a code lies over a place of the chunk where one lies over it in the whole
+  -- a code covers an offset of the chunk if one covers it in the whole
   pub inside_chunk : (n : ℕ) → n ≤ length x → Inside utf8 (concat chunks) (p + n) → Inside utf8 x n
   inside_chunk n le i =
       let j = inside_before utf8 (concat (take k chunks) ++ x) (concat (drop (k + 1) chunks)) chunk_end_outside (p + n) (omega (arith, chunk_end_len)) (rw chunk_whole i) in
@@ -62,7 +62,8 @@ module _ (chunks : List (List ℕ)) (k p : ℕ) (x : List ℕ) (at : ChunkAt chu
       = ap (λ m. take (m + n) (concat (take k chunks) ++ x)) (sym chunk_front_len) ∙ take-append-add (concat (take k chunks)) x n in
       ap (take (p + n)) (sym chunk_whole) ∙ (take-append-le (p + n) (concat (take k chunks) ++ x) (concat (drop (k + 1) chunks)) (omega (arith, chunk_end_len)) ∙ front)
 
-  -- how many pieces begin before a place m of the chunk; in the last chunk also where m lies after it
+  -- the number of pieces that begin before an offset m of the chunk, or, in the last chunk, also of an offset
+  -- after it
   number_in_chunk : (m at n : ℕ) → p ≤ m → at ≡ min (m - p) (length x) → (m < p + length x) ⊎ (p + length x ≡ length (concat chunks)) → IsFirstBetween x at n
       → IsSplitAt (pieces (concat chunks)) m (length (pieces (concat (take k chunks))) + length (pieces (take n x)))
   number_in_chunk m at n lo near last first =
@@ -100,7 +101,7 @@ module _ (chunks : List (List ℕ)) (k p : ℕ) (x : List ℕ) (at : ChunkAt chu
       → IsSplitAt (pieces (concat chunks)) m (length (pieces (concat (take k chunks))) + length (pieces (take n x)))
   number_found m n lo has first = number_in_chunk m (min (length x) (m - p)) n lo (omega arith) (chunk_last m has) first
 
-  -- what is left of the chunk begins what is left of the whole
+  -- the rest of the chunk begins the rest of the whole
   pub rest_of_chunk : (m : ℕ) → p ≤ m → drop (min (length x) (m - p)) x ≡ take (length (drop (min (length x) (m - p)) x)) (drop m (concat chunks))
   rest_of_chunk m lo =
       let P = concat (take k chunks) in
@@ -123,15 +124,10 @@ module _ (chunks : List (List ℕ)) (k p : ℕ) (x : List ℕ) (at : ChunkAt chu
       let len = length-drop (min (length x) (m - p)) x in
       ⊎_elim (λ (here : m < p + length x). omega arith) (λ (end : p + length x ≡ length (concat chunks)). omega arith) (chunk_last m has)
 
--- where there is no chunk, there is nothing
--- where no byte is at the place, all pieces begin before it
+-- if no byte is at the offset, all pieces begin before it
 pub all_found : (chunks : List (List ℕ)) (m : ℕ) → EndOutside chunks → length (concat chunks) ≤ m → IsSplitAt (pieces (concat chunks)) m (length (pieces (concat chunks)))
 all_found chunks m ends end =
     let xs = concat chunks in
     let all : take (length chunks) chunks ≡ chunks = take_all (length chunks) chunks (omega arith) in
     let out : Inside utf8 xs (length xs) → ⊥ = λ i. ends.outside (length chunks) (rw all i) in
     rw (take_all (length xs) xs (omega arith)) at (bytes_split xs (length xs) (omega arith) out m (inr refl) (λ n lo hi. absurd (omega arith)))
-
-pub nothing_left : (chunks : List (List ℕ)) → length chunks ≡ 0 → length (concat chunks) ≡ 0
-nothing_left [] none = refl
-nothing_left (x ∷ chunks) none = absurd (omega arith)

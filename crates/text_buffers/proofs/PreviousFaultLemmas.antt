@@ -1,4 +1,4 @@
--- The last fault of a text before a place, in one of its chunks.
+-- The last fault of a text before an offset, in one of its chunks.
 use Rattle.std.proofs.Common.{◌≡◌, ℕ, ◌+◌, ◌-◌, ◌<◌, ◌≤◌, List, ◌++◌, length, take, drop, arith, refl, sym, subst, ap, ◌∙◌, ⊎_elim, min, get_or, None, Some, Option, length-append}
 use Rattle.std.proofs.lemmas.Bool.{cases_lt}
 use Rattle.std.proofs.lemmas.List.{length-take-le, take-append-drop}
@@ -8,7 +8,7 @@ use Rattle.utf_base.specs.Code.{utf8}
 use Rattle.utf_base.specs.Ends.{EndsWith, NoCodeEnds}
 use Rattle.utf_base.specs.Piece.{Inside, Piece, IsPiece}
 use Rattle.utf_base.proofs.Cuts.{back_char, back_fault}
-use Rattle.utf_base.proofs.Standing.{outside_front, outside_end}
+use Rattle.utf_base.proofs.Standing.{outside_front}
 use Rattle.utf_base.proofs.Utf8Code.{utf8_is_code}
 use Rattle.encode_unicode.specs.Pieces.{pieces}
 use Rattle.text_runs.specs.ForwardRuns.{faulty_item_count}
@@ -25,18 +25,15 @@ use Rattle.text_buffers.proofs.NumberLemmas.{ChunkAt}
 pub none_counted_before : (xs : List ℕ) (i : ℕ) → faulty_item_count (pieces xs) ≡ 0 → HasNoFaultBefore xs i
 none_counted_before xs i none z h e = absurd (no_faults xs none z.start (only_place xs z h e))
 
--- No fault of the bytes is from the place p on and before i.
+-- No fault of the bytes is from the offset p on and before i.
 abbrev pub NoneBack : List ℕ → ℕ → ℕ → Type 0
 NoneBack xs i p = (z : Piece) → IsPiece utf8 xs z → z.char ≡ None → z.start < i → z.start < p
 
--- From the end of some bytes back to a boundary, from which on there is none.
+-- A backward search from the end of some bytes to a boundary, from which on there is no fault.
 pub record SearchedBack (xs : List ℕ) (end : ℕ) : Type 0 where
   pub within : end ≤ length xs
   pub outside : Inside utf8 xs end → ⊥
   pub none : NoneBack xs (length xs) end
-
-pub searched_none : (xs : List ℕ) → SearchedBack xs (length xs)
-searched_none xs = record { within = omega arith; outside = outside_end utf8 xs; none = λ z h e lt. lt }
 
 pub searched_more : (xs : List ℕ) (end s n : ℕ) → SearchedBack xs end → EndsWith utf8 (slice_range xs 0 end) s n → SearchedBack xs (end - n) × (n ≤ end) × (0 < n)
 searched_more xs end s n f told =
@@ -69,12 +66,6 @@ searched_fault xs end f some none =
       last = λ z h e lt. let far = f.none z h e lt in omega arith;
     }
 
-pub searched_all : (xs : List ℕ) (end : ℕ) → SearchedBack xs end → end ≡ 0 → HasNoFaultBefore xs (length xs)
-searched_all xs end f all z h e =
-    let within = (only_place xs z h e).0 in
-    let far = f.none z h e within in
-    absurd (omega arith)
-
 -- In one list, up to a boundary.
 module _ (xs : List ℕ) (i end : ℕ) (first : IsFirstBetween xs (min (length xs) i) end) where
   whole_is : take end xs ++ drop end xs ≡ xs
@@ -86,7 +77,7 @@ module _ (xs : List ℕ) (i end : ℕ) (first : IsFirstBetween xs (min (length x
   seam : Inside utf8 (take end xs ++ drop end xs) (length (take end xs)) → ⊥
   seam j = first.between.outside (subst (λ ys. Inside utf8 ys end) whole_is (rw of_front at j))
 
-  -- a fault before the boundary is before the place i
+  -- a fault before the boundary is before the offset i
   fault_before_place : (p : ℕ) → p < end → IsFaultAt xs p → p < i
   fault_before_place p lt h =
       let within = h.0 in
@@ -144,18 +135,12 @@ spot_before chunks k p x spot some is =
     let len = ap length more ∙ length-append (concat (take (k - 1) chunks)) x in
     (omega arith, record { within = omega arith; begins = omega arith })
 
-pub none_back_yet : (xs : List ℕ) (i p : ℕ) → (i ≤ p) → NoneBack xs i p
-none_back_yet xs i p le z h e lt = omega arith
-
-pub none_back_all : (xs : List ℕ) (i p : ℕ) → (length xs ≤ p) → NoneBack xs i p
-none_back_all xs i p le z h e lt = let within = (only_place xs z h e).0 in omega arith
-
 pub none_back_at_all : (xs : List ℕ) (i p : ℕ) → NoneBack xs i p → p ≡ 0 → HasNoFaultBefore xs i
 none_back_at_all xs i p none start z h e =
     ⊎_elim (λ (lt : z.start < i). let far = none z h e lt in absurd (omega arith)) (λ (le : i ≤ z.start). le) (cases_lt z.start i)
 
 module _ (chunks : List (List ℕ)) (k p : ℕ) (x : List ℕ) (at : ChunkAt chunks k p x) where
-  -- the last one of the chunk before the place i is that of the whole, where there is none after the chunk
+  -- the last fault of the chunk before the offset i is that of the whole, if there is none after the chunk
   pub previous_of_chunk : (i q : ℕ) → NoneBack (concat chunks) i (p + length x) → IsPreviousFault x (i - p) q → IsPreviousFault (concat chunks) i (p + q)
   previous_of_chunk i q none told =
       let before = told.before in
@@ -172,7 +157,7 @@ module _ (chunks : List (List ℕ)) (k p : ℕ) (x : List ℕ) (at : ChunkAt chu
             (cases_lt z.start p);
       }
 
-  -- and where the chunk has none, the one before it is searched
+  -- if the chunk has none, the one before it is searched
   pub none_back_of_chunk : (i : ℕ) → NoneBack (concat chunks) i (p + length x) → HasNoFaultBefore x (i - p) → NoneBack (concat chunks) i p
   none_back_of_chunk i none told z h e lt =
       let near = none z h e lt in

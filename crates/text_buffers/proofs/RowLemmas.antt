@@ -1,4 +1,4 @@
--- Rows of chunks, and what they count.
+-- Rows of chunks, and their counts.
 use Rattle.std.proofs.Common.{◌≡◌, ℕ, ◌+◌, ◌*◌, ◌-◌, ◌^◌, ◌<◌, ◌≤◌, ◌⊎◌, List, [], ◌∷◌, ◌++◌, length, get_or, take, drop, arith, ap, ap₂, sym, ◌∙◌, subst, ⊎_elim, inl, inr, length-append, length-set, length-take}
 use Rattle.std.proofs.lemmas.Bool.{cases_lt}
 use Rattle.std.proofs.lemmas.List.{drop-take, get_or_append_left, get_or-take, take-take}
@@ -12,6 +12,7 @@ use Rattle.std.specs.Prelude.{slice_range}
 use Rattle.text_buffers.specs.declared.buffers.counts.Counts.{Counts}
 use Rattle.text_buffers.specs.declared.buffers.rows.Mark.{Mark}
 use Rattle.text_buffers.specs.Chunks.{EndOutside, IsSpot}
+use Rattle.text_buffers.specs.CountedChunks.{AreChunks}
 use Rattle.text_buffers.specs.Counts.{counts_of, sum_of, IsSmall}
 use Rattle.text_buffers.specs.Rows.{AreSums, AreSumsBut, IsMark}
 use Rattle.text_buffers.proofs.ChunkLists.{take_up_to, EndOutside-front, EndOutside-rest, EndOutside-take, EndOutside-seam, concat-take-le, concat-take-more}
@@ -30,7 +31,10 @@ part_len cs a b le =
     let Q = drop b cs in
     omega (arith, ap (λ ds. length (concat ds)) (split_between cs a b le), ap length (concat-append P (M ++ Q)), ap length (concat-append M Q), length-append (concat P) (concat (M ++ Q)), length-append (concat M) (concat Q))
 
--- what the chunks from one to another count
+pub held_between : (chunks : List (List ℕ)) (a b : ℕ) → a ≤ b → AreChunks chunks → AreChunks (slice_range chunks a b)
+held_between chunks a b le held = record { ends = ends_between chunks a b le held.ends; small = omega (arith, held.small, part_len chunks a b le) }
+
+-- the counts of the chunks from one to another
 pub span_counts : (chunks : List (List ℕ)) (i j : ℕ) → EndOutside chunks → i ≤ j → j ≤ length chunks
     → counts_of (concat (take j chunks)) ≡ sum_of (counts_of (concat (take i chunks))) (counts_of (concat (slice_range chunks i j)))
 span_counts chunks i j ends lo hi =
@@ -45,11 +49,11 @@ pub span_small : (chunks : List (List ℕ)) (i j : ℕ) → EndOutside chunks �
 span_small chunks i j ends lo hi small =
     rw (span_counts chunks i j ends lo hi) at (counts_small (concat (take j chunks)) (omega (arith, concat-take-le chunks j)))
 
--- some counts, for a place where a list has none
+-- some counts, as the default for an index that a list does not have
 abbrev pub no_counts : Counts
 no_counts = record { bytes = 0; pieces = 0; faults = 0; line_feeds = 0 }
 
--- an element that is there is the same for any default
+-- an element at an existing index is the same for any default
 pub any_default : {X : Type 0} (xs : List X) (n : ℕ) (d e : X) → n < length xs → get_or xs n d ≡ get_or xs n e
 any_default xs n d e lt = get_or_from_slice_get xs n (get_or xs n e) d (slice_get-get_or xs n e lt)
 
@@ -58,7 +62,7 @@ any_default xs n d e lt = get_or_from_slice_get xs n (get_or xs n e) d (slice_ge
 pub spot_of_mark : (chunks : List (List ℕ)) (m : Mark) → IsMark chunks m → IsSpot chunks m.number m.before.bytes
 spot_of_mark chunks m mark = record { within = mark.within; begins = ap (λ (k : Counts). k.bytes) mark.before }
 
--- one row more, the r-th
+-- one more row, the r-th
 pub record NextRow (chunks : List (List ℕ)) (m : Mark) (sum : Counts) : Type 0 where
   pub within : m.number + 256 ≤ length chunks
   pub small : IsSmall (sum_of m.before sum)
@@ -76,7 +80,7 @@ next_row chunks sums m r d ends small are mark at lt =
       before = ap₂ sum_of mark.before row ∙ sym (span_counts chunks m.number (m.number + 256) ends (omega arith) fits);
     }
 
--- one chunk more
+-- one more chunk
 pub record NextMark (chunks : List (List ℕ)) (m : Mark) (c : Counts) : Type 0 where
   pub small : IsSmall (sum_of m.before c)
   pub before : sum_of m.before c ≡ counts_of (concat (take (m.number + 1) chunks))
@@ -88,14 +92,7 @@ next_mark chunks m x c ends small mark lt is counts = record {
   before = ap₂ sum_of mark.before counts ∙ sym (chunk_counts chunks m.number x ends lt is);
 }
 
--- the chunks before it stayed
-pub mark_kept : (xs ys : List (List ℕ)) (m : Mark) → IsMark xs m → take m.number ys ≡ take m.number xs → IsMark ys m
-mark_kept xs ys m mark same = record {
-  within = omega (arith, mark.within, ap length same, length-take m.number xs, length-take m.number ys);
-  before = mark.before ∙ ap (λ cs. counts_of (concat cs)) (sym same);
-}
-
--- the chunk has the place that is not after its end
+-- the chunk has the offset that is not after its end
 pub mark_has : (chunks : List (List ℕ)) (m : Mark) (x : List ℕ) (at : ℕ) → IsMark chunks m → m.number < length chunks → x ≡ get_or chunks m.number x → m.before.bytes ≤ at → at - m.before.bytes < length x
     → at < length (concat (take (m.number + 1) chunks))
 mark_has chunks m x at mark lt is lo hi =
@@ -113,10 +110,7 @@ span_of_front xs i a b lo hi =
 pub same_span : {X : Type 0} (xs ys : List X) (i a b : ℕ) → a ≤ b → b ≤ i → take i xs ≡ take i ys → slice_range xs a b ≡ slice_range ys a b
 same_span xs ys i a b lo hi e = sym (span_of_front xs i a b lo hi) ∙ (ap (λ zs. slice_range zs a b) e ∙ span_of_front ys i a b lo hi)
 
-pub sums_none : (chunks : List (List ℕ)) → AreSums chunks []
-sums_none chunks = record { within = omega arith; counted = λ r d lt. absurd (omega arith) }
-
--- those of some rows
+-- the sums of some rows
 pub sums_taken : (chunks others : List (List ℕ)) (sums : List Counts) (i n : ℕ) → AreSums chunks sums → 256 * n ≤ i → i ≤ length others → take i others ≡ take i chunks → AreSums others (take n sums)
 sums_taken chunks others sums i n are le within same =
     let few = length-take n sums in
@@ -130,7 +124,7 @@ sums_taken chunks others sums i n are le within same =
           ∙ ap (λ cs. counts_of (concat cs)) (sym (same_span others chunks i (256 * r) (256 * r + 256) (omega arith) (omega arith) same)));
     }
 
--- one row more
+-- one more row
 pub sums_more : (chunks : List (List ℕ)) (sums : List Counts) (sum : Counts) → AreSums chunks sums → 256 * (length sums + 1) ≤ length chunks
     → sum ≡ counts_of (concat (slice_range chunks (256 * length sums) (256 * length sums + 256))) → AreSums chunks (sums ++ sum ∷ [])
 sums_more chunks sums sum are within is = record {
@@ -144,7 +138,7 @@ sums_more chunks sums sum are within is = record {
       (cases_lt r (length sums));
 }
 
--- one of those that are not known
+-- one of the rows whose sums are not known
 pub sums_renewed : (chunks : List (List ℕ)) (sums others : List Counts) (r j : ℕ) (sum : Counts) → AreSumsBut chunks sums r j → r < length sums
     → sum ≡ counts_of (concat (slice_range chunks (256 * r) (256 * r + 256))) → others ≡ set sums r sum → AreSumsBut chunks others (r + 1) j
 sums_renewed chunks sums others r j sum are lt is set_is =
@@ -166,12 +160,3 @@ sums_renewed chunks sums others r j sum are lt is set_is =
           (cases_lt r k))
           (cases_lt k r);
     }
-
--- all are known
-pub sums_all : (chunks : List (List ℕ)) (sums : List Counts) (i j : ℕ) → AreSumsBut chunks sums i j → (j ≤ i) ⊎ (length sums ≤ i) → AreSums chunks sums
-sums_all chunks sums i j are done = record {
-  within = are.within;
-  counted = λ r d lt.
-      are.counted r d lt
-      (⊎_elim (λ (before : r < i). inl before) (λ (ge : i ≤ r). ⊎_elim (λ (all : j ≤ i). inr (omega arith)) (λ (past : length sums ≤ i). absurd (omega arith)) done) (cases_lt r i));
-}

@@ -1,5 +1,5 @@
--- The run over bytes of which a part was replaced: old pieces before it, new ones, and old ones after it. They meet at
--- fixed places.
+-- The run over bytes of which a part was replaced: old pieces before it, new ones, and old ones after it. They meet
+-- at fixed offsets.
 use Rattle.std.proofs.Common.{◌≡◌, ℕ, suc, ◌+◌, ◌-◌, ◌<◌, ◌≤◌, List, [], ◌∷◌, ◌++◌, length, get_or, take, drop, map, arith, refl, ap, ap₂, sym, ◌∙◌, ⊎_elim, append_assoc, length-take, length-drop, Ok, Err, Result, Some, true, false, true≢false, ltb, ltb-true, ltb-false}
 use Rattle.std.proofs.lemmas.Bool.{cases_lt}
 use Rattle.std.proofs.lemmas.Grind.{common_steps}
@@ -25,9 +25,9 @@ use Rattle.text_runs.specs.Items.{piece_of, HasKind}
 use Rattle.text_runs.specs.ForwardRuns.{IsForwardRun, IsForwardRunBetween}
 use Rattle.text_runs.specs.Tables.{StayAround, IsSplitAt, IsSplice, IsRenewed, EndsAt, StepForEach, WereReplaced, moved_item}
 
--- What a run tells of its items.
+-- Properties of the items of a run.
 
--- some item, for a place where a list has one
+-- some item, as the default for an index that a list does not have
 some_item : Item
 some_item = (0, Ok 0, 0)
 
@@ -62,7 +62,7 @@ pieces_moved : (a b : ℕ) (items : List Item) → map piece_of (map (moved_item
 pieces_moved a b [] = refl
 pieces_moved a b (x ∷ items) = ap (λ ps. moved a b (piece_of x) ∷ ps) (pieces_moved a b items)
 
--- Parts of a run, and what becomes of them in other bytes.
+-- Parts of a run, and the same parts in other bytes.
 
 parted : (m k : ℕ) (items : List Item) → IsSplitAt items m k → IsParted m k (map piece_of items)
 parted m k items split =
@@ -86,7 +86,7 @@ run_from_place xs m k items run split = record {
   kinds = All-drop (HasKind fault_kind xs) k items run.kinds;
 }
 
--- a fault keeps its kind where what is left has the same
+-- a fault keeps its kind if the bytes from it on are the same
 kind_stays : (xs ys : List ℕ) (p q : ℕ) (r : Result ℕ Utf8ErrorKind) → fault_kind (drop p xs) ≡ fault_kind (drop q ys)
     → IfErr r (λ k. fault_kind (drop p xs) ≡ Some k) → IfErr r (λ k. fault_kind (drop q ys) ≡ Some k)
 kind_stays xs ys p q (Ok s) e h = tt
@@ -124,7 +124,7 @@ run_append xs i j k a b lo hi f g = record {
 length-splice : (xs new : List ℕ) (s e : ℕ) → s ≤ e → e ≤ length xs → length (splice xs s e new) ≡ s + length new + (length xs - e)
 length-splice xs new s e lo hi = grind (arith, common_steps)
 
--- what the law of local damage says of them
+-- what the law of local damage implies for them
 pub record StaysAround (xs ys : List ℕ) (s e t : ℕ) : Type 0 where
   pub before : (p : ℕ) → p < s - 3 → SameAt utf8 fault_kind xs p ys p
   pub following : (p : ℕ) → 3 ≤ p → SameAt utf8 fault_kind xs (e + p) ys (t + p)
@@ -140,10 +140,10 @@ stays_around xs new s e lo hi =
       following = λ p ge. rw (whole, other, front, old) at (utf8_damage_is_local.rest (take s xs) (slice_range xs s e) new (drop e xs) p (omega arith));
     }
 
--- The place from which the new pieces are decoded.
+-- The offset from which the new pieces are decoded.
 
 module _ (ys : List ℕ) (s from k : ℕ) (items : List Item) (run : IsForwardRunBetween ys 0 (s - 3) (take k items)) (enough : k ≤ length items) (ends : EndsAt items k from) where
-  -- where there is a last item, it ends there
+  -- if there is a last item, it ends there
   last_item : 0 < k → let x = get_or items (k - 1) some_item in IsPiece utf8 ys (piece_of x) × (x.0 < s - 3) × (from ≡ x.0 + x.2)
   last_item some =
       let taken = length-take k items in
@@ -212,7 +212,7 @@ module _ (ys : List ℕ) (s from k : ℕ) (items : List Item) (run : IsForwardRu
       (λ (le : s - 3 ≤ from). le)
       (cases_lt from (s - 3))
 
--- the cut between two places has one length
+-- the cut between two offsets has one length
 StepForEach-run : (xs : List ℕ) (i j before after : ℕ) (items : List Item) → IsForwardRunBetween xs i j items → after ≡ before + length items → StepForEach xs i j before after
 StepForEach-run xs i j before after items run e ps cut =
     let len = ap length (cut_unique utf8 utf8_is_code xs i j ps (map piece_of items) cut run.cut) in
@@ -244,7 +244,7 @@ in_rest items m r split x w ge =
     let last : r ≤ w.0 = ⊎_elim (λ (lt : w.0 < r). let b = split.before w.0 x (omega arith) lt in absurd (omega arith)) (λ (ge : r ≤ w.0). ge) (cases_lt w.0 r) in
     Contains-drop items x r w last
 
--- an item of a part is one of the whole, on its side of the place
+-- an item of a part is one of the whole, on its side of the offset
 of_front : (items : List Item) (m k : ℕ) → IsSplitAt items m k → (x : Item) → Contains (take k items) x → Contains items x × (x.0 < m)
 of_front items m k split x w =
     let len = length-take k items in
@@ -324,7 +324,7 @@ IsSplitAt-from_point items m k le point = record {
   following = λ n d lo hi. ltb-false _ _ (point.1 n d lo hi);
 }
 
--- fewer items begin before an earlier place
+-- fewer items begin before an earlier offset
 pub splits_in_order : (items : List Item) (m n k r : ℕ) → m ≤ n → IsSplitAt items m k → IsSplitAt items n r → k ≤ r
 splits_in_order items m n k r le a b =
     ⊎_elim
@@ -335,7 +335,7 @@ splits_in_order items m n k r le a b =
     (λ (ge : k ≤ r). ge)
     (cases_lt r k)
 
--- places that are counted from where they were
+-- items that are moved by nothing are unchanged
 pub moved_nowhere : (a : ℕ) (items : List Item) → All (λ (x : Item). a ≤ x.0) items → map (moved_item a a) items ≡ items
 moved_nowhere a [] h = refl
 moved_nowhere a (x ∷ items) h =
@@ -343,7 +343,7 @@ moved_nowhere a (x ∷ items) h =
     let e : a + (x.0 - a) ≡ x.0 = omega arith in
     ap₂ (λ y ys. y ∷ ys) (ap (λ p. (p, x.1, x.2)) e) (moved_nowhere a items (λ n d lt. h (suc n) d (omega arith)))
 
--- What a call promises on success, where it succeeds.
+-- The postcondition of a call for success, if it succeeds.
 
 pub on_ok : {T E : Type 0} {P : Type 0} (r : Result T E) → IsOk r → OnOk r P → P
 on_ok (Ok x) h p = p
@@ -353,7 +353,7 @@ pub OnOk-always : {T E : Type 0} {P : Type 0} (r : Result T E) → P → OnOk r 
 OnOk-always (Ok x) p = p
 OnOk-always (Err e) p = tt
 
--- Where nothing takes the place of nothing.
+-- If nothing is replaced by nothing.
 
 splice_nothing : (xs : List ℕ) (s : ℕ) → xs ≡ splice xs s s []
 splice_nothing xs s = sym (take-append-drop s xs)
@@ -417,7 +417,7 @@ module _ {ys : List ℕ} {s e t : ℕ} {items : List Item} (h : WereReplaced ys 
         none = none_between ys s from k items run kept.within ends;
       }
 
-  -- so many pieces were decoded as begin near what was replaced
+  -- the number of pieces that were decoded is at least that of the pieces that begin near the replaced part
   pub least_at_spot : {k r from : ℕ} (before after : ℕ) (fresh : List Item) → IsSplice ys s e t items k r from → IsForwardRunBetween ys from (t + 3) fresh
       → after ≡ before + length fresh → StepForEach ys (s - 3) (t + 3) before after
   least_at_spot {from} before after fresh spot run counted =

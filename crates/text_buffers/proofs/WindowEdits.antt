@@ -1,4 +1,4 @@
--- A part of some bytes is replaced inside of a window whose ends are three bytes away, or are those of the bytes.
+-- A part of some bytes is replaced inside a window whose ends are three bytes away, or are the ends of the bytes.
 use Rattle.std.proofs.Common.{◌≡◌, ℕ, ◌+◌, ◌-◌, ◌≤◌, ◌⊎◌, inl, inr, List, ◌++◌, length, take, drop, arith, refl, ap, ap₂, sym, ◌∙◌, ⊎_elim, append_assoc, length-append, length-drop}
 use Rattle.std.proofs.lemmas.Grind.{common_steps}
 use Rattle.std.proofs.lemmas.List.{take-append-le, drop-append-le, length-take-le, take_at, drop_at}
@@ -36,7 +36,8 @@ module _ (p m q new : List ℕ) (s e : ℕ) (lo : s ≤ e) (hi : e ≤ length m)
         ends = λ i. stays_outside_after xs new (length p + s) (length p + e) (omega arith) (omega arith) (length p + length m) far (omega arith) seams.ends (rw (same, place) i);
       }
 
--- What an edit inside of a window does to the bytes and to what they count: m and n are what the window had and has.
+-- The effect of an edit inside a window on the bytes and their counts: m and n are the bytes of the window before
+-- and after.
 pub record WindowEdit (xs ys : List ℕ) (a : ℕ) (m n : List ℕ) (b : ℕ) : Type 0 where
   pub bytes : ys ≡ take a xs ++ (n ++ drop b xs)
   pub seams : Seams (take a xs) n (drop b xs)
@@ -84,7 +85,7 @@ module _ (xs new : List ℕ) (s e a b : ℕ) (lo : s ≤ e) (hi : e ≤ length x
       } in
       rw (start, end) at (window_edit_of xs (take a xs) (slice_range xs a b) (drop b xs) new (s - a) (e - a) a b whole refl refl (omega arith) (omega arith) before following seams)
 
--- what the window has is a part of the bytes as they are
+-- the window's bytes are a part of the bytes after the edit
 pub window_part : (xs ys : List ℕ) (a : ℕ) (m n : List ℕ) (b u : ℕ) → WindowEdit xs ys a m n b → a ≤ length xs → b ≤ length xs → u ≡ length ys - (length xs - b)
     → (slice_range ys a u ≡ n) × (a ≤ u) × (u ≤ length ys)
 window_part xs ys a m n b u edit first last is =
@@ -96,7 +97,7 @@ window_part xs ys a m n b u edit first last is =
     let part : take (u - a) (drop a ys) ≡ n = ap (λ zs. take (u - a) zs) rest ∙ (ap (λ k. take k (n ++ drop b xs)) span ∙ take_at n (drop b xs) (length n) refl) in
     (part, omega arith, omega arith)
 
--- So the counts of all follow from those of the window.
+-- The counts of the whole follow from those of the window.
 module _ (xs ys new : List ℕ) (s e a b u : ℕ) (counts gone come : Counts) (lo : s ≤ e) (hi : e ≤ length xs) (w : IsWindow xs s e a b)
     (replaced : ys ≡ splice xs s e new) (until : u ≡ length ys - (length xs - b)) where
   window_bounds : (slice_range ys a u ≡ splice (slice_range xs a b) (s - a) (e - a) new) × (a ≤ u) × (u ≤ length ys)
@@ -123,7 +124,7 @@ module _ (xs ys new : List ℕ) (s e a b u : ℕ) (counts gone come : Counts) (l
 pub gone_part : (xs new : List ℕ) (s e a b : ℕ) (counts gone : Counts) → s ≤ e → e ≤ length xs → IsWindow xs s e a b → counts ≡ counts_of xs → gone ≡ counts_of (slice_range xs a b) → AreAmong gone counts
 gone_part xs new s e a b counts gone lo hi w all was = rw (was, all) ((window_edit xs new s e a b lo hi w).part)
 
--- what stands after the window is still there
+-- what followed the window still follows it
 pub window_rest : (xs ys new : List ℕ) (s e a b : ℕ) → s ≤ e → e ≤ length xs → IsWindow xs s e a b → ys ≡ splice xs s e new → length xs - b ≤ length ys
 window_rest xs ys new s e a b lo hi w replaced =
     let last = window_ends xs new s e a b lo hi w in

@@ -1,4 +1,4 @@
--- What an edit changes of the pieces of a text.
+-- The pieces of a text that an edit changes.
 use Rattle.std.specs.Prelude.{◌≡◌, ℕ, ◌+◌, ◌-◌, List, length, min, take, drop, map, slice_range}
 use Rattle.encode_unicode.specs.Pieces.{pieces}
 use Rattle.text_buffers.specs.declared.buffers.changes.Change.{Change}
@@ -7,8 +7,9 @@ use Rattle.text_buffers.specs.Counts.{counts_of}
 use Rattle.text_runs.specs.PieceBoundaries.{IsFirstBetween, IsLastBetween}
 use Rattle.text_runs.specs.Tables.{IsSplitAt, moved_item}
 
--- The bytes xs became ys where those from the place s to e were replaced. The window around these begins at the place p, between two
--- pieces: at s - 3 or just before, and it ended at e + 3 or just after. What went and what came is what it counted, and counts.
+-- The bytes xs became ys when those from the offset s to e were replaced. The window around these begins at the
+-- offset p, between two pieces: at s - 3 or just before, and it ended at e + 3 or just after. `gone` and `come` are
+-- its counts before and after.
 pub record IsRecount (xs ys : List ℕ) (s e p : ℕ) (gone come : Counts) : Type 0 where
   pub begins : IsLastBetween xs (s - 3) p
   pub ends : IsFirstBetween xs (min (length xs) (e + 3)) (p + gone.bytes)
@@ -16,7 +17,8 @@ pub record IsRecount (xs ys : List ℕ) (s e p : ℕ) (gone come : Counts) : Typ
   pub came : come ≡ counts_of (slice_range ys p (p + come.bytes))
   pub long : length ys + gone.bytes ≡ length xs + come.bytes
 
--- The same, and so many pieces begin before the window. These are as they were, and the pieces after it moved.
+-- The bytes xs became ys when those from s to e were replaced, and the number of the change is that of the
+-- pieces before the window. These are as they were, and the pieces after it moved.
 pub record IsChange (xs ys : List ℕ) (s e : ℕ) (c : Change) : Type 0 where
   pub window : IsRecount xs ys s e c.offset c.gone c.come
   pub number : IsSplitAt (pieces xs) c.offset c.number

@@ -3,11 +3,11 @@ use Rattle.std.specs.Prelude.{◌≡◌, ℕ, ◌+◌, ◌≤◌, ◌⊎◌, Lis
 use Rattle.std.specs.List.{concat}
 use Rattle.utf_base.specs.Code.{utf8}
 use Rattle.utf_base.specs.Piece.{Inside}
-use Rattle.text_buffers.specs.declared.buffers.text_buffer.Edit.{Edit}
+use Rattle.text_buffers.specs.declared.buffers.edits.Edit.{Edit}
 use Rattle.text_buffers.specs.Chunks.{IsSpot}
 
--- The bytes from the place s to e lie in a window from a to b: no code lies over either of its ends, and each is three bytes away
--- from them, or is an end of all.
+-- The bytes from the offset s to e lie in a window from a to b: no code covers either of its ends, and each is three
+-- bytes away from them, or is an end of the whole.
 pub record IsWindow (xs : List ℕ) (s e a b : ℕ) : Type 0 where
   pub begins : Inside utf8 xs a → ⊥
   pub ends : Inside utf8 xs b → ⊥
@@ -15,7 +15,7 @@ pub record IsWindow (xs : List ℕ) (s e a b : ℕ) : Type 0 where
   pub following : (b ≡ length xs) ⊎ (e + 3 ≤ b)
   pub within : b ≤ length xs
 
--- the chunks that an edit reaches, of which the first and the one after the last begin at the ends of a window
+-- the chunks that an edit reaches; the first of them, and the first after them, begin at the ends of a window
 pub record Surrounds (chunks : List (List ℕ)) (x : Edit) : Type 0 where
   pub first : IsSpot chunks x.first.number x.first.place
   pub last : IsSpot chunks x.last.number x.last.place

@@ -1,10 +1,10 @@
--- How many bytes, pieces, faults and line feeds some bytes have.
+-- The numbers of bytes, pieces, faults and line feeds of some bytes.
 use Rattle.std.specs.Prelude.{ℕ, ◌+◌, ◌-◌, ◌^◌, ◌<◌, ◌≤◌, List, length, count_by, nat_eq}
 use Rattle.encode_unicode.specs.Pieces.{pieces}
 use Rattle.text_runs.specs.ForwardRuns.{faulty_item_count}
 use Rattle.text_buffers.specs.declared.buffers.counts.Counts.{Counts}
 
--- those of the bytes
+-- the counts of the bytes
 abbrev pub counts_of : List ℕ → Counts
 counts_of xs = record {
   bytes = length xs;
@@ -13,11 +13,11 @@ counts_of xs = record {
   line_feeds = count_by (λ x. nat_eq x 0x0A) xs;
 }
 
--- those of two parts together
+-- the counts of two parts together
 abbrev pub sum_of : Counts → Counts → Counts
 sum_of a b = record { bytes = a.bytes + b.bytes; pieces = a.pieces + b.pieces; faults = a.faults + b.faults; line_feeds = a.line_feeds + b.line_feeds }
 
--- those of a whole of which one part went and another came
+-- the counts of a whole of which one part was replaced by another
 abbrev pub exchange_of : Counts → Counts → Counts → Counts
 exchange_of all gone come = record {
   bytes = all.bytes - gone.bytes + come.bytes;
@@ -33,7 +33,7 @@ pub record IsSmall (c : Counts) : Type 0 where
   pub faults : c.faults < 2 ^ 64
   pub line_feeds : c.line_feeds < 2 ^ 64
 
--- none is above that of the whole
+-- no count is above its counterpart in the whole
 pub record AreAmong (c all : Counts) : Type 0 where
   pub bytes : c.bytes ≤ all.bytes
   pub pieces : c.pieces ≤ all.pieces

@@ -1,9 +1,11 @@
-//! A text that is edited, in chunks of which it is known how many pieces they have.
+//! A text that is edited, in chunks that keep the number of their pieces.
 pub mod changes;
 pub(crate) mod chunk;
+pub(crate) mod chunks;
 pub mod counts;
 pub mod cursor;
 pub(crate) mod dividing;
+pub(crate) mod edits;
 pub(crate) mod line_feeds;
 pub(crate) mod lookups;
 pub(crate) mod measures;
@@ -12,4 +14,5 @@ pub(crate) mod pieces_at;
 pub(crate) mod previous_faults;
 pub(crate) mod rows;
 pub(crate) mod spots;
+pub(crate) mod sums;
 pub mod text_buffer;

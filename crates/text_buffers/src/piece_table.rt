@@ -1,4 +1,4 @@
-//! A table of the pieces of some bytes, which is kept up to date where a part of the bytes is replaced.
+//! A table of the pieces of some bytes, which is kept up to date if a part of the bytes is replaced.
 ghost use Rattle.std.specs.List.{splice};
 ghost use Rattle.std.specs.List.Sorted.{IsNonDecreasingBy};
 ghost use Rattle.std.specs.Prelude.{◌≡◌, ◌+◌, ◌-◌, ◌^◌, ◌<◌, ◌≤◌, ◌++◌, [], length, map, slice_range, take, drop, All, IfOk, IsOk, OnOk, OnErr, vec_len, vec_capacity};
@@ -9,7 +9,7 @@ ghost use Rattle.encode_unicode.specs.Window.{Item as AnItem, IsFrontPiece};
 ghost use Rattle.text_runs.specs.ForwardRuns.{IsForwardRun, IsForwardRunBetween};
 ghost use Rattle.text_runs.specs.Tables.{StayAround, StepForEach, WereReplaced, IsSplice, IsRenewed, IsSplitAt, EndsAt, IsRestMoved, moved_item};
 
-use crate::block_moves::Moved;
+use crate::lists::splice_in;
 use encode_unicode::{Steps, Utf8Char};
 use std::alloc::{AllocError, Allocator};
 use std::marker::Model;
@@ -18,7 +18,7 @@ use text_runs::runs::items::Item;
 /// Bytes and their pieces, which are kept up to date while the bytes are edited. Contracts see
 /// both.
 ///
-/// A change of the bytes reaches few pieces: `replace` decodes only those, and moves the others.
+/// An edit of the bytes affects few pieces: `replace` decodes only those, and moves the others.
 #[derive(Drop)]
 pub struct PieceTable<A: Allocator + Copy> {
     bytes: Vec<u8, A>,
@@ -37,7 +37,7 @@ impl<A: Allocator + Copy> Model for PieceTable<A> {
 }
 
 impl<A: Allocator + Copy> PieceTable<A> {
-    /// A table of a copy of the bytes. The error is that memory was refused.
+    /// A table of a copy of the bytes. The error is that an allocation failed.
     ///
     /// Cost: O(n), allocates.
     pub fn new(alloc: A, bytes: &[u8]) -> Result<PieceTable<A>, AllocError>
@@ -70,7 +70,7 @@ impl<A: Allocator + Copy> PieceTable<A> {
         ensures places { All (LiesWithin 4 (length self.now.bytes)) result.now }
         ensures fits { length self.now.bytes < 2 ^ 64 }
     {
-        // A length is a `usize`: this call is all that tells a proof so.
+        // Brings into scope that the length fits in a `usize`.
         let _len = self.bytes.len();
         self.pieces.as_slice()
     }
@@ -78,9 +78,8 @@ impl<A: Allocator + Copy> PieceTable<A> {
     /// Replaces the bytes from `start` up to `end`, `end` not included, by `new`. It counts in
     /// `steps` the pieces that it decodes.
     ///
-    /// The error is that memory was refused, or that a `usize` cannot count the bytes. The table is
-    /// then as it was. If nothing is replaced by nothing (`start` is `end`, and `new` is empty), no
-    /// memory is asked for.
+    /// Fails if an allocation fails, or if a `usize` cannot count the bytes. The table is then as it was. If
+    /// nothing is replaced by nothing (`start` is `end`, and `new` is empty), nothing is allocated.
     ///
     /// Condition: `start` is at most `end`, and `end` at most the length.
     ///
@@ -108,7 +107,7 @@ impl<A: Allocator + Copy> PieceTable<A> {
             decode_near(self.bytes.as_slice(), start, self.pieces.as_slice(), steps);
             return Ok(());
         }
-        // All room is taken before the first change.
+        // All memory is allocated before the first change.
         let most = new.len().saturating_add(6);
         let mut fresh = Vec::with_capacity(*self.bytes.allocator(), most)?;
         self.pieces.reserve(most)?;
@@ -125,8 +124,8 @@ impl<A: Allocator + Copy> PieceTable<A> {
     }
 }
 
-// Makes the pieces of some bytes those of `bytes`, which these became where what stood from `start` to
-// `end` was replaced and now ends at `after`. There is room for what is decoded, so it never fails.
+// Updates the pieces to those of `bytes`, after the bytes from `start` to `end` were replaced by others that
+// end at `after`. There is capacity for what is decoded, so it never fails.
 fn redecode<A: Allocator>(
     bytes: &[u8],
     start: usize,
@@ -149,8 +148,8 @@ fn redecode<A: Allocator>(
     put_pieces(pieces, spot.keep, spot.resume, fresh.as_slice(), end, after)
 }
 
-// Decodes the pieces that a change at the place would reach, each in one step, and keeps none: where nothing changes
-// they are known. So it asks for no memory.
+// Decodes the pieces that a change at the offset would affect, each in one step, and keeps none: if nothing
+// changes they are known. So it does not allocate.
 fn decode_near(bytes: &[u8], place: usize, pieces: &[Item], steps: &mut Steps)
     requires replaced { WereReplaced bytes.now place place place pieces.now }
     ensures least { StepForEach bytes.now (place - 3) (place + 3) steps.old steps.new }
@@ -165,8 +164,8 @@ fn decode_near(bytes: &[u8], place: usize, pieces: &[Item], steps: &mut Steps)
     }
 }
 
-// Where the new pieces go: in place of the old ones from `keep` to `resume`, and decoded from the place
-// `from` on.
+// The range of the old pieces that the new ones replace, from `keep` to `resume`, and the offset `from` at
+// which decoding begins.
 #[derive(Drop)]
 struct Splice {
     keep: usize,
@@ -174,7 +173,8 @@ struct Splice {
     from: usize,
 }
 
-// The spot for the new pieces. A piece that ends near enough to a change to be reached by it is not kept.
+// The range of the pieces to replace. A piece that ends near enough to a change to be affected by it is not
+// kept.
 fn find_splice(bytes: &[u8], start: usize, end: usize, after: usize, pieces: &[Item]) -> Splice
     requires replaced { WereReplaced bytes.now start end after pieces.now }
     ensures { IsSplice bytes.now start end after pieces.now result.keep result.resume result.from }
@@ -187,8 +187,8 @@ fn find_splice(bytes: &[u8], start: usize, end: usize, after: usize, pieces: &[I
     }
 }
 
-// Puts `fresh` in place of the items from `keep` to `resume`, and counts the places of those after from
-// `to` where they were counted from `from`. It fails only where room is missing.
+// Replaces the items from `keep` to `resume` by `fresh`, and moves the offsets of those after them from
+// `from` to `to`. It fails only if capacity is missing.
 fn put_pieces<A: Allocator>(
     pieces: &mut Vec<Item, A>,
     keep: usize,
@@ -209,54 +209,7 @@ fn put_pieces<A: Allocator>(
     splice_in(pieces, keep, resume, fresh)
 }
 
-// Puts `new` in place of the items from `start` to `end`. It fails only where room for it is missing,
-// and then changes nothing.
-pub(crate) fn splice_in<T: Moved, A: Allocator>(
-    items: &mut Vec<T, A>,
-    start: usize,
-    end: usize,
-    new: &[T],
-) -> Result<(), AllocError>
-    requires ordered { start ≤ end }
-    requires within { end ≤ vec_len items.old }
-    ensures ok { OnOk result (items.new.items ≡ splice items.old.items start end new.now) }
-    ensures err { OnErr result (items.new.items ≡ items.old.items) }
-    ensures room { vec_len items.old + length new.now ≤ vec_capacity items.old → IsOk result }
-{
-    let after = start.checked_add(new.len()).ok_or(AllocError)?;
-    move_rest(items, end, after, new)?;
-    items[start..after].copy_from_slice(new);
-    Ok(())
-}
-
-// Moves the items after `from` so that they begin at `to`. A gap is filled with some of `filler`.
-fn move_rest<T: Moved, A: Allocator>(
-    items: &mut Vec<T, A>,
-    from: usize,
-    to: usize,
-    filler: &[T],
-) -> Result<(), AllocError>
-    requires within { from ≤ vec_len items.old }
-    requires filled { to ≤ from + length filler.now }
-    ensures ok { OnOk result (IsRestMoved items.old.items items.new.items from to) }
-    ensures err { OnErr result (items.new.items ≡ items.old.items) }
-    ensures room { vec_len items.old + length filler.now ≤ vec_capacity items.old → IsOk result }
-{
-    let len = items.len();
-    if to == from {
-        return Ok(());
-    }
-    if to < from {
-        T::move_within(items.as_mut_slice(), from, len, to);
-        items.truncate(to + (len - from));
-        return Ok(());
-    }
-    items.extend_from_slice(&filler[..to - from])?;
-    T::move_within(items.as_mut_slice(), from, len, to);
-    Ok(())
-}
-
-// How many of the items begin before the place.
+// The number of items that begin before the offset.
 fn count_before(items: &[Item], place: usize) -> usize
     requires { IsNonDecreasingBy (λ (x : AnItem). x.0) items.now }
     ensures { IsSplitAt items.now place result }
@@ -264,7 +217,7 @@ fn count_before(items: &[Item], place: usize) -> usize
     items.partition_point(|item| item.0 < place)
 }
 
-// Where the first `count` items end.
+// The offset at which the first `count` items end.
 fn end_of(items: &[Item], count: usize) -> usize
     requires within { count ≤ length items.now }
     requires fits { All (λ (x : AnItem). x.0 + x.2 < 2 ^ 64) items.now }
@@ -277,7 +230,7 @@ fn end_of(items: &[Item], count: usize) -> usize
     place + len
 }
 
-// Counts the places of the items from `to` where they were counted from `from`.
+// Moves the offsets of the items from `from` to `to`.
 fn move_places(items: &mut [Item], from: usize, to: usize)
     requires counted { All (λ (x : AnItem). from ≤ x.0) items.old }
     requires fits { All (λ (x : AnItem). to + (x.0 - from) < 2 ^ 64) items.old }
@@ -288,7 +241,7 @@ fn move_places(items: &mut [Item], from: usize, to: usize)
     }
 }
 
-// The same, place by place.
+// Moves the offsets of the items from `from` to `to`, one by one.
 fn move_each(items: &mut [Item], from: usize, to: usize)
     requires counted { All (λ (x : AnItem). from ≤ x.0) items.old }
     requires fits { All (λ (x : AnItem). to + (x.0 - from) < 2 ^ 64) items.old }
@@ -300,8 +253,8 @@ fn move_each(items: &mut [Item], from: usize, to: usize)
     }
 }
 
-// Collects the pieces of the bytes that begin from `place` on and before `until`, where no code lies over
-// `place`. Each takes one step.
+// Collects the pieces of the bytes that begin from `place` on and before `until`, if no code covers `place`.
+// Each takes one step.
 fn decode_pieces<A: Allocator>(
     bytes: &[u8],
     place: usize,
@@ -327,7 +280,7 @@ fn decode_pieces<A: Allocator>(
     Ok(())
 }
 
-// The piece that begins what is left of the bytes from `place` on. This is one step.
+// The first piece of the bytes from `place` on. This is one step.
 #[inline(always)]
 fn piece_at(bytes: &[u8], place: usize, steps: &mut Steps) -> Item
     requires { place < length bytes.now }

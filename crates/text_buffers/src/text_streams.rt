@@ -1,4 +1,4 @@
-//! A text in chunks that is made of what a reader gives, and that is written to a writer.
+//! A text in chunks that is read from a reader, and that is written to a writer.
 ghost use Rattle.std.specs.Prelude.{◌≡◌, ◌+◌, ◌<◌, ◌≤◌, ◌++◌, length, IfOk, IfSome, IsTrue, OnOk, OnErr};
 ghost use Rattle.std.specs.Io.KnownBytes.{Appends};
 ghost use Rattle.std.specs.IoError.{error_kind};
@@ -11,14 +11,14 @@ use std::io;
 use std::io::ErrorKind;
 use text_runs::streams::{Sink, Source, write_whole};
 
-// How many bytes are read at a time.
+// The size of a read, in bytes.
 const PART: usize = 65536;
 
 impl<A: Allocator + Copy> TextBuffer<A> {
-    /// A buffer of all bytes that the reader gives: it reads until the end, and no more then. A read that
-    /// is interrupted is made again.
+    /// A buffer of all bytes that the reader gives: it reads until the end, and not after that. An
+    /// interrupted read is repeated.
     ///
-    /// The error is the reader's, or `OutOfMemory` if memory was refused.
+    /// The error is the reader's, or `OutOfMemory` if an allocation failed.
     ///
     /// Cost: O(n), allocates.
     pub fn of_reader<R: Source>(alloc: A, input: &mut R) -> io::Result<TextBuffer<A>>
@@ -63,7 +63,7 @@ impl<A: Allocator + Copy> TextBuffer<A> {
     }
 }
 
-// Passes over an interruption, and gives any other error.
+// Ignores an interruption, and returns any other error.
 fn pass_over(error: io::Error) -> io::Result<()>
     ensures { OnOk result (error_kind error ≡ Interrupted) }
 {
@@ -73,7 +73,7 @@ fn pass_over(error: io::Error) -> io::Result<()>
     Err(error)
 }
 
-// Adds what was read to a text.
+// Appends what was read to a text.
 fn append<A: Allocator + Copy>(text: &mut TextBuffer<A>, part: &[u8]) -> Result<(), AllocError>
     ensures { OnOk result (text.new ≡ text.old ++ part.now) }
 {

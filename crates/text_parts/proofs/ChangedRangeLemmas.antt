@@ -1,4 +1,5 @@
--- Where a part of some bytes is replaced: a run over them comes to each place over which no code lies, and such places stay.
+-- If a part of some bytes is replaced: a run over them reaches each offset that no code covers, and such
+-- offsets stay.
 use Rattle.std.proofs.Common.{◌≡◌, ℕ, zero, suc, ◌+◌, ◌-◌, ◌*◌, ◌/◌, ◌%◌, ◌<◌, ◌≤◌, ◌⊎◌, ⊎_elim, Bool, true, false, List, [], ◌∷◌, ◌++◌, length, length-append, length-drop, drop, take, Option, Some, None, arith, refl, ap, ap₂, sym, subst, ◌∙◌, append_assoc}
 use Rattle.std.proofs.lemmas.Bool.{cases_lt}
 use Rattle.std.proofs.lemmas.List.{append-nil, drop-append-le, drop-drop, length-take-le, take-append-drop}
@@ -17,7 +18,7 @@ use Rattle.utf_lanes.specs.BytePairs.{units_of, unit_of}
 use Rattle.encode_unicode.specs.Mergers.{decoded_by_merger}
 use Rattle.encode_unicode.specs.Window.{as_piece}
 use Rattle.recoding.specs.NextScalars.{HasByteOrder}
-use Rattle.recoding.specs.Shards.{IsShardEnd, IsUnitsEnd}
+use Rattle.recoding.specs.Boundaries.{IsBoundary, IsUnitsEnd}
 use Rattle.recoding.specs.declared.faults.FaultKind.TheVariants as kind
 use Rattle.recoding.specs.declared.form.Form.{Form}
 use Rattle.recoding.specs.declared.form.Form.TheVariants.{Utf8}
@@ -26,7 +27,7 @@ use Rattle.recoding.proofs.Forms.{by_form, is_units}
 use Rattle.recoding.proofs.FirstPieces.{BeginsFault-trailing}
 use Rattle.recoding.proofs.FrontBytes.{first_unit}
 use Rattle.recoding.proofs.JoinedShards.{even_units, units_within}
-use Rattle.recoding.proofs.ShardEnds.{stands_in_list}
+use Rattle.recoding.proofs.LastBoundaries.{stands_in_list}
 use Rattle.text_parts.specs.declared.located.LocatedPiece.{LocatedPiece}
 use Rattle.text_parts.specs.ChangedRanges.{BeginWith, KeepUnits, PiecesStay}
 use Rattle.text_parts.specs.Located.{Begins, Locates, Told, at_offset, first_told, located, told_as, wrapped}
@@ -38,11 +39,11 @@ use Rattle.text_runs.proofs.SplicedPlaces.{stays_outside_after}
 use Rattle.text_parts.proofs.UnitFaults.{count_units}
 use Rattle.text_parts.proofs.UndecidedLemmas.{EndsBy, units_end_by, units_end_near, utf8_ends}
 
--- A place that is counted on.
+-- An offset that is increased.
 counted_on : (p n : ℕ) → wrapped (wrapped p + n) ≡ wrapped (p + n)
 counted_on p n = omega arith
 
--- Whatever follows: a run comes from place to place, as far as pieces end by the last.
+-- Whatever follows: a run goes from offset to offset, up to the last at which pieces end.
 module _ (form : Form) (bytes : List ℕ) (end : ℕ) (IsStart : ℕ → Type 0) (ends : (p : ℕ) → p < end → IsStart p → EndsBy form bytes p end)
     (on : (p : ℕ) (lt : p < end) (s : IsStart p) → IsStart (p + (ends p lt s).piece.1)) where
   abbrev LocatesTo : ℕ → Type 0
@@ -68,7 +69,7 @@ module _ (form : Form) (bytes : List ℕ) (end : ℕ) (IsStart : ℕ → Type 0)
       (λ (ge : end ≤ p). locates_end p (omega arith))
       (cases_lt p end)
 
--- The bytes as they are: a run comes to each place at which no piece that begins before it ends later.
+-- The bytes as they are: a run reaches each offset at which no piece that begins before it ends later.
 module _ (form : Form) (bytes : List ℕ) (end : ℕ) (le : end ≤ length bytes) (IsStart : ℕ → Type 0) (fits : (p : ℕ) → p < end → IsStart p → p + (first_told form (drop p bytes)).1 ≤ end)
     (on : (p : ℕ) → p < end → IsStart p → IsStart (p + (first_told form (drop p bytes)).1)) where
   abbrev RunsTo : ℕ → Type 0
@@ -93,7 +94,7 @@ module _ (form : Form) (bytes : List ℕ) (end : ℕ) (le : end ≤ length bytes
       (λ (ge : end ≤ p). runs_end p (omega arith))
       (cases_lt p end)
 
--- Where no code of UTF-8 lies over the place.
+-- If no code of UTF-8 covers the offset.
 utf8_fits : (bytes : List ℕ) (end : ℕ) → end ≤ length bytes → (Inside utf8 bytes end → ⊥) → (p : ℕ) → p < end → p + (first_told Utf8 (drop p bytes)).1 ≤ end
 unfolding first_told
 utf8_fits bytes end le outside p lt = by (merger_kind (drop p bytes)) refl
@@ -109,9 +110,9 @@ utf8_fits bytes end le outside p lt = by (merger_kind (drop p bytes)) refl
         (cases_lt end (p + length (utf8 s))))
     by (Some k) e = rw (merged_kind (drop p bytes) k e) (omega arith)
 
--- And of UTF-16.
+-- If no unit or pair of UTF-16 covers the offset.
 module _ (high : Bool) (from : Form) (form : HasByteOrder high from) (bytes : List ℕ) (end : ℕ) (le : end ≤ length bytes) (at_end : IsUnitsEnd high bytes end) where
-  -- a place of a run, which is at the end or that of a unit
+  -- an offset of a run, which is the end or the offset of a unit
   abbrev StartsUnit : ℕ → Type 0
   StartsUnit p = p < length bytes → p % 2 ≡ 0
 
@@ -153,15 +154,15 @@ module _ (high : Bool) (from : Form) (form : HasByteOrder high from) (bytes : Li
       (λ (all : length bytes ≤ end). omega arith)
       (cases_lt end (length bytes))
 
--- A run comes to each place over which no code lies.
-pub run_comes : (form : Form) (bytes : List ℕ) (end : ℕ) → end ≤ length bytes → IsShardEnd form bytes end → (given : List LocatedPiece) × BeginWith form bytes given end (drop end bytes)
+-- A run reaches each offset that no code covers.
+pub run_comes : (form : Form) (bytes : List ℕ) (end : ℕ) → end ≤ length bytes → IsBoundary form bytes end → (given : List LocatedPiece) × BeginWith form bytes given end (drop end bytes)
 run_comes =
     by_form _ (λ bytes end le out. runs_to Utf8 bytes end le (λ p. 0 ≤ p) (λ p lt s. utf8_fits bytes end le out p lt) (λ p lt s. omega arith) end 0 (omega arith) (omega arith) (omega arith))
     (λ high bytes end le out.
-    let at_end : IsUnitsEnd high bytes end = rw (is_units high, IsShardEnd) at out in
+    let at_end : IsUnitsEnd high bytes end = rw (is_units high, IsBoundary) at out in
     runs_to (utf16_form high) bytes end le _ (units_fit high (utf16_form high) refl bytes end le at_end) (units_on high (utf16_form high) refl bytes end le at_end) end 0 (omega arith) (omega arith) (λ some. refl))
 
--- What ends before a place is the same, whatever follows it.
+-- The pieces that end before an offset are the same, whatever follows it.
 
 units_before : (high : Bool) (w v : List ℕ) → (us : List ℕ) × (units_of high (w ++ v) ≡ units_of high w ++ us)
 units_before high [] v = (units_of high v, refl)
@@ -176,20 +177,20 @@ units_end_before high w v n lt end =
       outside = λ i. end.outside (rw e (inside_front utf16 (units_of high w) us (n / 2) i));
     }
 
-end_before : (form : Form) (w v : List ℕ) (n : ℕ) → n < length w → IsShardEnd form (w ++ v) n → IsShardEnd form w n
-end_before = by_form _ (λ w v n lt end i. end (inside_front utf8 w v n i)) (λ high. rw (is_units high, IsShardEnd) (units_end_before high))
+end_before : (form : Form) (w v : List ℕ) (n : ℕ) → n < length w → IsBoundary form (w ++ v) n → IsBoundary form w n
+end_before = by_form _ (λ w v n lt end i. end (inside_front utf8 w v n i)) (λ high. rw (is_units high, IsBoundary) (units_end_before high))
 
 abbrev Comes : Form → List ℕ → ℕ → Type 0
 Comes form w n = (given : List LocatedPiece) × Locates form (wrapped 0) w given (wrapped n) (drop n w)
 
-comes_before : (form : Form) (w : List ℕ) (n : ℕ) → n + 3 ≤ length w → IsShardEnd form w n → Comes form w n
+comes_before : (form : Form) (w : List ℕ) (n : ℕ) → n + 3 ≤ length w → IsBoundary form w n → Comes form w n
 comes_before =
     by_form _ (λ w n near end. locates_to Utf8 w n (λ p. 0 ≤ p) (λ p lt s. utf8_ends w n near end p lt) (λ p lt s. omega arith) n 0 (omega arith) (omega arith) (omega arith))
     (λ high w n near end.
-    let ends = units_end_near high (utf16_form high) refl w n near (rw (is_units high, IsShardEnd) at end) in
+    let ends = units_end_near high (utf16_form high) refl w n near (rw (is_units high, IsBoundary) at end) in
     locates_to (utf16_form high) w n (λ p. p % 2 ≡ 0) (λ p lt even. (ends p lt even).by) (λ p lt even. let one = (ends p lt even).even in omega arith) n 0 (omega arith) (omega arith) refl)
 
-front_stays : (form : Form) (w v : List ℕ) (n : ℕ) → n ≤ length w - 3 → IsShardEnd form (w ++ v) n → (given : List LocatedPiece) × ((later : List ℕ) → BeginWith form (w ++ later) given n (drop n (w ++ later)))
+front_stays : (form : Form) (w v : List ℕ) (n : ℕ) → n ≤ length w - 3 → IsBoundary form (w ++ v) n → (given : List LocatedPiece) × ((later : List ℕ) → BeginWith form (w ++ later) given n (drop n (w ++ later)))
 front_stays form w v n near end =
     ⊎_elim
     (λ (some : 0 < n).
@@ -200,7 +201,7 @@ front_stays form w v n near end =
     ([], λ later. ap (λ k. located form (wrapped k) (drop k (w ++ later))) zero))
     (cases_lt 0 n)
 
--- A place after the change moves with its bytes.
+-- An offset after the change moves with its bytes.
 
 module _ (high : Bool) (xs new : List ℕ) (s e b : ℕ) (lo : s ≤ e) (hi : e ≤ length xs) (keep : (e - s) % 2 ≡ length new % 2) (within : b ≤ length xs) (end : IsUnitsEnd high xs b) where
   abbrev ys : List ℕ
@@ -227,7 +228,7 @@ module _ (high : Bool) (xs new : List ℕ) (s e b : ℕ) (lo : s ≤ e) (hi : e 
         omega (arith, all_len, (count_units high ys).0);
   }
 
-  -- the first unit that stands whole after the change
+  -- the first whole unit after the change
   abbrev unit_at : ℕ
   unit_at = e + e % 2
 
@@ -276,13 +277,13 @@ keep_halves : (high : Bool) (gone come : ℕ) → KeepUnits (utf16_form high) go
 keep_halves true gone come keep = keep
 keep_halves false gone come keep = keep
 
-end_after : (form : Form) (xs new : List ℕ) (s e b : ℕ) → s ≤ e → e ≤ length xs → KeepUnits form (e - s) (length new) → b ≤ length xs → (b ≡ length xs) ⊎ (e + 3 ≤ b) → IsShardEnd form xs b
-    → IsShardEnd form (splice xs s e new) (s + length new + (b - e))
+end_after : (form : Form) (xs new : List ℕ) (s e b : ℕ) → s ≤ e → e ≤ length xs → KeepUnits form (e - s) (length new) → b ≤ length xs → (b ≡ length xs) ⊎ (e + 3 ≤ b) → IsBoundary form xs b
+    → IsBoundary form (splice xs s e new) (s + length new + (b - e))
 end_after =
     by_form _ (λ xs new s e b lo hi keep within far end. stays_outside_after xs new s e lo hi b far within end)
-    (λ high. rw (is_units high, IsShardEnd) (λ xs new s e b lo hi keep within far end. units_end_after high xs new s e b lo hi (keep_halves high _ _ keep) within end far))
+    (λ high. rw (is_units high, IsBoundary) (λ xs new s e b lo hi keep within far end. units_end_after high xs new s e b lo hi (keep_halves high _ _ keep) within end far))
 
--- what stands from there on is what stood
+-- the bytes from there on are those from before the change
 left_after : (xs new : List ℕ) (s e b : ℕ) → s ≤ e → e ≤ length xs → e ≤ b → drop (s + length new + (b - e)) (splice xs s e new) ≡ drop b xs
 left_after xs new s e b lo hi le =
     let front : length (take s xs ++ new) ≡ s + length new = omega (arith, length-append (take s xs) new, length-take-le s xs (omega arith)) in
@@ -291,8 +292,8 @@ left_after xs new s e b lo hi le =
     ∙ (ap (λ k. drop (k + (b - e)) ((take s xs ++ new) ++ drop e xs)) (sym front)
     ∙ (drop-append-add (take s xs ++ new) (drop e xs) (b - e) ∙ (drop-drop (b - e) e xs ∙ ap (λ k. drop k xs) at)))
 
--- Both.
-pub pieces_stay : (form : Form) (xs : List ℕ) (s e a b : ℕ) → s ≤ e → e ≤ length xs → a ≤ s - 3 → IsShardEnd form xs a → (b ≡ length xs) ⊎ (e + 3 ≤ b) → b ≤ length xs → IsShardEnd form xs b
+-- The pieces before and after the change stay.
+pub pieces_stay : (form : Form) (xs : List ℕ) (s e a b : ℕ) → s ≤ e → e ≤ length xs → a ≤ s - 3 → IsBoundary form xs a → (b ≡ length xs) ⊎ (e + 3 ≤ b) → b ≤ length xs → IsBoundary form xs b
     → PiecesStay form xs s e a b
 pieces_stay form xs s e a b lo hi near first far within last =
     let w = take s xs in

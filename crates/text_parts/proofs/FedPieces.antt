@@ -1,28 +1,12 @@
--- Steps of a decoder: one piece of what is held, the rest of a part, and the end.
-use Rattle.std.proofs.Common.{◌≡◌, ℕ, ◌+◌, ◌-◌, ◌<◌, ◌≤◌, ⊎_elim, List, [], ◌∷◌, ◌++◌, length, take, drop, map, arith, refl, ap, sym, subst, ◌∙◌, append_assoc, length-append, length-drop, length-take}
-use Rattle.std.proofs.lemmas.Bool.{cases_lt}
-use Rattle.std.proofs.lemmas.List.{append-nil, drop-append-le, drop_all, drop-drop, map-append, take_all, take-append-drop}
-use Rattle.std.proofs.Math.ListN.{drop_of_length-le}
-use Rattle.std.proofs.Math.Seq.{drop-append-add}
+-- Steps of a decoder: one piece of the carried-over bytes, the rest of a part, and the end.
+use Rattle.std.proofs.Common.{◌≡◌, ℕ, ◌+◌, ◌-◌, ◌<◌, ◌≤◌, List, [], ◌∷◌, ◌++◌, length, take, drop, map, arith, refl, ap, sym, subst, ◌∙◌, append_assoc, length-append, length-drop, length-take}
+use Rattle.std.proofs.lemmas.List.{append-nil, drop_all, drop-drop, map-append, take_all, take-append-drop}
 use Rattle.recoding.specs.declared.form.Form.{Form}
+use Rattle.recoding.proofs.StrictSteps.{drop_both}
 use Rattle.text_parts.specs.declared.located.LocatedPiece.{LocatedPiece}
 use Rattle.text_parts.specs.declared.located.Spot.{Spot}
 use Rattle.text_parts.specs.Located.{Begins, Decoding, FeedsKept, FeedsRest, FinishesKept, IsOpen, KeepsEach, Locates, PutsKept, Told, WritesPlaces, WritesPieces, at_offset, first_told, located, wrapped}
 use Rattle.text_parts.proofs.LocatedLemmas.{Begins-before, Locates-none, Locates-one, Locates-then, located_first}
-
--- without n elements at the front
-drop_both : (n : ℕ) (xs ys : List ℕ) → drop n (xs ++ ys) ≡ drop n xs ++ drop (n - length xs) ys
-drop_both n xs ys =
-    ⊎_elim
-    (λ (lt : n < length xs).
-    let none : n - length xs ≡ 0 = omega arith in
-    let le : n ≤ length xs = omega arith in
-    drop-append-le n xs ys le ∙ ap (λ k. drop n xs ++ drop k ys) (sym none))
-    (λ (ge : length xs ≤ n).
-    let k = n - length xs in
-    let e : n ≡ length xs + k = omega arith in
-    ap (λ m. drop m (xs ++ ys)) e ∙ drop-append-add xs ys k ∙ ap (λ z. z ++ drop k ys) (sym (drop_of_length-le xs ge)))
-    (cases_lt n (length xs))
 
 WritesPieces-none : {P : Type 0} (made : LocatedPiece → P) (room : List P) → WritesPieces made [] room room 0
 WritesPieces-none made room = record { fits = omega arith; front = refl; rest = refl; len = refl }
@@ -59,13 +43,13 @@ module _ {kept : List LocatedPiece → List LocatedPiece} (law : KeepsEach kept)
   kept_more {made = made} {old = old} {new = new} {to = to} given more h w =
       subst (λ ps. WritesPieces made ps old new to) (sym (law.more given more)) (WritesPieces-then (kept more) h w)
 
--- what begins the held bytes and three more begins them and all of the part
+-- the piece that begins the carried-over bytes and three more begins them and all of the part
 pub joined_begin : {form : Form} {joined : List ℕ} {x : Told} (held rest : List ℕ) → joined ≡ held ++ take 3 rest → Begins form joined x → Begins form (held ++ rest) x
 joined_begin {form} {joined} {x} held rest e b =
     let all : (held ++ take 3 rest) ++ drop 3 rest ≡ held ++ rest = append_assoc held (take 3 rest) (drop 3 rest) ∙ ap (λ z. held ++ z) (take-append-drop 3 rest) in
     subst (λ v. Begins form v x) all (Begins-before (drop 3 rest) (subst (λ v. Begins form v x) e b))
 
--- one piece more, of what is held and some of the part
+-- one more piece, of the carried-over bytes and some of the part
 pub FeedsKept-one : {P : Type 0} {kept : List LocatedPiece → List LocatedPiece} {made : LocatedPiece → P} {d s t : Decoding} {part joined : List ℕ} {old room new : List P} {read wrote to : ℕ} (law : KeepsEach kept) (x : Told) (more : ℕ)
     → FeedsKept kept made d part old room read wrote s → joined ≡ s.held ++ take 3 (drop read part) → Begins d.form joined x
     → WritesPlaces (map made (kept (at_offset s.offset x ∷ []))) room new wrote to
@@ -96,7 +80,7 @@ FeedsKept-one {kept = kept} {made = made} {d = d} {s = s} {t = t} {part = part} 
       few = rw held (omega (arith, length-drop x.1 s.held));
     }
 
--- what follows decides of all that is left, which is held then
+-- all that is left depends on what follows, and is carried over
 pub all_joined : {joined : List ℕ} (held part : List ℕ) (read : ℕ) → joined ≡ held ++ take 3 (drop read part) → 0 < length held → length joined ≤ 3 → joined ≡ held ++ drop read part
 all_joined {joined} held part read e some few =
     let len : length joined ≡ length held + length (take 3 (drop read part)) = ap length e ∙ length-append held (take 3 (drop read part)) in
@@ -186,12 +170,13 @@ FinishesKept-none law made d room = record {
   writes = subst (λ ps. WritesPieces made ps room room 0) (sym law.none) (WritesPieces-none made room);
   form = refl;
   few = omega arith;
+  on = omega arith;
 }
 
 pub FinishesKept-one : {P : Type 0} {kept : List LocatedPiece → List LocatedPiece} {made : LocatedPiece → P} {d s t : Decoding} {old room new : List P} {wrote to : ℕ} (law : KeepsEach kept) (x : Told) → FinishesKept kept made d old room wrote s
-    → x ≡ first_told d.form s.held → 0 < length s.held → WritesPlaces (map made (kept (at_offset s.offset x ∷ []))) room new wrote to
+    → x ≡ first_told d.form s.held → 0 < length s.held → x.1 ≤ length s.held → WritesPlaces (map made (kept (at_offset s.offset x ∷ []))) room new wrote to
     → t ≡ record { form = s.form; held = drop x.1 s.held; offset = wrapped (s.offset + x.1) } → FinishesKept kept made d old new to t
-FinishesKept-one {d = d} {s = s} {t = t} law x h told some writes passed =
+FinishesKept-one {d = d} {s = s} {t = t} law x h told some within writes passed =
     let held : t.held ≡ drop x.1 s.held = ap (λ (z : Decoding). z.held) passed in
     let offset : t.offset ≡ wrapped (s.offset + x.1) = ap (λ (z : Decoding). z.offset) passed in
     let form : t.form ≡ s.form = ap (λ (z : Decoding). z.form) passed in
@@ -199,13 +184,16 @@ FinishesKept-one {d = d} {s = s} {t = t} law x h told some writes passed =
     let first : located s.form s.offset s.held ≡ at_offset s.offset x ∷ located s.form (wrapped (s.offset + x.1)) (drop x.1 s.held)
     = located_first s.form s.offset s.held some ∙ ap (λ (y : Told). at_offset s.offset y ∷ located s.form (wrapped (s.offset + y.1)) (drop y.1 s.held)) same in
     let few = h.few in
+    let on = h.on in
+    let left = length-drop x.1 s.held in
     record {
       given = h.given ++ at_offset s.offset x ∷ [];
       locates = h.locates ∙ ap (λ ps. h.given ++ ps) first ∙ sym (append_assoc h.given (at_offset s.offset x ∷ []) (located s.form (wrapped (s.offset + x.1)) (drop x.1 s.held)))
           ∙ rw (form, offset, held) refl;
       writes = kept_more law h.given (at_offset s.offset x ∷ []) h.writes writes;
       form = form ∙ h.form;
-      few = rw held (omega (arith, length-drop x.1 s.held));
+      few = rw held (omega (arith, left));
+      on = rw (offset, held) (omega (arith, on, left));
     }
 
 pub IsOpen-as : {form : Form} {w : List ℕ} (t : Decoding) → t.form ≡ form → t.held ≡ w → IsOpen form w → IsOpen t.form t.held

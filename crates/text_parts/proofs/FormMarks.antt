@@ -1,5 +1,5 @@
--- Where the pieces of bytes of any form begin, and which of them are faults: of UTF-8 as those that a decoder of bytes gives, of UTF-16 as
--- those of units, and an odd last byte.
+-- The offsets of the pieces of bytes in any encoding, and which of them are faults: of UTF-8 as those that a decoder
+-- of bytes gives, of UTF-16 as those of units, and an odd last byte.
 use Rattle.std.proofs.Common.{◌≡◌, ℕ, zero, suc, ◌+◌, ◌-◌, ◌*◌, ◌%◌, ◌^◌, ◌<◌, ◌≤◌, Bool, true, List, [], ◌∷◌, ◌++◌, length, length-drop, drop, map, is_err, get_or, Option, Some, None, Result, Ok, Err, arith, refl, ap, ap₂, sym, ◌∙◌}
 use Rattle.std.proofs.lemmas.List.{take_rest}
 use Rattle.std.proofs.lemmas.List.Elements.{All-drop}
@@ -28,10 +28,11 @@ use Rattle.text_parts.specs.Located.{Told, first_told, in_bytes, located, locate
 use Rattle.text_runs.proofs.FaultLemmas.{pieces_first}
 use Rattle.text_parts.proofs.FrontTold.{byte_last, lacking_units, told_units}
 use Rattle.text_parts.proofs.LocatedLemmas.{located_first, located_none}
+use Rattle.text_parts.proofs.LocatedLists.{told_len}
 use Rattle.text_parts.proofs.MergedFronts.{merged_code, merged_kind}
 use Rattle.text_parts.proofs.UnitFaults.{count_units}
 
--- where an item begins, and whether it is a fault
+-- the offset of an item, and whether it is a fault
 abbrev pub mark : {E : Type 0} → Placed E → ℕ × Bool
 mark x = (x.0, is_err x.1)
 
@@ -42,11 +43,7 @@ told_err : {E : Type 0} (kind : E → FaultKind) (x : Result ℕ E × ℕ) → i
 told_err kind (Ok s, n) = refl
 told_err kind (Err e, n) = refl
 
-told_len : {E : Type 0} (kind : E → FaultKind) (x : Result ℕ E × ℕ) → (told_as kind x).1 ≡ x.1
-told_len kind (Ok s, n) = refl
-told_len kind (Err e, n) = refl
-
--- UTF-8: a merger names a fault otherwise, and nothing else differs.
+-- UTF-8: the kinds that a merger gives may differ, and nothing else does.
 
 pub record IsFrontAlike (w : List ℕ) : Type 0 where
   pub err : is_err (as_piece (decoded_by_merger w)).0 ≡ is_err (as_piece (decoded w)).0
@@ -97,11 +94,11 @@ marks_of_bytes xs small =
 
 -- UTF-16: the pieces of units, each unit of two bytes.
 
--- a mark of units, where the place is that of a byte
+-- a mark of units, with the offset in bytes
 abbrev pub doubled : ℕ × Bool → ℕ × Bool
 doubled x = (2 * x.0, x.1)
 
--- that of an odd last byte, where the first byte stands at a place
+-- the mark of an odd last byte, if the first byte is at an offset
 pub odd_mark : ℕ → List ℕ → List (ℕ × Bool)
 odd_mark place [] = []
 odd_mark place (a ∷ []) = (place, true) ∷ []

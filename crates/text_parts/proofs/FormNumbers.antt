@@ -1,4 +1,4 @@
--- Pieces of bytes of any form by their numbers, from those of bytes and of units.
+-- Pieces of bytes in any encoding by their numbers, derived from those of bytes and of units.
 use Rattle.std.proofs.Common.{◌≡◌, ℕ, ◌+◌, ◌-◌, ◌*◌, ◌%◌, ◌/◌, ◌^◌, ◌<◌, ◌≤◌, ◌⊎◌, Bool, true, false, List, ◌++◌, length, length-append, take, drop, map, get_or, Option, Some, None, Ok, arith, refl, ap, sym, ◌∙◌, inl, inr, ⊎_elim, ap₂, w8, Fits}
 use Rattle.std.proofs.lemmas.Bool.{cases_lt}
 use Rattle.std.proofs.lemmas.List.{get_or-map, get_or_append_left, get_or-append_right, length-map, length-take-le, take_all}
@@ -15,9 +15,8 @@ use Rattle.utf_lanes.specs.BytePairs.{units_of}
 use Rattle.utf_lanes.specs.UnitStarts.{IsUnitStartOf, unit_start_count}
 use Rattle.encode_unicode.specs.Pieces.{pieces, unit_pieces}
 use Rattle.encode_unicode.specs.Window.{Item, Placed, UnitItem}
-use Rattle.recoding.specs.Boundaries.{IsFirstFrom}
 use Rattle.recoding.specs.NextScalars.{HasByteOrder}
-use Rattle.recoding.specs.Shards.{IsShardEnd, IsUnitsEnd}
+use Rattle.recoding.specs.Boundaries.{IsBoundary, IsFirstFrom, IsUnitsEnd}
 use Rattle.recoding.specs.declared.faults.FaultKind.{FaultKind}
 use Rattle.recoding.specs.declared.form.Form.{Form}
 use Rattle.recoding.specs.declared.form.Form.TheVariants.{Utf8, Utf16Le, Utf16Be}
@@ -31,7 +30,7 @@ use Rattle.text_runs.proofs.SplitNumbers.{split_at_boundary, units_split}
 use Rattle.text_runs.proofs.UnitCounts.{units_counted, units_numbered}
 use Rattle.text_parts.proofs.UnitFaults.{count_units}
 
--- Where a piece with a number begins, by its mark.
+-- The offset of the piece with a number, by its mark.
 
 offset_marked : {E : Type 0} (items : List (Placed E)) (number : ℕ) → option_map (λ (x : Placed E). x.0) (slice_get items number) ≡ option_map (λ m. m.0) (slice_get (map mark items) number)
 offset_marked items number = inner (slice_get items number) ∙ sym (ap (option_map (λ (m : ℕ × Bool). m.0)) (slice_get-map mark items number))
@@ -61,7 +60,7 @@ module _ {E F : Type 0} (items : List (Placed E)) (others : List (Placed F)) (sa
         following = λ n d lo hi. rw (place_alike n d some hi) (h.following n some lo (omega (arith, count_alike)));
       }
 
--- Of UTF-8.
+-- The numbers of pieces of UTF-8.
 
 pub bytes_in_form : (xs : List ℕ) → length xs < 2 ^ 64 → length (pieces xs) ≡ length (form_pieces Utf8 xs)
 bytes_in_form xs small = sym (count_alike (form_pieces Utf8 xs) (pieces xs) (marks_of_bytes xs small))
@@ -69,7 +68,7 @@ bytes_in_form xs small = sym (count_alike (form_pieces Utf8 xs) (pieces xs) (mar
 pub bytes_numbered : (xs : List ℕ) → length xs < 2 ^ 64 → (number : ℕ) → option_map (λ (x : Item). x.0) (slice_get (pieces xs) number) ≡ option_map (λ (x : Placed FaultKind). x.0) (slice_get (form_pieces Utf8 xs) number)
 bytes_numbered xs small number = sym (offset_alike (form_pieces Utf8 xs) (pieces xs) (marks_of_bytes xs small) number)
 
--- Of UTF-16.
+-- The numbers of pieces of UTF-16.
 
 -- the units of bytes are units
 pub are_units : (high : Bool) (xs : List ℕ) → ((k : ℕ) → Fits w8 (get_or xs k 0)) → IsUnits (units_of high xs)
@@ -140,7 +139,7 @@ module _ (high : Bool) (from : Form) (form : HasByteOrder high from) (xs : List 
   pub none_numbered : (number : ℕ) → unit_start_count us (length us) + length xs % 2 ≤ number → None ≡ option_map (λ (x : Placed FaultKind). x.0) (slice_get items number)
   none_numbered number le = sym (ap (option_map (λ (x : Placed FaultKind). x.0)) (slice_get_past items number (omega (arith, count_by_starts))))
 
-  -- where the first unit place from m on, and no pair over it, is the end b of a front
+  -- the number at the first unit offset from m on that no pair covers, which is the end b of a front
   pub split_at_end : (m end : ℕ) → IsUnitsEnd high xs end → end ≤ length xs → (m ≤ end) ⊎ (end ≡ length xs) → ((n : ℕ) → n ≤ length xs → m ≤ n → IsUnitsEnd high xs n → end ≤ n)
       → IsSplitAt items m (length (unit_pieces (take (end / 2) us)) + end % 2)
   split_at_end m end is within far first =
@@ -201,7 +200,7 @@ module _ (high : Bool) (from : Form) (form : HasByteOrder high from) (xs : List 
       early (inl le) lt = le
       early (inr e) lt = absurd (omega arith)
 
--- Of any form: what the front that ends at the first boundary from a place on has.
+-- The pieces of any encoding in the front that ends at the first boundary from an offset on.
 
 front_units : (high : Bool) (xs : List ℕ) (end : ℕ) → end ≤ length xs → (end < length xs → end % 2 ≡ 0) → units_of high (take end xs) ≡ take (end / 2) (units_of high xs)
 front_units high xs end le even =
@@ -229,7 +228,7 @@ split_of_units high from form xs small units m end h =
     rw (front_counted high from form xs end h.within small units is.even)
     (split_at_end high from form xs small units m end is h.within (far_or_end h) h.first)
 
-pub form_split : (from : Form) (xs : List ℕ) → length xs < 2 ^ 64 → ((k : ℕ) → Fits w8 (get_or xs k 0)) → (m end : ℕ) → IsFirstFrom (IsShardEnd from xs) (length xs) m end
+pub form_split : (from : Form) (xs : List ℕ) → length xs < 2 ^ 64 → ((k : ℕ) → Fits w8 (get_or xs k 0)) → (m end : ℕ) → IsFirstFrom (IsBoundary from xs) (length xs) m end
     → IsSplitAt (form_pieces from xs) m (length (form_pieces from (take end xs)))
 form_split Utf8 xs small fits m end h =
     let few : length (take end xs) < 2 ^ 64 = omega (arith, length-take-le end xs h.within) in

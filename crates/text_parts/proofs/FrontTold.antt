@@ -1,4 +1,4 @@
--- The piece that begins some bytes, from what a decoding of them answers.
+-- The piece that begins some bytes, derived from the result of decoding them.
 use Rattle.std.proofs.Common.{◌≡◌, ◌≢◌, ℕ, ◌*◌, ◌<◌, ◌≤◌, Bool, eqb, true, false, List, [], ◌∷◌, ◌++◌, length, drop, min, Option, Some, None, Result, Ok, Err, arith, refl, ap, sym, ◌∙◌, append_assoc, length-append}
 use Rattle.std.proofs.lemmas.Grind.{common_steps}
 use Rattle.std.proofs.lemmas.List.{append-nil}
@@ -111,7 +111,7 @@ inner_kind : (x : Option Utf16PairError) (k : Utf16PairError) → option_map kin
 inner_kind None k e = cc
 inner_kind (Some j) k e = cc
 
-some_told : {E : Type 0} (kind : E → FaultKind) (x : Result ℕ E × ℕ) → 1 ≤ x.1 → 1 ≤ (told_as kind x).1
+pub some_told : {E : Type 0} (kind : E → FaultKind) (x : Result ℕ E × ℕ) → 1 ≤ x.1 → 1 ≤ (told_as kind x).1
 some_told kind (Ok s, n) h = h
 some_told kind (Err e, n) h = h
 
@@ -206,7 +206,7 @@ module _ (high : Bool) (from : Form) (form : HasByteOrder high from) where
   pub told_len : (w : List ℕ) → 0 < length w → (n : ℕ) × ((first_told from w).1 ≡ min (2 * n) (length w))
   told_len w some = ((told_as kind.Utf16 (as_piece (decoded_pairs (units_of high w)))).1, ap (λ (y : Told). y.1) (told_units high from w form))
 
-  -- What follows decides.
+  -- The cases in which what follows decides.
 
   pub units_len : (w : List ℕ) → 0 < length w → (1 ≤ (first_told from w).1) × (2 ≤ length w → 2 ≤ (first_told from w).1) × ((first_told from w).1 ≤ length w)
   units_len w some =
@@ -264,7 +264,7 @@ module _ (high : Bool) (from : Form) (form : HasByteOrder high from) where
         ap (first_told from) (append_assoc (written from s) later more) ∙ told_by w (Ok (s, length (utf16 s))) known ∙ ap (λ m. (Ok s, m)) len;
   }
 
--- In each form the code of a scalar begins what begins with it.
+-- In each encoding the code of a scalar begins each list that begins with it.
 pub code_begins : (form : Form) (s : ℕ) (later : List ℕ) → IsScalar s → Begins form (written form s ++ later) (Ok s, length (written form s))
 code_begins =
     by_form _ (λ s later scalar. char_begins (utf8 s ++ later) s (length (utf8 s)) (stands_first utf8 (utf8 s ++ later) later s scalar refl, refl))

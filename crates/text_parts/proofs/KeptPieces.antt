@@ -1,4 +1,4 @@
--- What is written of pieces that are given: of text no fault, and of each fault itself.
+-- The pieces that are written of those that are given: of text no fault, and of each fault the fault itself.
 use Rattle.std.proofs.Common.{◌≡◌, ℕ, suc, ◌+◌, ◌*◌, ◌^◌, ◌<◌, ◌≤◌, true, Bool, List, [], ◌∷◌, ◌++◌, length, get_or, take, drop, flat_map, is_err, Ok, Err, arith, refl, ap, sym, subst, ◌∙◌, append_assoc, length-append, length-drop, length-take, take-append-drop, Fits, w8, IsUtf8}
 use Rattle.std.proofs.Math.Seq.{drop-append_seam}
 use Rattle.std.proofs.lemmas.List.{drop-drop}
@@ -19,7 +19,7 @@ use Rattle.text_parts.specs.Located.{BeginsSomeFault, BeginsKept, Locates, PutsK
 use Rattle.text_parts.proofs.FrontTold.{code_begins}
 use Rattle.text_parts.proofs.LocatedLemmas.{Locates-none, Locates-one, Locates-then, WritesPlaces-none}
 
--- what is kept of faults alone is a fault
+-- if only faults are kept, a kept piece is a fault
 pub fault_where_kept : (form : Form) (w : List ℕ) → BeginsKept faults_alone form w → BeginsSomeFault form w
 fault_where_kept form w (x, b, kept) = (x, b, by x (kept 0))
   where
@@ -54,7 +54,7 @@ text_locates form offset (s ∷ scalars) later all fits =
     let end : wrapped (next + length codes) ≡ wrapped (offset + length (written form s ++ codes)) = omega (arith, length-append (written form s) codes) in
     rw (append_assoc (written form s) codes later, ← end) (Locates-then one rest)
 
--- So a run for faults passes it.
+-- A run for faults skips text.
 pub PutsKept-text : {P : Type 0} {form : Form} {bytes : List ℕ} {room : List P} {at to : Spot} (made : LocatedPiece → P) (n : ℕ) → at.read ≤ length bytes → at.written ≤ length room → at.offset < 2 ^ 64
     → n ≤ length (drop at.read bytes) → IsTextAndHeld form (drop at.read bytes) (drop n (drop at.read bytes)) → to.read ≡ at.read + n → to.written ≡ at.written → to.offset ≡ wrapped (at.offset + n)
     → PutsKept faults_alone made form bytes room room at to
@@ -75,7 +75,7 @@ PutsKept-text {form = form} {bytes = bytes} {room = room} {at = at} {to = to} ma
       within = omega arith;
     }
 
--- What lanes say of text.
+-- The pieces of text that was validated with SIMD.
 
 pub text_then : (bytes : List ℕ) (n : ℕ) → IsUtf8 (take n bytes) → IsTextAndHeld Utf8 bytes (drop n bytes)
 text_then bytes n text =

@@ -10,3 +10,4 @@ pub mod MergedFronts
 pub mod UndecidedLemmas
 pub mod ChangedRangeLemmas
 pub mod UnitFaults
+pub mod WindowFaults

@@ -1,5 +1,6 @@
--- The list of located pieces: its first piece, what decides of it, and runs over bytes that put pieces into a room.
-use Rattle.std.proofs.Common.{◌≡◌, ℕ, zero, suc, ◌+◌, ◌-◌, ◌<◌, ◌≤◌, List, [], ◌∷◌, ◌++◌, get_or, length, take, drop, map, arith, refl, ap, sym, subst, ◌∙◌, append_assoc, length-append, length-drop, length-set, set, Bool, Result, Ok, Err}
+-- The list of located pieces: its first piece, when that is decided, and runs over bytes that write pieces into an
+-- array.
+use Rattle.std.proofs.Common.{◌≡◌, ℕ, zero, suc, ◌+◌, ◌-◌, ◌<◌, ◌≤◌, List, [], ◌∷◌, ◌++◌, get_or, length, take, drop, map, arith, refl, ap, sym, subst, ◌∙◌, append_assoc, length-append, length-drop, length-set, set, Bool, Ok}
 use Rattle.std.proofs.lemmas.List.{append-nil, drop-append-le, drop-drop, drop-set-lt, get_or-drop, get_or-take, length-take-le, map-append, take_more_set, take-append-drop}
 use Rattle.std.specs.Prelude.{slice_range}
 use Rattle.utf_base.specs.Code.{utf8}
@@ -11,7 +12,6 @@ use Rattle.utf_lanes.specs.BytePairs.{units_of}
 use Rattle.encode_unicode.specs.Mergers.{decoded_by_merger}
 use Rattle.encode_unicode.specs.Window.{as_piece}
 use Rattle.encode_unicode.proofs.ForCallers.{some_units}
-use Rattle.recoding.specs.declared.faults.FaultKind.{FaultKind}
 use Rattle.recoding.specs.declared.faults.FaultKind.TheVariants as kind
 use Rattle.recoding.specs.declared.form.Form.{Form}
 use Rattle.recoding.specs.declared.form.Form.TheVariants.{Utf8}
@@ -19,14 +19,10 @@ use Rattle.recoding.proofs.Forms.{by_form}
 use Rattle.text_parts.specs.declared.located.LocatedPiece.{LocatedPiece}
 use Rattle.text_parts.specs.declared.located.Spot.{Spot}
 use Rattle.text_parts.specs.Located.{Begins, KeepsEach, Locates, Puts, PutsKept, Told, WritesPlaces, all_keep_each, at_offset, first_told, in_bytes, located, located_by, told_as, wrapped}
-use Rattle.text_parts.proofs.FrontTold.{char_begins, told_by_units}
+use Rattle.text_parts.proofs.FrontTold.{char_begins, some_told, told_by_units}
 use Rattle.text_parts.proofs.MergedFronts.{some_merged}
 
 -- Each piece has a byte.
-
-some_told : {E : Type 0} (kind : E → FaultKind) (x : Result ℕ E × ℕ) → 1 ≤ x.1 → 1 ≤ (told_as kind x).1
-some_told kind (Ok s, n) h = h
-some_told kind (Err e, n) h = h
 
 some_in_bytes : (high_first : Bool) (w : List ℕ) → 0 < length w → 1 ≤ (in_bytes w (told_as kind.Utf16 (as_piece (decoded_pairs (units_of high_first w))))).1
 some_in_bytes high_first w some =
@@ -37,7 +33,7 @@ pub first_some : (form : Form) (w : List ℕ) → 0 < length w → 1 ≤ (first_
 unfolding first_told
 first_some = by_form _ (λ w some. some_told kind.Utf8 (as_piece (decoded_by_merger w)) (some_merged w)) (λ high w some. rw (told_by_units high w) (some_in_bytes high w some))
 
--- So as many pieces as there are bytes are all.
+-- As many pieces as there are bytes are all of them.
 
 same_by : (form : Form) (n m offset : ℕ) (w : List ℕ) → length w ≤ n → length w ≤ m → located_by n form offset w ≡ located_by m form offset w
 unfolding located_by
@@ -53,7 +49,7 @@ same_by form (suc n) (suc m) offset (b ∷ w) h k =
     let left = length-drop x.1 (b ∷ w) in
     ap (λ ps. at_offset offset x ∷ ps) (same_by form n m (wrapped (offset + x.1)) (drop x.1 (b ∷ w)) (omega arith) (omega arith))
 
--- One piece, and then those of what it leaves.
+-- One piece, and then the pieces of the rest.
 
 pub located_first : (form : Form) (offset : ℕ) (w : List ℕ) → 0 < length w
     → located form offset w ≡ at_offset offset (first_told form w) ∷ located form (wrapped (offset + (first_told form w).1)) (drop (first_told form w).1 w)
@@ -69,7 +65,7 @@ pub located_none : (form : Form) (offset : ℕ) → located form offset [] ≡ [
 unfolding located located_by
 located_none form offset = refl
 
--- Whatever follows.
+-- Pieces that are the same whatever follows.
 
 pub Locates-none : (form : Form) (offset : ℕ) (w : List ℕ) → Locates form offset w [] offset w
 Locates-none form offset w = record { same = λ later. refl }
@@ -91,12 +87,7 @@ Locates-then {form} {last = last} {u = u} {xs = xs} {ys = ys} a b = record {
   same = λ later. a.same later ∙ ap (λ z. xs ++ z) (b.same later) ∙ sym (append_assoc xs ys (located form last (u ++ later)));
 }
 
-pub Locates-before : {form : Form} {offset next : ℕ} {w v : List ℕ} {xs : List LocatedPiece} (more : List ℕ) → Locates form offset w xs next v → Locates form offset (w ++ more) xs next (v ++ more)
-Locates-before {form} {offset} {next} {w} {v} {xs} more a = record {
-  same = λ later. ap (located form offset) (append_assoc w more later) ∙ a.same (more ++ later) ∙ ap (λ z. xs ++ located form next z) (sym (append_assoc v more later));
-}
-
--- What begins some bytes begins them and more.
+-- The piece that begins some bytes begins them and more.
 pub Begins-before : {form : Form} {w : List ℕ} {x : Told} (more : List ℕ) → Begins form w x → Begins form (w ++ more) x
 Begins-before {form} {w} {x} more b = record {
   some = b.some;
@@ -108,7 +99,7 @@ Begins-before {form} {w} {x} more b = record {
 pub Begins-all : {form : Form} {x : Told} (n : ℕ) (w : List ℕ) → Begins form (take n w) x → Begins form w x
 Begins-all {form} {x} n w b = subst (λ v. Begins form v x) (take-append-drop n w) (Begins-before (drop n w) b)
 
--- Places that are written, one after another.
+-- Elements that are written, one after another.
 
 pub WritesPlaces-none : {P : Type 0} (room : List P) (n : ℕ) → n ≤ length room → WritesPlaces [] room room n n
 WritesPlaces-none room n within = record { on = omega arith; fits = within; front = sym (append-nil (take n room)); rest = refl; len = refl }
@@ -183,7 +174,7 @@ PutsKept-piece {form = form} {bytes = bytes} {at = at} x b there writes read off
       within = omega arith;
     }
 
--- The same of all pieces.
+-- Runs that write all pieces.
 
 pub Puts-none : {P : Type 0} (made : LocatedPiece → P) (form : Form) (bytes : List ℕ) (room : List P) (at : Spot) → at.read ≤ length bytes → at.written ≤ length room
     → Puts made form bytes room room at at
@@ -193,7 +184,7 @@ pub Puts-then : {P : Type 0} {made : LocatedPiece → P} {form : Form} {bytes : 
     → Puts made form bytes room new at to → Puts made form bytes old new from to
 Puts-then a b = PutsKept-then all_keep_each a b
 
--- one piece more
+-- one more piece
 pub Puts-one : {P : Type 0} {made : LocatedPiece → P} {form : Form} {bytes : List ℕ} {old room : List P} {from at to : Spot} {piece : P} (x : Told) → Puts made form bytes old room from at
     → Begins form (drop at.read bytes) x → at.written < length room → piece ≡ made (at_offset at.offset x)
     → to.read ≡ at.read + x.1 → to.written ≡ at.written + 1 → to.offset ≡ wrapped (at.offset + x.1) → Puts made form bytes old (set room at.written piece) from to
@@ -220,7 +211,7 @@ ascii_begins bytes place lt low =
     let (stands, len) = ascii_stands_alone (drop place bytes) 0 some (rw there low) in
     rw there at (char_begins (drop place bytes) (get_or (drop place bytes) 0 0) 1 (stands, len))
 
--- What is a character by four bytes is one by all.
+-- A character that begins four bytes begins all of them.
 pub four_begin : (bytes : List ℕ) (place s n : ℕ) → BeginsWith utf8 (slice_range bytes place (place + 4)) s n → Begins Utf8 (drop place bytes) (Ok s, n)
 four_begin bytes place s n h =
     let span : place + 4 - place ≡ 4 = omega arith in

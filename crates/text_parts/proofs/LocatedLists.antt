@@ -15,13 +15,13 @@ use Rattle.text_parts.specs.Located.{at_offset, first_told, located, located_by,
 use Rattle.text_parts.specs.LocatedLaws.{LocatedAreMerged, NoPieceComesEarlier, PartsAreLocated}
 use Rattle.text_parts.proofs.LocatedLemmas.{located_first, located_none}
 
--- A merger's answers.
+-- A merger's results.
 
 told_answer : {E : Type 0} (kind : E → FaultKind) (x : Result ℕ E × ℕ) → (told_as kind x).0 ≡ result_map_both (λ s. s) kind x.0
 told_answer kind (Ok s, n) = refl
 told_answer kind (Err e, n) = refl
 
-told_len : {E : Type 0} (kind : E → FaultKind) (x : Result ℕ E × ℕ) → (told_as kind x).1 ≡ x.1
+pub told_len : {E : Type 0} (kind : E → FaultKind) (x : Result ℕ E × ℕ) → (told_as kind x).1 ≡ x.1
 told_len kind (Ok s, n) = refl
 told_len kind (Err e, n) = refl
 
@@ -49,7 +49,7 @@ parts_are_located d (part ∷ parts) given (e, here, later, locates, form, rest,
     let same : located e.form e.offset (e.held ++ concat parts) ≡ located d.form e.offset (e.held ++ concat parts) = ap (λ f. located f e.offset (e.held ++ concat parts)) form in
     both ∙ ap (λ ps. here ++ ps) (ih ∙ same) ∙ sym (locates.same (concat parts)) ∙ ap (located d.form d.offset) (append_assoc d.held part (concat parts))
 
--- No piece earlier.
+-- No piece can be given earlier.
 
 no_more : (xs ys : List LocatedPiece) (us vs : List LocatedPiece) → xs ++ us ≡ ys ++ vs → us ≡ [] → length ys ≤ length xs
 no_more xs ys us vs e none =

@@ -1,4 +1,4 @@
--- What a merger answers first for some bytes, whatever follows them, and where it has to wait for those.
+-- The first result of a merger for some bytes, whatever follows them, and when it depends on what follows.
 use Rattle.std.proofs.Common.{◌≡◌, ◌≢◌, ℕ, ◌<◌, ◌≤◌, ⊎_elim, List, [], ◌∷◌, ◌++◌, length, get_or, Option, Some, None, Ok, Err, arith, refl, ap, sym, ◌∙◌, length-append, true, false, Bool, add-zero, ltb, leb, not, ◌||◌}
 use Rattle.std.proofs.lemmas.Bool.{cases_lt}
 use Rattle.std.proofs.Math.Bool.{or-false}
@@ -41,11 +41,11 @@ some_merged w = by_kind (merger_kind w) refl
         rw (merged_code w (value w) s.0) (omega arith)
     by_kind (Some k) e = rw (merged_kind w k e) (omega arith)
 
--- the code of a scalar decides
+-- the code of a scalar is decided
 pub code_later : (w later : List ℕ) (s : ℕ) → Stands utf8 w 0 s → decoded_by_merger (w ++ later) ≡ Ok (s, length (utf8 s))
 code_later w later s h = merged_code (w ++ later) s (stands_on utf8 w later s h)
 
--- so does a kind that is not that of too few bytes
+-- a kind other than that of too few bytes is decided
 pub kind_later : (w later : List ℕ) (k : Utf8ErrorKind) → fault_kind w ≡ Some k → k ≢ TooFewBytes → decoded_by_merger (w ++ later) ≡ Err k
 kind_later w later k h other =
     ⊎_elim
@@ -60,7 +60,7 @@ kind_later w later k h other =
     (λ (none : length w ≤ 0). let is = kind-empty w (omega arith) in absurd (other (let e = sym h ∙ is in cc)))
     (cases_lt 0 (length w))
 
--- and a byte that breaks a code
+-- a byte that breaks a code is decided
 breaks_within : (w : List ℕ) (k : ℕ) → breaks_at w k ≡ true → k < length w
 breaks_within w k e = grind (arith, common_steps)
 
@@ -90,7 +90,7 @@ broken_some w e = grind (arith, common_steps)
 pub broken_decides : (w later : List ℕ) → is_broken w ≡ true → decoded_by_merger (w ++ later) ≡ Err InterruptedSequence
 broken_decides w later e = merged_kind (w ++ later) InterruptedSequence (broken_kind (w ++ later) (broken_later w later e))
 
--- where no byte breaks it, and some are missing, an `A` does
+-- if no byte breaks it, and some are missing, an `A` does
 alone : (w : List ℕ) → fault_kind w ≡ Some TooFewBytes → is_broken w ≡ false → decoded_by_merger w ≡ Err TooFewBytes
 alone w h e = merged_kind w TooFewBytes (unbroken_kind w e ∙ h)
 
@@ -121,7 +121,7 @@ before_a w some few =
     merged_kind (w ++ 0x41 ∷ []) InterruptedSequence
     (broken_kind (w ++ 0x41 ∷ []) (one_of_three (breaks_at (w ++ 0x41 ∷ []) 1) _ _ (length w) (λ e. breaks_there w 1 (omega arith) e (omega arith)) (λ e. breaks_there w 2 (omega arith) e (omega arith)) (λ e. breaks_there w 3 (omega arith) e (omega arith)) some (omega arith)))
 
--- so what follows decides
+-- the result for too few bytes that none breaks depends on what follows
 pub few_are_open : (w : List ℕ) → fault_kind w ≡ Some TooFewBytes → is_broken w ≡ false → 0 < length w → (decoded_by_merger (w ++ []) ≡ Err TooFewBytes) × (decoded_by_merger (w ++ 0x41 ∷ []) ≡ Err InterruptedSequence)
 few_are_open w h e some = (rw (append-nil w) (alone w h e), before_a w some (asks_for_more w h some))
 

@@ -1,5 +1,5 @@
--- The undecided end of some bytes: four bytes decide of a piece, so a run comes up to each place near the end over which no code lies;
--- and how many bytes are left after all that is decided.
+-- The undecided end of some bytes: four bytes decide a piece, so a run reaches each offset near the end that no code
+-- covers; and the number of bytes that are left after all that is decided.
 use Rattle.std.proofs.Common.{◌≡◌, ◌≢◌, ℕ, zero, suc, ◌+◌, ◌-◌, ◌*◌, ◌/◌, ◌%◌, ◌<◌, ◌≤◌, ⊎_elim, Bool, true, false, List, [], ◌∷◌, ◌++◌, length, length-append, length-drop, drop, Option, Some, None, Ok, Err, arith, refl, ap, ap₂, sym, subst, ◌∙◌}
 use Rattle.std.proofs.lemmas.Bool.{cases_lt}
 use Rattle.std.proofs.lemmas.List.{append-nil, drop-drop}
@@ -18,7 +18,7 @@ use Rattle.utf_lanes.specs.BytePairs.{units_of}
 use Rattle.encode_unicode.specs.Mergers.{decoded_by_merger}
 use Rattle.encode_unicode.specs.Window.{as_piece}
 use Rattle.recoding.specs.NextScalars.{HasByteOrder}
-use Rattle.recoding.specs.Shards.{IsShardEnd, IsUnitsEnd}
+use Rattle.recoding.specs.Boundaries.{IsBoundary, IsUnitsEnd}
 use Rattle.recoding.specs.declared.faults.FaultKind.TheVariants as kind
 use Rattle.recoding.specs.declared.form.Form.{Form}
 use Rattle.recoding.specs.declared.form.Form.TheVariants.{Utf8}
@@ -27,7 +27,7 @@ use Rattle.recoding.proofs.Forms.{by_form, is_units}
 use Rattle.recoding.proofs.FirstPieces.{BeginsFault-trailing, BeginsFault-unmatched}
 use Rattle.recoding.proofs.FrontBytes.{first_unit, second_unit, units_next, units_two}
 use Rattle.recoding.proofs.JoinedShards.{even_units, units_within}
-use Rattle.recoding.proofs.ShardEnds.{stands_in_list}
+use Rattle.recoding.proofs.LastBoundaries.{stands_in_list}
 use Rattle.text_parts.specs.declared.located.LocatedPiece.{LocatedPiece}
 use Rattle.text_parts.specs.Located.{Begins, IsOpen, Locates, Told, at_offset, first_told, located, located_by, told_as, wrapped}
 use Rattle.text_parts.specs.UndecidedEnds.{IsLenOfHeld, IsUndecidedEnd, LocatesFront}
@@ -44,13 +44,13 @@ LocatesFront-none form offset w = ([], offset, Locates-none form offset w)
 pub LocatesFront-then : {form : Form} {w v : List ℕ} {x : Told} (offset : ℕ) → LocatesFront form offset w v → Begins form v x → LocatesFront form offset w (drop x.1 v)
 LocatesFront-then {form} {w} {v} {x} offset (given, next, a) b = (given ++ at_offset next x ∷ [], wrapped (next + x.1), Locates-then a (Locates-one next b))
 
--- The piece that begins the bytes from a place on ends up to another, whatever follows them.
+-- The piece that begins the bytes from an offset on ends up to another, whatever follows them.
 pub record EndsBy (form : Form) (bytes : List ℕ) (p end : ℕ) : Type 0 where
   pub piece : Told
   pub begins : Begins form (drop p bytes) piece
   pub fits : p + piece.1 ≤ end
 
--- Where that is so at each place that a run comes to, it comes to the other place.
+-- If that is so at each offset that a run reaches, it reaches the other offset.
 module _ (form : Form) (bytes : List ℕ) (end : ℕ) (IsStart : ℕ → Type 0) (ends : (p : ℕ) → p < end → IsStart p → EndsBy form bytes p end)
     (on : (p : ℕ) (lt : p < end) (s : IsStart p) → IsStart (p + (ends p lt s).piece.1)) where
   run_to : (fuel p offset : ℕ) → end ≤ p + fuel → p ≤ end → IsStart p → LocatesFront form offset (drop p bytes) (drop end bytes)
@@ -103,13 +103,13 @@ module _ (bytes : List ℕ) (end : ℕ) (near : end + 3 ≤ length bytes) (outsi
 
 -- UTF-16.
 
--- the same of units, two bytes each
+-- the units that begin the bytes from an offset on, two bytes each, end up to another, whatever follows them
 pub record EndsByUnits (form : Form) (bytes : List ℕ) (p end : ℕ) : Type 0 where
   pub by : EndsBy form bytes p end
   pub even : by.piece.1 % 2 ≡ 0
 
 module _ (high : Bool) (from : Form) (form : HasByteOrder high from) (bytes : List ℕ) (end : ℕ) (even_end : end % 2 ≡ 0) (at_end : IsUnitsEnd high bytes end) where
-  -- the units from a place of the run on
+  -- the units from an offset of the run on
   module _ (p : ℕ) (lt : p < end) (even : p % 2 ≡ 0) (four : 4 ≤ length (drop p bytes)) where
     two : 2 ≤ length (drop p bytes)
     two = omega arith
@@ -179,22 +179,22 @@ module _ (high : Bool) (from : Form) (form : HasByteOrder high from) (bytes : Li
   units_front offset =
       run_to from bytes end (λ p. p % 2 ≡ 0) (λ p lt even. (units_end_near p lt even).by) (λ p lt even. let one = (units_end_near p lt even).even in omega arith) end 0 offset (omega arith) (omega arith) refl
 
--- Each form.
+-- Each encoding.
 
-front_located : (form : Form) (bytes : List ℕ) (end offset : ℕ) → end + 3 ≤ length bytes → IsShardEnd form bytes end → LocatesFront form offset bytes (drop end bytes)
+front_located : (form : Form) (bytes : List ℕ) (end offset : ℕ) → end + 3 ≤ length bytes → IsBoundary form bytes end → LocatesFront form offset bytes (drop end bytes)
 front_located =
     by_form _ (λ bytes end offset near h. utf8_front bytes end near h offset)
-    (λ high bytes end offset near h. units_front high (utf16_form high) refl bytes end near (rw (is_units high, IsShardEnd) at h) offset)
+    (λ high bytes end offset near h. units_front high (utf16_form high) refl bytes end near (rw (is_units high, IsBoundary) at h) offset)
 
--- A run comes to such a place that is three bytes before the end, or more, or at the front.
-pub front_near_end : (form : Form) (bytes : List ℕ) (end offset : ℕ) → end ≤ length bytes - 3 → IsShardEnd form bytes end → LocatesFront form offset bytes (drop end bytes)
+-- A run reaches such an offset that is three bytes before the end, or more, or at the front.
+pub front_near_end : (form : Form) (bytes : List ℕ) (end offset : ℕ) → end ≤ length bytes - 3 → IsBoundary form bytes end → LocatesFront form offset bytes (drop end bytes)
 front_near_end form bytes end offset near h =
     ⊎_elim
     (λ (some : 0 < end). front_located form bytes end offset (omega arith) h)
     (λ (none : end ≤ 0). let e : 0 ≡ end = omega arith in subst (λ k. LocatesFront form offset bytes (drop k bytes)) e (LocatesFront-none form offset bytes))
     (cases_lt 0 end)
 
--- How many bytes pieces have.
+-- The length of pieces in bytes.
 
 merged_within : (w : List ℕ) (k : Option Utf8ErrorKind) → 0 < length w → merger_kind w ≡ k → (told_as kind.Utf8 (as_piece (decoded_by_merger w))).1 ≤ length w
 merged_within w None some e =
@@ -234,7 +234,7 @@ same_rest [] (y ∷ ys) us vs e h = absurd (omega arith)
 same_rest (x ∷ xs) [] us vs e h = absurd (omega arith)
 same_rest (x ∷ xs) (y ∷ ys) us vs e h = same_rest xs ys us vs (omega arith) (ap (drop 1) h)
 
--- Two that give all that is decided leave as many bytes.
+-- Two runs that give all that is decided leave the same number of bytes.
 same_left : (form : Form) (offset next other_next : ℕ) (bytes held left : List ℕ) (given other : List LocatedPiece) → Locates form offset bytes given next held → (0 < length held → IsOpen form held)
     → Locates form offset bytes other other_next left → (0 < length left → IsOpen form left) → length held ≡ length left
 same_left form offset next other_next bytes held left given other a waits b waits_too =
@@ -254,7 +254,7 @@ one_end form bytes n h offset next given held a waits =
     let same = same_left form offset next other_next bytes held (drop (length bytes - n) bytes) given other a waits b is_open in
     omega arith
 
--- The end, where a run has come to its front.
+-- The end, if a run has reached its front.
 
 pub end_open : (form : Form) (bytes : List ℕ) (place : ℕ) → place < length bytes → length (drop place bytes) ≤ 3 → ((offset : ℕ) → LocatesFront form offset bytes (drop place bytes)) → IsOpen form (drop place bytes)
     → IsUndecidedEnd form bytes (length bytes - place)

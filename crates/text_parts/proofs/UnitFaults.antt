@@ -18,7 +18,7 @@ use Rattle.text_runs.specs.WellFormed.{IsFirstFault, BeginsUnits, NoUnitsBegin, 
 use Rattle.recoding.proofs.FirstFaults.{IsGoodTo, good_all, good_units}
 use Rattle.recoding.proofs.GoodCodes.{good_front_codes}
 
--- What begins the bytes.
+-- The piece that begins the bytes.
 
 one_unit : (high : Bool) (w : List ℕ) → 2 ≤ length w → length w < 4 → units_of high w ≡ unit_of high (get_or w 0 0) (get_or w 1 0) ∷ []
 one_unit high [] some few = absurd (omega arith)
@@ -35,7 +35,7 @@ two_units high (a ∷ b ∷ []) h = absurd (omega arith)
 two_units high (a ∷ b ∷ c ∷ []) h = absurd (omega arith)
 two_units high (a ∷ b ∷ c ∷ d ∷ w) h = (units_of high w, refl)
 
--- two units decide what begins a list of them
+-- two units decide the piece that begins a list of them
 front_of_two : (u v : ℕ) (ys : List ℕ) (s : ℕ) → Stands utf16 (u ∷ v ∷ []) 0 s → Stands utf16 (u ∷ v ∷ ys) 0 s
 front_of_two u v ys s h = (stands_in_whole utf16 (u ∷ v ∷ ys) 0 2 0 0 s refl (omega arith) (omega arith) h).0
 
@@ -65,7 +65,7 @@ module _ (high : Bool) (w : List ℕ) where
   pub none_begins_two : (k : Utf16SliceError) → 4 ≤ length w → slice_fault (unit_of high (get_or w 0 0) (get_or w 1 0) ∷ unit_of high (get_or w 2 0) (get_or w 3 0) ∷ []) ≡ Some k → NoUnitsBegin high w
   none_begins_two k four e _ = let two = two_units high w four in rw two.1 (λ s h. no_units_where_fault _ k s e (in_two _ _ two.0 s h))
 
--- How far bytes are well-formed.
+-- The length of the well-formed front of bytes.
 
 pub count_units : (high : Bool) (bytes : List ℕ) → (2 * length (units_of high bytes) ≤ length bytes) × (length bytes ≤ 2 * length (units_of high bytes) + 1)
 count_units high [] = (omega arith, omega arith)
@@ -77,13 +77,13 @@ good_where_none xs i g lt none =
     let f = front_fault utf16 xs i (length xs) g.outside (outside_end utf16 xs) lt (omega arith) (λ s h. none s (rw (take_rest xs i) at h)) in
     record { within = g.within; none = g.none; fault = λ _. f.0 }
 
--- no fault begins before the place, which is that of a unit
+-- no fault begins before the offset, which is that of a unit
 pub record IsGoodToUnit (high : Bool) (bytes : List ℕ) (n : ℕ) : Type 0 where
   pub within : n ≤ length bytes
   pub even : n ≡ 2 * (n / 2)
   pub good : IsGoodTo utf16 (units_of high bytes) (n / 2)
 
--- codes have none
+-- codes have no fault
 pub good_unit_codes : (high : Bool) (bytes : List ℕ) (k : ℕ) → 2 * k ≤ length bytes → AreCodes (units_of high (take (2 * k) bytes)) → IsGoodToUnit high bytes (2 * k)
 good_unit_codes high bytes k within codes =
     let half : 2 * k / 2 ≡ k = omega arith in

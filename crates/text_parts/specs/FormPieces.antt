@@ -1,4 +1,4 @@
--- The pieces of bytes of any form, as a decoder of parts gives them where it is fed all at once.
+-- The pieces of bytes in any encoding, as a decoder of parts gives them if it is fed all of them in one call.
 use Rattle.std.specs.Prelude.{ℕ, List, map}
 use Rattle.encode_unicode.specs.Window.{Placed}
 use Rattle.recoding.specs.declared.faults.FaultKind.{FaultKind}
@@ -6,10 +6,10 @@ use Rattle.recoding.specs.declared.form.Form.{Form}
 use Rattle.text_parts.specs.declared.located.LocatedPiece.{LocatedPiece}
 use Rattle.text_parts.specs.Located.{located}
 
--- a located piece, laid out as those of a decoder of bytes are
+-- a located piece, laid out like the pieces of a decoder of bytes
 abbrev pub placed : LocatedPiece → Placed FaultKind
 placed piece = (piece.offset, piece.answer, piece.len)
 
--- all pieces of bytes of that form. Of UTF-16 a unit has two bytes, and an odd last byte is a piece.
+-- all pieces of bytes of that encoding. Of UTF-16 a unit has two bytes, and an odd last byte is a piece.
 abbrev pub form_pieces : Form → List ℕ → List (Placed FaultKind)
 form_pieces form bytes = map placed (located form 0 bytes)

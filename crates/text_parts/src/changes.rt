@@ -1,10 +1,9 @@
-//! Where pieces may have changed after an edit: what to decode again.
+//! The range in which pieces may have changed after an edit: what to decode again.
 ghost use Rattle.std.specs.Prelude.{◌+◌, ◌≤◌, length, min};
 ghost use Rattle.text_parts.specs.ChangedRanges.{IsChangedRange};
 
-use recoding::boundaries::boundary_after;
+use recoding::boundaries::{boundary_after, boundary_before};
 use recoding::form::Form;
-use recoding::shards::shard_end;
 
 /// A part of some bytes: those from `start` up to `end`, `end` not included.
 #[derive(Clone, Copy, Debug, PartialEq, Eq, Drop)]
@@ -15,15 +14,15 @@ pub struct ChangedRange {
     pub end: usize,
 }
 
-/// The part of a text outside of which all characters and invalid bytes stay, if the bytes from `start` up to `end` are replaced by
-/// any others. What was decoded before `start` of the result stays as it is, and what was decoded from its `end` on moves with its
-/// bytes. Its ends are at most six bytes away from `start` and `end`.
+/// The range of a text outside of which all characters and invalid bytes stay, if the bytes from `start` up to `end`
+/// are replaced by any others. What was decoded before `start` of the result stays as it is, and what was decoded
+/// from its `end` on moves with its bytes. Its ends are at most six bytes away from `start` and `end`.
 ///
-/// `bytes` is the text before the change or after it, with `start` and `end` as they are in it: the same holds both ways. After an
-/// edit give the new text, with where the new bytes are, and decode the result again.
+/// `bytes` is the text before the change or after it, with `start` and `end` as they are in it: the call works both
+/// ways. After an edit pass the new text, with the range of the new bytes, and decode the result again.
 ///
-/// In UTF-16, if the length changes by an odd number of bytes, all from `start` of the result on may change. Offsets above the
-/// length count as the length, and a `start` above `end` counts as `end`.
+/// In UTF-16, if the length changes by an odd number of bytes, everything from `start` of the result on may change.
+/// Offsets above the length count as the length, and a `start` above `end` counts as `end`.
 ///
 /// Cost: constant; some bytes around both ends are read.
 pub fn changed_range(form: Form, bytes: &[u8], start: usize, end: usize) -> ChangedRange
@@ -34,7 +33,7 @@ pub fn changed_range(form: Form, bytes: &[u8], start: usize, end: usize) -> Chan
     let end = end.min(bytes.len());
     let start = start.min(end);
     ChangedRange {
-        start: shard_end(form, bytes, start.saturating_sub(3)),
+        start: boundary_before(form, bytes, start.saturating_sub(3)),
         end: boundary_after(form, bytes, end.saturating_add(3)),
     }
 }

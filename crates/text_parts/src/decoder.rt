@@ -1,8 +1,8 @@
-//! A decoder for input that comes in parts, which may be cut anywhere, also inside of a character: the pieces of all of it, each
-//! with its offset.
+//! A decoder for input that comes in parts, which may be cut anywhere, also inside a character: the pieces of all of
+//! it, each with its offset.
 ghost use Rattle.std.specs.Prelude.{◌≡◌, ◌<◌, ◌≤◌, ◌+◌, ◌-◌, ◌^◌, [], ◌++◌, length, take, drop, get_or, min, IsTrue, IsFalse, IfSome, IfNone};
 ghost use Rattle.recoding.specs.Recoded.{most_held};
-ghost use Rattle.text_parts.specs.Located.{BeginsKept, Decoding, FeedsFaults, FeedsKept, FeedsPieces, FeedsRest, FinishesFaults, FinishesKept, FinishesPieces, HasNoPlace, HasNoPlaceFor, HasNoPlaceForFault, IsOpen, IsWithin, wrapped};
+ghost use Rattle.text_parts.specs.Located.{BeginsKept, Decoding, FeedsFaults, FeedsKept, FeedsPieces, FeedsRest, FinishesFaults, FinishesKept, FinishesPieces, HasNoPlace, HasNoPlaceFor, HasNoPlaceForFault, IsKept, IsOpen, IsWithin, faults_alone, first_told, wrapped};
 
 use crate::first_pieces::{front_of, last_front};
 use crate::located::{FromPiece, Spot};
@@ -10,14 +10,14 @@ use crate::piece_runs::{AllPieces, FaultsAlone, Kept, put_run, write_piece};
 use recoding::form::Form;
 use std::marker::Model;
 
-/// Divides input that comes in parts into pieces, characters and invalid bytes, each with its
-/// offset. It takes no memory, and holds at most three bytes between calls.
+/// Divides input that comes in parts into pieces, characters and invalid bytes, each with its offset. It does
+/// not allocate, and carries over at most three bytes between calls.
 ///
-/// The pieces do not depend on how the input is divided into parts. Errors are those of
-/// `Utf8CharMerger`, which differ from those of a slice in one case: where the input ends before the
-/// bytes that a lead byte asks for, and one of those that are there is no continuation byte, as in
-/// `F0 41`, the kind is `InterruptedSequence` and not `TooFewBytes`. In UTF-16 a lone surrogate is
-/// one piece of two bytes, and an odd byte at the end is one of its own, `Incomplete`.
+/// The pieces do not depend on how the input is divided into parts. Errors are those of `Utf8CharMerger`,
+/// which differ from those of a slice in one case: if the input ends before the bytes that a lead byte asks
+/// for, and one of those that are there is no continuation byte, as in `F0 41`, the kind is
+/// `InterruptedSequence` and not `TooFewBytes`. In UTF-16 a lone surrogate is one piece of two bytes, and an
+/// odd byte at the end is one of its own, `Incomplete`.
 #[derive(Debug, Drop)]
 pub struct Decoder {
     count: usize,
@@ -37,19 +37,19 @@ impl Model for Decoder {
     ghost invariant = { λ d. d.count ≤ 3 };
 }
 
-/// How far a call of a `Decoder`, or of `faults_into`, came.
+/// The progress of a call of a `Decoder`, or of `faults_into`.
 #[derive(Clone, Copy, Debug, PartialEq, Eq, Drop)]
 pub struct Fed {
-    /// How many bytes of the part were read.
+    /// The number of bytes of the part that were read.
     pub read: usize,
-    /// How many pieces were written, from the front of the room.
+    /// The number of pieces that were written, from the front of the array.
     pub written: usize,
-    /// Whether the room was full before a piece that is known already.
+    /// Whether the array was full before a piece that is known already.
     pub is_full: bool,
 }
 
 impl Decoder {
-    /// A decoder that holds nothing. The first byte of the input has the offset 0.
+    /// A decoder that carries over nothing. The first byte of the input has the offset 0.
     pub fn new(form: Form) -> Decoder
         ensures { result ≡ record { form = form; held = []; offset = 0 } }
     {
@@ -61,7 +61,7 @@ impl Decoder {
         }
     }
 
-    /// A decoder that holds these bytes, the first of which has this offset.
+    /// A decoder that carries over these bytes, the first of which has this offset.
     ///
     /// Condition: there are at most three.
     #[inline(always)]
@@ -74,7 +74,7 @@ impl Decoder {
         decoder
     }
 
-    /// The form of the input.
+    /// The encoding of the input.
     #[inline(always)]
     pub fn form(&self) -> Form
         ensures { result ≡ self.now.form }
@@ -83,7 +83,7 @@ impl Decoder {
         *form
     }
 
-    /// The bytes that it holds, at most three.
+    /// The carried-over bytes, at most three.
     #[inline(always)]
     pub fn held(&self) -> &[u8]
         ensures bytes { result.now ≡ self.now.held }
@@ -92,7 +92,7 @@ impl Decoder {
         &self.held[..self.count]
     }
 
-    // How many bytes it holds.
+    // The number of carried-over bytes.
     #[inline(always)]
     fn held_len(&self) -> usize
         ensures len { result ≡ length self.now.held }
@@ -101,7 +101,7 @@ impl Decoder {
         self.count
     }
 
-    /// The offset of the first byte that it holds or will read.
+    /// The offset of the first byte that is carried over or will be read next.
     #[inline(always)]
     pub fn offset(&self) -> u64
         ensures { result ≡ self.now.offset }
@@ -110,7 +110,7 @@ impl Decoder {
         *offset
     }
 
-    // Holds these bytes and no others.
+    // Replaces the carried-over bytes.
     #[inline(always)]
     fn hold(&mut self, bytes: &[u8])
         requires { length bytes.now ≤ 3 }
@@ -120,7 +120,7 @@ impl Decoder {
         self.hold_at(bytes, offset);
     }
 
-    // Holds these bytes and no others, the first of which has this offset.
+    // Replaces the carried-over bytes, and sets the offset of the first.
     #[inline(always)]
     fn hold_at(&mut self, bytes: &[u8], offset: u64)
         requires { length bytes.now ≤ 3 }
@@ -131,13 +131,13 @@ impl Decoder {
         self.held = three_of(bytes);
     }
 
-    /// Takes the next part, and writes its pieces, from the front of the room on. The other places
-    /// stay.
+    /// Takes the next part, and writes its pieces, from the front of the array on. The rest of the array is
+    /// unchanged.
     ///
-    /// The part may end anywhere. Its last bytes are held, at most three, as long as the bytes after
-    /// them decide which piece they begin. If `is_full` is true, the room is full, and the next piece
-    /// is known already: empty the room, and feed the bytes after those that were read, even if there
-    /// are none. Else all of the part was read.
+    /// The part may end anywhere. Its last bytes are carried over, at most three, as long as the bytes after
+    /// them decide which piece they begin. If `is_full` is true, the array is full, and the next piece is
+    /// known already: empty the array, and feed the bytes after those that were read, even if there are none.
+    /// Otherwise all of the part was read.
     ///
     /// Cost: O(n) in what is read.
     pub fn feed<P: FromPiece>(&mut self, part: &[u8], room: &mut [P]) -> Fed
@@ -150,10 +150,11 @@ impl Decoder {
         self.feed_kept::<AllPieces, P>(part, room)
     }
 
-    /// The same, but writes the invalid bytes alone: those of the pieces that `feed` writes which are no characters. Text is passed
-    /// as fast as `valid_up_to` goes over it. If `is_full` is true, the next invalid byte is known already.
+    /// Takes the next part as `feed` does, but writes only the invalid bytes: those of the pieces that `feed` writes
+    /// which are no characters. Text is scanned as fast as by `valid_up_to`. If `is_full` is true, the next invalid
+    /// byte is known already.
     ///
-    /// Calls of this and of `feed` may be mixed: what is held afterwards, and the offset, are the same.
+    /// Calls of this and of `feed` may be mixed: both carry over the same bytes, and leave the same offset.
     ///
     /// Cost: O(n) in what is read.
     pub fn feed_faults<P: FromPiece>(&mut self, part: &[u8], room: &mut [P]) -> Fed
@@ -166,9 +167,9 @@ impl Decoder {
         self.feed_kept::<FaultsAlone, P>(part, room)
     }
 
-    // The same of the pieces that are kept.
+    // Takes the next part, and writes the pieces that are kept.
     #[inline(always)]
-    fn feed_kept<K: Kept, P: FromPiece>(&mut self, part: &[u8], room: &mut [P]) -> Fed
+    pub fn feed_kept<K: Kept, P: FromPiece>(&mut self, part: &[u8], room: &mut [P]) -> Fed
         ensures feeds { FeedsKept K.kept P.made self.old part.now room.old room.new result.read result.written self.new }
         ensures full { IsTrue result.is_full →
             HasNoPlaceFor K.kept self.new part.now result.read result.written (length room.old) }
@@ -186,7 +187,7 @@ impl Decoder {
         self.feed_joined::<K, P>(part, room)
     }
 
-    // The same where something is held.
+    // Takes the next part if bytes are carried over, and writes the pieces that are kept.
     #[inline(never)]
     fn feed_joined<K: Kept, P: FromPiece>(&mut self, part: &[u8], room: &mut [P]) -> Fed
         ensures feeds { FeedsKept K.kept P.made self.old part.now room.old room.new result.read result.written self.new }
@@ -207,7 +208,7 @@ impl Decoder {
         self.feed_rest::<K, P>(part, room, at)
     }
 
-    // The same of the part from a spot on: nothing is held any more.
+    // Takes the part from a spot on, and writes the pieces that are kept: nothing is carried over any more.
     #[inline(always)]
     fn feed_rest<K: Kept, P: FromPiece>(&mut self, part: &[u8], room: &mut [P], from: Spot) -> Fed
         requires offset { from.offset ≡ self.old.offset }
@@ -235,7 +236,8 @@ impl Decoder {
         }
     }
 
-    // The same of what is held, with as many bytes of the part as it takes, until nothing is held.
+    // Writes the kept pieces of the carried-over bytes, with as many bytes of the part as they need, until
+    // nothing is carried over.
     fn feed_held<K: Kept, P: FromPiece>(&mut self, part: &[u8], room: &mut [P]) -> Fed
         ensures feeds { FeedsKept K.kept P.made self.old part.now room.old room.new result.read result.written self.new }
         ensures full { IsTrue result.is_full →
@@ -244,7 +246,7 @@ impl Decoder {
         ensures waits { IsFalse result.is_full → 0 < length self.new.held → IsOpen self.new.form self.new.held }
     {
         let form = self.form();
-        // To count them tells a proof that they are few.
+        // Reading the length brings the invariant that there are at most three into scope.
         let _count = self.held_len();
         let mut read = 0;
         let mut written = 0;
@@ -275,7 +277,8 @@ impl Decoder {
         }
     }
 
-    // Passes a piece of so many bytes at the front of the held ones. Answers how many more it has than those.
+    // Drops a piece of `len` bytes from the front of the carried-over ones. Returns how many of `len` were
+    // beyond them.
     fn pass(&mut self, len: usize) -> usize
         ensures passed { self.new ≡ record {
           form = self.old.form;
@@ -295,11 +298,11 @@ impl Decoder {
         0
     }
 
-    /// Ends the input: writes the pieces of what is held, which nothing follows. `read` is 0. Room for
-    /// three pieces is always enough.
+    /// Ends the input: writes the pieces of the carried-over bytes, which nothing follows. `read` is 0.
+    /// Capacity for three pieces is always enough.
     ///
-    /// If `is_full` is true, something is still held: empty the room, and call this again. The offset
-    /// goes on from the end of the input.
+    /// If `is_full` is true, something is still carried over: empty the array, and call this again. The
+    /// offset continues from the end of the input.
     ///
     /// Cost: constant.
     pub fn finish<P: FromPiece>(&mut self, room: &mut [P]) -> Fed
@@ -312,25 +315,28 @@ impl Decoder {
         self.finish_kept::<AllPieces, P>(room)
     }
 
-    /// The same, but writes the invalid bytes alone.
+    /// Ends the input as `finish` does, but writes only the invalid bytes. If `is_full` is true, the carried-over
+    /// bytes begin with an invalid byte.
     ///
     /// Cost: constant.
     pub fn finish_faults<P: FromPiece>(&mut self, room: &mut [P]) -> Fed
         ensures finishes { FinishesFaults P.made self.old room.old room.new result.written self.new }
         ensures full { IsTrue result.is_full → result.written ≡ length room.old }
         ensures more { IsTrue result.is_full → 0 < length self.new.held }
+        ensures fault { IsTrue result.is_full → IsKept faults_alone (first_told self.new.form self.new.held) }
         ensures all { IsFalse result.is_full → self.new.held ≡ [] }
         ensures read { result.read ≡ 0 }
     {
         self.finish_kept::<FaultsAlone, P>(room)
     }
 
-    // The same of the pieces that are kept.
+    // Ends the input, and writes the pieces that are kept.
     #[inline(always)]
-    fn finish_kept<K: Kept, P: FromPiece>(&mut self, room: &mut [P]) -> Fed
+    pub fn finish_kept<K: Kept, P: FromPiece>(&mut self, room: &mut [P]) -> Fed
         ensures finishes { FinishesKept K.kept P.made self.old room.old room.new result.written self.new }
         ensures full { IsTrue result.is_full → result.written ≡ length room.old }
         ensures more { IsTrue result.is_full → 0 < length self.new.held }
+        ensures kept { IsTrue result.is_full → IsKept K.kept (first_told self.new.form self.new.held) }
         ensures all { IsFalse result.is_full → self.new.held ≡ [] }
         ensures read { result.read ≡ 0 }
     {
@@ -356,8 +362,8 @@ impl Decoder {
     }
 }
 
-// The held bytes and at most three that follow them. Each byte is chosen by itself: bytes that are stored at a place which is computed
-// are waited for.
+// Concatenates the carried-over bytes with up to three bytes of input. Each byte is selected separately, which avoids
+// a store-forwarding stall.
 #[inline(always)]
 fn held_and_more(held: &[u8], part: &[u8]) -> ([u8; 6], usize)
     requires { length held.now ≤ 3 }
@@ -375,7 +381,7 @@ fn held_and_more(held: &[u8], part: &[u8]) -> ([u8; 6], usize)
     (joined, held.len() + 3usize.min(part.len()))
 }
 
-// The byte at a place of the held bytes and those that follow them, or zero where there is none.
+// The byte at an offset of the carried-over bytes and those that follow, or zero if there is none.
 #[inline(always)]
 fn byte_of_both(held: &[u8], part: &[u8], place: usize) -> u8
     ensures { result ≡ get_or (held.now ++ part.now) place 0 }
@@ -387,7 +393,7 @@ fn byte_of_both(held: &[u8], part: &[u8], place: usize) -> u8
     }
 }
 
-// The bytes, of which there are at most three, and zeros after them: one by one, since to copy so few by a call takes longer.
+// The bytes, at most three, followed by zeros: one by one, since a call of memcpy takes longer.
 #[inline(always)]
 fn three_of(bytes: &[u8]) -> [u8; 3]
     requires { length bytes.now ≤ 3 }
@@ -400,7 +406,7 @@ fn three_of(bytes: &[u8]) -> [u8; 3]
     ]
 }
 
-// The byte at a place, or zero where there is none.
+// The byte at an offset, or zero if there is none.
 #[inline(always)]
 fn byte_or_zero(bytes: &[u8], place: usize) -> u8
     ensures { result ≡ get_or bytes.now place 0 }

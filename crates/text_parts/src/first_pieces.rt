@@ -1,4 +1,5 @@
-//! The piece that begins some bytes, as a merger names it, where what follows them does not matter.
+//! The piece that begins some bytes, with the kind that a merger gives, if it does not depend on what follows
+//! them.
 ghost use Rattle.std.specs.Prelude.{◌≡◌, ◌<◌, ◌≤◌, length, min, IfSome, IfNone, Some};
 ghost use Rattle.utf_base.specs.Kinds.{breaks_at, fault_kind, is_broken};
 ghost use Rattle.utf_base.specs.declared.errors.Utf8ErrorKind.TheVariants.{TooFewBytes};
@@ -15,15 +16,17 @@ use utf_lanes::byte_order::{BigEndian, ByteOrder, LittleEndian};
 use utf_lanes::byte_pairs::unit;
 use utf_lanes::text_front::front_of_text;
 
-// A character, or what is wrong, and how many bytes it has.
+// A character or a fault, and its length in bytes.
 #[derive(Clone, Copy, Drop)]
-pub(crate) enum Front {
+pub enum Front {
+    /// A character, and how many bytes it has.
     Char(char, usize),
+    /// A fault: why it is invalid, and how many bytes it has.
     Fault(FaultKind, usize),
 }
 
 impl Front {
-    // How many bytes it has.
+    // The length in bytes.
     #[inline(always)]
     pub(crate) fn len(self) -> usize
         ensures { result ≡ (told_of self).1 }
@@ -35,7 +38,7 @@ impl Front {
     }
 }
 
-// The piece that begins the bytes, whatever follows them; `None` where that depends on what does.
+// The piece that begins the bytes, whatever follows them; `None` if it depends on what does.
 #[inline(always)]
 pub(crate) fn front_of(form: Form, bytes: &[u8]) -> Option<Front>
     ensures begins { IfSome result (λ x. Begins form bytes.now (told_of x)) }
@@ -55,6 +58,7 @@ pub(crate) fn last_front(form: Form, bytes: &[u8]) -> Front
     requires { 0 < length bytes.now }
     ensures told { told_of result ≡ first_told form bytes.now }
     ensures few { (told_of result).1 ≤ 4 }
+    ensures within { (told_of result).1 ≤ length bytes.now }
 {
     match front_of(form, bytes) {
         Some(front) => front,
@@ -69,7 +73,9 @@ fn lacking_front(form: Form, count: usize) -> Front
 {
     match form {
         Form::Utf8 => Front::Fault(FaultKind::Utf8(Utf8ErrorKind::TooFewBytes), 1),
-        _ => Front::Fault(FaultKind::Utf16(Utf16PairError::Incomplete), 2.min(count)),
+        Form::Utf16Le | Form::Utf16Be => {
+            Front::Fault(FaultKind::Utf16(Utf16PairError::Incomplete), 2.min(count))
+        }
     }
 }
 
@@ -87,7 +93,8 @@ fn front_of_utf8(bytes: &[u8]) -> Option<Front>
     }
 }
 
-// The same where no character of four bytes is found: ASCII first, which the last bytes of a part mostly are.
+// The piece of bytes of which four are no character: ASCII is tested first, which the last bytes of a part
+// mostly are.
 #[inline(always)]
 fn other_front(bytes: &[u8]) -> Option<Front>
     ensures begins { IfSome result (λ x. Begins Utf8 bytes.now (told_of x)) }
@@ -101,7 +108,7 @@ fn other_front(bytes: &[u8]) -> Option<Front>
     front_with_care(bytes)
 }
 
-// The same of bytes that may be anything.
+// The piece that begins any bytes of UTF-8.
 #[cold]
 #[inline(never)]
 fn front_with_care(bytes: &[u8]) -> Option<Front>
@@ -119,7 +126,7 @@ fn front_with_care(bytes: &[u8]) -> Option<Front>
     }
 }
 
-// The same of bytes that are fewer than the first asks for.
+// The piece that begins bytes that are fewer than the first asks for.
 fn front_of_few(bytes: &[u8]) -> Option<Front>
     requires { fault_kind bytes.now ≡ Some TooFewBytes }
     ensures begins { IfSome result (λ x. Begins Utf8 bytes.now (told_of x)) }
@@ -133,7 +140,7 @@ fn front_of_few(bytes: &[u8]) -> Option<Front>
     None
 }
 
-// Whether one of them, after the first, is no continuation byte.
+// Returns true if one of the bytes after the first is no continuation byte.
 fn breaks(bytes: &[u8]) -> bool
     requires { fault_kind bytes.now ≡ Some TooFewBytes }
     ensures { result ≡ is_broken bytes.now }
@@ -143,7 +150,7 @@ fn breaks(bytes: &[u8]) -> bool
     second || third
 }
 
-// Whether the one at this place is there, and is no continuation byte.
+// Returns true if the byte at this offset is there, and is no continuation byte.
 fn breaks_at(bytes: &[u8], place: usize) -> bool
     requires few { fault_kind bytes.now ≡ Some TooFewBytes }
     requires place { 0 < place }

@@ -1,44 +1,43 @@
-//! Pieces with their offsets, and what a decoder makes of them.
+//! Pieces with their offsets, and the types that a decoder writes for them.
 ghost use Rattle.std.specs.Prelude.{◌≡◌, ◌+◌, ◌<◌, ◌≤◌, ◌^◌};
 ghost use Rattle.text_parts.specs.Located.{wrapped};
 
 use recoding::faults::FaultKind;
 
-/// A piece of the input, a character or what is invalid, with its offset.
+/// A piece of the input, a character or an invalid byte or unit, with its offset.
 #[derive(Clone, Copy, Debug, PartialEq, Eq, Drop)]
 pub struct LocatedPiece {
     /// The offset of its first byte from the first byte of all input, in bytes and modulo 2^64.
     pub offset: u64,
-    /// How many bytes it has: 1 to 4 for a character, 1 for an invalid byte, 2 for a lone surrogate.
+    /// The length in bytes: 1 to 4 for a character, 1 for an invalid byte, 2 for a lone surrogate.
     pub len: usize,
     /// The character, or why the byte or the unit is invalid.
     pub answer: Result<char, FaultKind>,
 }
 
-/// What a `Decoder` writes for each piece: a `LocatedPiece`, or a type of yours that lays it out in
-/// another way.
+/// A value that a `Decoder` writes for each piece: a `LocatedPiece`, or a type of yours with another layout.
 pub trait FromPiece: Copy {
     ghost use Rattle.std.specs.Prelude.{Ok, Err, ◌<◌, ◌≤◌};
     ghost use Rattle.text_parts.specs.declared.located.LocatedPiece.{LocatedPiece};
 
-    // What is made of a piece.
+    // The value for a piece.
     ghost made: { LocatedPiece → Self };
 
-    /// The character at an offset, which has so many bytes.
+    /// The value for the character at an offset; `len` is its length in bytes.
     ///
-    /// Condition: there are at most four bytes.
+    /// Condition: `len` is at most 4.
     fn from_character(offset: u64, c: char, len: usize) -> Self
         requires { len ≤ 4 }
         ensures { result ≡ made (record { offset = offset; len = len; answer = Ok c }) };
 
-    /// An invalid byte or unit at an offset, which has so many bytes.
+    /// The value for an invalid byte or unit at an offset; `len` is its length in bytes.
     ///
-    /// Condition: there are at most four bytes.
+    /// Condition: `len` is at most 4.
     fn from_fault(offset: u64, kind: FaultKind, len: usize) -> Self
         requires { len ≤ 4 }
         ensures { result ≡ made (record { offset = offset; len = len; answer = Err kind }) };
 
-    /// The ASCII character at an offset.
+    /// The value for the ASCII character at an offset.
     ///
     /// Condition: the byte is below 0x80.
     fn from_ascii(offset: u64, byte: u8) -> Self
@@ -77,16 +76,20 @@ impl FromPiece for LocatedPiece {
     }
 }
 
-// How far a call came: how many bytes are read, how many pieces are written, and the offset of the next one.
+// The progress of a call: the number of bytes read, the number of pieces written, and the offset of the next
+// piece.
 #[derive(Clone, Copy, Drop)]
-pub(crate) struct Spot {
-    pub(crate) read: usize,
-    pub(crate) written: usize,
-    pub(crate) offset: u64,
+pub struct Spot {
+    /// How many bytes are read.
+    pub read: usize,
+    /// How many pieces are written.
+    pub written: usize,
+    /// The offset of the next piece.
+    pub offset: u64,
 }
 
 impl Spot {
-    // After one piece more, of so many bytes.
+    // The spot after one more piece, of `len` bytes.
     #[inline(always)]
     pub(crate) fn after(self, len: usize) -> Spot
         requires read { self.read + len < 2 ^ 64 }
@@ -98,7 +101,7 @@ impl Spot {
         self.past(len, self.written + 1)
     }
 
-    // After so many bytes more, where so many pieces are written.
+    // The spot after `len` more bytes, with `written` pieces written.
     #[inline(always)]
     pub(crate) fn past(self, len: usize, written: usize) -> Spot
         requires { self.read + len < 2 ^ 64 }

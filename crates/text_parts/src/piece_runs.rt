@@ -1,5 +1,6 @@
-//! Runs that put the pieces of bytes into a room, or the faults alone: text quickly, and the rest with care. All pieces of text are
-//! put, ASCII in blocks and the rest character by character; for faults alone text is passed by lanes.
+//! Runs that write the pieces of bytes, or only the faults, into an array: text on a fast path, and the rest piece by
+//! piece. All pieces of text are written, ASCII in blocks and the rest character by character; if only faults are
+//! written, text is skipped with SIMD.
 ghost use Rattle.std.specs.Prelude.{◌≡◌, ◌+◌, ◌<◌, ◌≤◌, ◌^◌, [], ◌∷◌, length, drop, map, IsTrue, IsFalse, IfSome, IfNone};
 ghost use Rattle.utf_lanes.specs.AsciiTexts.{AreAscii};
 ghost use Rattle.recoding.specs.FirstFaults.{IsTextAndHeld};
@@ -15,16 +16,17 @@ use utf_lanes::text_blocks::text_len;
 use utf_lanes::text_front::front_of_text;
 use utf_lanes::unit_blocks::units_len;
 
-// How many bytes of ASCII are put at once.
+// The number of ASCII bytes that are written in one step.
 const BLOCK: usize = 8;
 
-// From how many characters on one count bounds them.
+// From this many characters on, one count bounds them.
 const MANY: usize = 64;
 
-// How many pieces are put with care before text is looked for again.
+// The number of pieces that are written before the fast path is tried again.
 const STRIDE: usize = 32;
 
-// How far a run came, and why it ended, if it did: the room is full before a piece, or what follows decides of what is left.
+// The progress of a run, and why it ended, if it did: the array is full before a piece, or the rest depends
+// on what follows.
 #[derive(Clone, Copy, Drop)]
 pub(crate) struct Reached {
     pub(crate) at: Spot,
@@ -32,33 +34,33 @@ pub(crate) struct Reached {
     pub(crate) is_waiting: bool,
 }
 
-// Which pieces are written; the others are passed.
-pub(crate) trait Kept {
+/// Which pieces a call writes: `AllPieces`, or `FaultsAlone`.
+pub trait Kept {
     ghost use Rattle.std.specs.Prelude.{List, IsTrue, IsFalse};
     ghost use Rattle.text_parts.specs.declared.located.LocatedPiece.{LocatedPiece};
     ghost use Rattle.text_parts.specs.Located.{IsKept, IsPassed, IsWithin, KeepsEach, PutsKept, told_of};
 
-    // Those of a list that are written.
+    // the pieces of a list that are written
     ghost kept: { List LocatedPiece → List LocatedPiece };
 
     ghost keeps_each: { KeepsEach kept };
 
-    // Whether a piece is written.
+    // Returns true if a piece is written.
     fn keeps(front: Front) -> bool
         ensures yes { IsTrue result → IsKept kept (told_of front) }
         ensures no { IsFalse result → IsPassed kept (told_of front) };
 
-    // Goes over text that begins the bytes, as far as it is found quickly.
+    // Writes or skips the text that begins the bytes, as far as the fast path goes.
     fn put_text<P: FromPiece>(form: Form, bytes: &[u8], room: &mut [P], from: Spot) -> Spot
         requires { IsWithin from bytes.now room.old }
         ensures { PutsKept kept P.made form bytes.now room.old room.new from result };
 }
 
-// All of them.
-pub(crate) struct AllPieces;
+/// Every piece.
+pub struct AllPieces;
 
-// The faults.
-pub(crate) struct FaultsAlone;
+/// The invalid bytes and units only.
+pub struct FaultsAlone;
 
 impl Kept for AllPieces {
     ghost use Rattle.text_parts.specs.Located.{all_keep_each, all_pieces};
@@ -99,7 +101,7 @@ impl Kept for FaultsAlone {
     }
 }
 
-// How many bytes of text begin the bytes, as far as lanes tell it.
+// The length of the text that begins the bytes, as far as SIMD validation goes.
 #[inline(always)]
 fn front_text_len(form: Form, bytes: &[u8]) -> usize
     ensures within { result ≤ length bytes.now }
@@ -112,7 +114,7 @@ fn front_text_len(form: Form, bytes: &[u8]) -> usize
     }
 }
 
-// What is made of a piece.
+// The value for a piece.
 #[inline(always)]
 fn made_of<P: FromPiece>(offset: u64, front: Front) -> P
     requires { (told_of front).1 ≤ 4 }
@@ -124,7 +126,8 @@ fn made_of<P: FromPiece>(offset: u64, front: Front) -> P
     }
 }
 
-// Writes a piece to the place of that number, or passes it. Answers how many are written then, or `None` where there is no place.
+// Writes a piece to that index, or skips it. Returns the number of pieces written then, or `None` if the
+// array is full.
 #[inline(always)]
 pub(crate) fn write_piece<K: Kept, P: FromPiece>(
     offset: u64,
@@ -150,7 +153,7 @@ pub(crate) fn write_piece<K: Kept, P: FromPiece>(
     Some(written + 1)
 }
 
-// Puts the pieces that begin the bytes from a spot on, as far as there is room and no later byte decides of them.
+// Writes the pieces of the bytes from a spot on, as far as there is capacity and no later byte decides them.
 pub(crate) fn put_run<K: Kept, P: FromPiece>(
     form: Form,
     bytes: &[u8],
@@ -179,7 +182,8 @@ pub(crate) fn put_run<K: Kept, P: FromPiece>(
     }
 }
 
-// The same of a few pieces, as far as no character is passed: with that text goes on.
+// Writes a few pieces of the bytes from a spot on, up to the first character that is skipped: there the fast
+// path continues.
 #[inline(always)]
 fn put_few_pieces<K: Kept, P: FromPiece>(
     form: Form,
@@ -223,7 +227,7 @@ fn run_ended(at: Spot, is_full: bool, is_waiting: bool) -> Reached
     }
 }
 
-// Puts the characters of text that begin the bytes, as far as they are found quickly.
+// Writes the characters of text that begin the bytes, as far as the fast path goes.
 #[inline(always)]
 fn put_located_text<P: FromPiece>(form: Form, bytes: &[u8], room: &mut [P], from: Spot) -> Spot
     requires { IsWithin from bytes.now room.old }
@@ -234,11 +238,11 @@ fn put_located_text<P: FromPiece>(form: Form, bytes: &[u8], room: &mut [P], from
             let at = put_located_ascii(bytes, room, from);
             put_located_characters(bytes, room, at)
         }
-        _ => from,
+        Form::Utf16Le | Form::Utf16Be => from,
     }
 }
 
-// Puts the ASCII characters that begin the bytes of UTF-8, as far as they go in blocks.
+// Writes the ASCII characters that begin the bytes of UTF-8, as far as whole blocks go.
 #[inline(always)]
 fn put_located_ascii<P: FromPiece>(bytes: &[u8], room: &mut [P], from: Spot) -> Spot
     requires { IsWithin from bytes.now room.old }
@@ -254,7 +258,7 @@ fn put_located_ascii<P: FromPiece>(bytes: &[u8], room: &mut [P], from: Spot) -> 
     at
 }
 
-// The same of one block.
+// Writes the ASCII characters of one block, if all of its bytes are ASCII.
 #[inline(always)]
 fn put_ascii_block<P: FromPiece>(bytes: &[u8], room: &mut [P], from: Spot) -> Spot
     requires read { from.read + 8 ≤ length bytes.now }
@@ -271,8 +275,8 @@ fn put_ascii_block<P: FromPiece>(bytes: &[u8], room: &mut [P], from: Spot) -> Sp
     at
 }
 
-// Puts the characters that begin the bytes of UTF-8, up to what is none, or as far as four bytes are left. It stands apart, so that
-// its loops keep all that they use in registers.
+// Writes the characters that begin the bytes of UTF-8, up to the first fault, or as far as four bytes are left.
+// Outlined, so that its loops keep all of their values in registers.
 #[inline(never)]
 fn put_located_characters<P: FromPiece>(bytes: &[u8], room: &mut [P], from: Spot) -> Spot
     requires { IsWithin from bytes.now room.old }
@@ -289,7 +293,8 @@ fn put_located_characters<P: FromPiece>(bytes: &[u8], room: &mut [P], from: Spot
     at
 }
 
-// The same of many. There are no more than a character for each four bytes: so one count bounds both.
+// Writes many characters that begin the bytes. There is at most one character for each four bytes: so one
+// count bounds both.
 #[inline(always)]
 fn put_many_characters<P: FromPiece>(bytes: &[u8], room: &mut [P], from: Spot) -> Spot
     requires { IsWithin from bytes.now room.old }
@@ -310,7 +315,8 @@ fn put_many_characters<P: FromPiece>(bytes: &[u8], room: &mut [P], from: Spot) -
     at
 }
 
-// The same of no more bytes than there are places left: each character has one byte at least, so places are not counted.
+// Writes characters of no more bytes than the array has free elements: each character has at least one byte,
+// so elements are not counted.
 #[inline(always)]
 fn put_characters_in_room<P: FromPiece>(bytes: &[u8], room: &mut [P], from: Spot) -> Spot
     requires { IsWithin from bytes.now room.old }
@@ -331,7 +337,8 @@ fn put_characters_in_room<P: FromPiece>(bytes: &[u8], room: &mut [P], from: Spot
     at
 }
 
-// Puts the character that begins the bytes from a spot on, by four of them, and answers the next spot; `None` where none does.
+// Writes the character that begins the bytes from a spot on, decoded from four of them, and returns the next
+// spot; `None` if there is none.
 #[inline(always)]
 fn put_character<P: FromPiece>(bytes: &[u8], room: &mut [P], at: Spot) -> Option<Spot>
     requires read { at.read + 4 ≤ length bytes.now }

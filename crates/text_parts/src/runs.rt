@@ -1,4 +1,4 @@
-//! Runs over bytes in any form, and lists of faults.
+//! Runs over bytes in any encoding, and lists of faults.
 
 pub mod fault_lists;
 pub mod forms;

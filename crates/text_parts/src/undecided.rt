@@ -1,13 +1,14 @@
-//! The end of some bytes that later ones decide: what has to wait for them.
+//! The bytes at the end of a block that later ones decide, and that have to wait for them.
 ghost use Rattle.std.specs.Prelude.{◌≤◌, length};
 ghost use Rattle.text_parts.specs.UndecidedEnds.{IsLenOfHeld, IsUndecidedEnd};
 
 use crate::first_pieces::front_of;
+use recoding::boundaries::boundary_before;
 use recoding::form::Form;
-use recoding::shards::shard_end;
 
-/// How many bytes at the end of these, 0 to 3, depend on the bytes that follow: what to keep back of a block, and to put before
-/// the next one. It is how many a `Decoder` holds that was fed just these bytes: `undecided_len(Form::Utf8, b"a\xe2\x82")` is 2.
+/// The number of bytes at the end of these, 0 to 3, that depend on the bytes that follow: carry them over to the
+/// front of the next block. A `Decoder` that was fed just these bytes carries over as many:
+/// `undecided_len(Form::Utf8, b"a\xe2\x82")` is 2.
 ///
 /// These bytes may yet become a character, or be invalid for another reason. If no byte follows, they are invalid.
 ///
@@ -18,7 +19,7 @@ pub fn undecided_len(form: Form, bytes: &[u8]) -> usize
     ensures few { result ≤ 3 }
     ensures within { result ≤ length bytes.now }
 {
-    let mut place = shard_end(form, bytes, bytes.len().saturating_sub(3));
+    let mut place = boundary_before(form, bytes, bytes.len().saturating_sub(3));
     while place < bytes.len() {
         let Some(front) = front_of(form, &bytes[place..]) else {
             return bytes.len() - place;

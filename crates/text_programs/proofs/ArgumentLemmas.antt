@@ -1,4 +1,4 @@
--- What arguments ask for, and when they ask for nothing.
+-- The requests of arguments, and arguments that are invalid.
 use Rattle.std.proofs.Common.{◌≡◌, ℕ, ◌<◌, ◌≤◌, ◌==◌, ⊎_elim, inl, inr, List, [], ◌∷◌, length, map, get_or, refl, sym, ◌∙◌, ap, subst, arith, if◌then◌else◌}
 use Rattle.std.proofs.lemmas.List.{length-map}
 use Rattle.std.proofs.lemmas.List.Elements.{All-nil, All-cons, All-head, All-tail}
@@ -7,7 +7,7 @@ use Rattle.text_runs.specs.declared.runs.items.End.{End}
 use Rattle.text_runs.specs.declared.runs.items.End.TheVariants.{Front, Back}
 use Rattle.text_programs.specs.Arguments.{Asked, listed, merged, walked, letter, IsLetter, AreLetters, Asks, AreWrong}
 
--- what a list of none, of one and of two becomes
+-- the map of a list of no, one or two elements
 pub map_none : {X : Type 0} (f : X → List ℕ) (xs : List X) → length xs < 1 → map f xs ≡ []
 map_none f [] few = refl
 map_none f (x ∷ xs) few = absurd (omega arith)
@@ -24,7 +24,7 @@ map_two f (a ∷ []) x y some few is as_well = absurd (omega arith)
 map_two f (a ∷ b ∷ []) x y some few is as_well = rw (is, as_well) refl
 map_two f (a ∷ b ∷ c ∷ cs) x y some few is as_well = absurd (omega arith)
 
--- letters are those of a word
+-- some letters are the letters of a word
 spelled : (text : List ℕ) → All IsLetter text → (word : List End) × (map letter word ≡ text)
 spelled [] all = ([], refl)
 spelled (c ∷ cs) all =
@@ -34,7 +34,7 @@ spelled (c ∷ cs) all =
     (λ (e : c ≡ 66). (Back ∷ rest.0, ap (λ d. d ∷ map letter rest.0) (sym e) ∙ ap (λ ds. c ∷ ds) rest.1))
     (All-head IsLetter c cs all)
 
--- and the letters of a word are letters
+-- the letters of a word are letters
 are_letters : (word : List End) → All IsLetter (map letter word)
 are_letters [] = All-nil IsLetter
 are_letters (Front ∷ es) = All-cons IsLetter 70 (map letter es) (inl refl) (are_letters es)
@@ -47,13 +47,13 @@ asks_walk args option text word are is letters spells =
     let long : length word ≡ length text = sym (length-map word letter) ∙ ap length spells in
     (are ∙ rw (is, spells) refl, omega arith)
 
--- so they are not wrong
+-- an option and letters are valid arguments
 pub not_wrong : (args : List (List ℕ)) (option text : List ℕ) → args ≡ option ∷ text ∷ [] → option ≡ codes "--ends" → AreLetters text → AreWrong args → ⊥
 not_wrong args option text are is letters wrong =
     let word = spelled text letters.1 in
     wrong (walked word.0) (asks_walk args option text word.0 are is letters word.1)
 
--- any two others are
+-- any two other arguments are invalid
 pub two_wrong : (args : List (List ℕ)) (option text : List ℕ) → args ≡ option ∷ text ∷ [] → ((option ≡ codes "--ends") × AreLetters text → ⊥)
     → (asked : Asked) → Asks args asked → ⊥
 two_wrong args option text are none listed asks = let differ : option ∷ text ∷ [] ≡ [] = sym are ∙ asks in cc
@@ -65,7 +65,7 @@ two_wrong args option text are none (walked word) asks =
     let long : length word ≡ length text = sym (length-map word letter) ∙ ap length spells in
     none (is, (omega arith, subst (λ ys. All IsLetter ys) spells (are_letters word)))
 
--- A word is known by its letters, and what is asked for by the arguments.
+-- A word is determined by its letters, and a request by the arguments.
 
 end_of : ℕ → End
 end_of c = if c == 70 then Front else Back

@@ -9,16 +9,16 @@ use Rattle.std.proofs.lemmas.Fmt.{decimal_digit, decimal_step, length-decimal-le
 pub length_decimal : (n : ℕ) → n < 2 ^ 64 → length (decimal n) ≤ 20
 length_decimal n fits = length-decimal-le 20 n (omega arith) (omega arith) fits
 
--- the last digit is one
+-- the last digit is one digit
 pub length_decimal_step : (n : ℕ) → 10 ≤ n → n < 2 ^ 64 → length (decimal n) ≡ length (decimal (n / 10)) + 1
 length_decimal_step n large fits = ap length (decimal_step n large fits) ∙ length-append _ _
 
--- a write at the place before `start`
+-- a write at the offset before `start`
 drop_set_before : (digits : List ℕ) (start digit : ℕ) → 1 ≤ start → start ≤ length digits
     → drop (start - 1) (slice_set digits (start - 1) digit) ≡ digit ∷ drop start digits
 drop_set_before digits start digit room within = grind (arith, common_steps, drop-set)
 
--- the last digit of `rest` goes before those that stand from `start` on
+-- the last digit of `rest` goes before the digits from `start` on
 pub put_digit : (n rest start : ℕ) (digits : List ℕ)
     → 10 ≤ rest → rest < 2 ^ 64 → length (decimal rest) ≤ start → start ≤ length digits
     → decimal rest ++ drop start digits ≡ decimal n
@@ -27,7 +27,7 @@ put_digit n rest start digits large fits room within whole =
     let some : 1 ≤ start = omega (arith, decimal_nonempty rest fits) in
     rw (drop_set_before digits start (48 + rest % 10) some within, ← whole, decimal_step rest large fits, append_assoc) refl
 
--- and the only digit of `rest` goes first
+-- the only digit of `rest` goes first
 pub put_first_digit : (n rest start : ℕ) (digits : List ℕ)
     → rest < 10 → length (decimal rest) ≤ start → start ≤ length digits
     → decimal rest ++ drop start digits ≡ decimal n

@@ -1,4 +1,4 @@
--- The table of pairs of hexadecimal digits, and a number by them.
+-- The table of pairs of hexadecimal digits, and a number written with it.
 use Rattle.std.proofs.Common.{◌≡◌, ℕ, zero, suc, ◌+◌, ◌-◌, ◌*◌, ◌/◌, ◌%◌, ◌^◌, ◌<◌, Bool, true, ◌&&◌, T, eqb, [], ◌∷◌, get_or, refl, inl, inr, arith, eq-zero-or-pos, eqb→eq}
 use lib.Ieee.Fits.{and_l, and_r}
 use Rattle.text_programs.specs.Line.{hex_digit, six_hex_digits}
@@ -24,7 +24,7 @@ below (suc n) b t lt =
 pub pair_at : (b : ℕ) → b < 256 → (get_or PAIRS (2 * b) 0 ∷ get_or PAIRS (2 * b + 1) 0 ∷ []) ≡ (hex_digit (b / 16) ∷ hex_digit (b % 16) ∷ [])
 pair_at b lt = let both = below 256 b tt lt in rw (both.0, both.1) refl
 
--- the six digits of a number, as those of its three bytes
+-- the six digits of a number, as the pairs of its three bytes
 pub six_by_pairs : (n : ℕ) → n < 2 ^ 24
     → (hex_digit (n / 65536 / 16) ∷ hex_digit (n / 65536 % 16) ∷ hex_digit (n / 256 % 256 / 16) ∷ hex_digit (n / 256 % 256 % 16)
     ∷ hex_digit (n % 256 / 16) ∷ hex_digit (n % 256 % 16) ∷ []) ≡ six_hex_digits n

@@ -22,24 +22,25 @@ count_by-one wrong x = grind (arith, common_steps)
 pub flat_map-one : {X : Type 0} (line : X → List ℕ) (x : X) → flat_map line (x ∷ []) ≡ line x
 flat_map-one line x = grind (arith, common_steps)
 
--- of bytes that were held, the first were written and the others are left
+-- of the buffered bytes, the first were written and the others are left
 pub record Sends (old new : Option (List ℕ)) (held left : List ℕ) : Type 0 where
   pub sent : List ℕ
   pub written : Appends old new sent
   pub rest : held ≡ sent ++ left
 
--- The lines of these entries, of which so many are error lines: known bytes grew by the first of them, and the others are held.
+-- The lines of these entries, `faults` of which are error lines: known bytes grew by the first lines, and the others
+-- are buffered.
 pub record HoldsLines {X : Type 0} (line : X → List ℕ) (wrong : X → Bool) (entries : List X) (old new : Option (List ℕ)) (held : List ℕ) (faults : ℕ) : Type 0 where
   pub first : List ℕ
   pub written : Appends old new first
   pub whole : flat_map line entries ≡ first ++ held
   pub counted : faults ≡ count_by wrong entries
 
--- nothing is held of nothing
+-- of no entries, no line is buffered
 pub HoldsLines-none : {X : Type 0} (line : X → List ℕ) (wrong : X → Bool) (known : Option (List ℕ)) → HoldsLines line wrong [] known known [] 0
 HoldsLines-none line wrong known = record { first = []; written = Appends-nil known; whole = refl; counted = refl }
 
--- one line more is held
+-- one more line is buffered
 pub HoldsLines-push : {X : Type 0} (line : X → List ℕ) (wrong : X → Bool) (xs : List X) (x : X) (old new : Option (List ℕ)) (held : List ℕ) (n : ℕ)
     → HoldsLines line wrong xs old new held n → HoldsLines line wrong (xs ++ x ∷ []) old new (held ++ line x) (n + (if wrong x then 1 else 0))
 HoldsLines-push line wrong xs x old new held n h =
@@ -50,7 +51,7 @@ HoldsLines-push line wrong xs x old new held n h =
       counted = rw (count_by-append wrong xs (x ∷ []), ← h.counted) (ap (λ m. n + m) (sym (count_by-one wrong x)));
     }
 
--- what was held is written, or a front of it
+-- the buffered bytes are written, or a front of them
 pub HoldsLines-sent : {X : Type 0} (line : X → List ℕ) (wrong : X → Bool) (xs : List X) (old mid new : Option (List ℕ)) (held left : List ℕ) (n : ℕ)
     → HoldsLines line wrong xs old mid held n → Sends mid new held left → HoldsLines line wrong xs old new left n
 HoldsLines-sent line wrong xs old mid new held left n h sends =
@@ -61,7 +62,7 @@ HoldsLines-sent line wrong xs old mid new held left n h sends =
       counted = h.counted;
     }
 
--- what was held is written, or a front of it, and the line of the next entry is held
+-- the buffered bytes are written, or a front of them, and the line of the next entry is buffered
 pub HoldsLines-next : {X : Type 0} {line : X → List ℕ} {wrong : X → Bool} (xs : List X) (i : ℕ) (x : X) {old mid new : Option (List ℕ)} {held left : List ℕ} {n : ℕ}
     → i < length xs → x ≡ get_or xs i x → HoldsLines line wrong (take i xs) old mid held n → Sends mid new held left
     → HoldsLines line wrong (take (i + 1) xs) old new (left ++ line x) (n + (if wrong x then 1 else 0))
@@ -69,13 +70,13 @@ HoldsLines-next {line} {wrong} xs i x {old} {mid} {new} {held} {left} {n} lt is 
     rw (take_more xs i x lt, ← is)
     (HoldsLines-push line wrong (take i xs) x old new left n (HoldsLines-sent line wrong (take i xs) old mid new held left n h sends))
 
--- all that was held is written, so all lines are
+-- all buffered bytes are written, so all lines are
 pub WritesLines-held : {X : Type 0} (line : X → List ℕ) (wrong : X → Bool) (xs : List X) (old mid new : Option (List ℕ)) (held : List ℕ) (n : ℕ)
     → HoldsLines line wrong xs old mid held n → Appends mid new held → WritesLines line wrong xs old new n
 WritesLines-held line wrong xs old mid new held n h written =
     record { written = rw h.whole (Appends-trans old mid new h.first held h.written written); counted = h.counted }
 
--- the writer failed at what was held
+-- the writer failed at the buffered bytes
 pub AppendsFront-held : {X : Type 0} (line : X → List ℕ) (wrong : X → Bool) (xs : List X) (old mid new : Option (List ℕ)) (held : List ℕ) (n : ℕ)
     → HoldsLines line wrong xs old mid held n → AppendsFront mid new held → AppendsFront old new (flat_map line xs)
 AppendsFront-held line wrong xs old mid new held n h front =
@@ -88,7 +89,7 @@ AppendsFront-taken line xs i old new h =
     subst (λ ys. AppendsFront old new (flat_map line ys)) (take-append-drop i xs)
     (rw (flat_map-append line (take i xs) (drop i xs)) (AppendsFront-first old new (flat_map line (take i xs)) (flat_map line (drop i xs)) h))
 
--- the same where these are the first entries
+-- a front of the lines of the first entries is one of the lines of all, if these are the first entries
 pub AppendsFront-failed : {X : Type 0} {line : X → List ℕ} {wrong : X → Bool} (xs : List X) (i : ℕ) {old mid : Option (List ℕ)} (new : Option (List ℕ)) {held : List ℕ} {n : ℕ}
     → HoldsLines line wrong (take i xs) old mid held n → AppendsFront mid new held → AppendsFront old new (flat_map line xs)
 AppendsFront-failed {line} {wrong} xs i {old} {mid} new {held} {n} h front =

@@ -18,12 +18,13 @@ use Rattle.text_programs.specs.Written.{WritesLines}
 use Rattle.text_runs.proofs.TextRuns.{text_where_no_fault, no_fault_where_text}
 use Rattle.text_runs.proofs.EqualRunLemmas.{run_is_pieces}
 
--- a test counts one at most
+-- a test counts at most one
 one_at_most : (b : Bool) → (if b then 1 else 0) ≤ 1
 one_at_most true = omega arith
 one_at_most false = omega arith
 
--- The lines of the run as far as the window's front, and its errors counted: the first lines are written, and the others are held.
+-- The lines of the run up to the window's front, and its errors, counted: the first lines are written, and the others
+-- are buffered.
 pub record IsListedSoFar (xs : List ℕ) (old new : Option (List ℕ)) (held : List ℕ) (faults : ℕ) (w : Window) : Type 0 where
   pub items : List Item
   pub run : IsRunSoFar xs items w
@@ -48,7 +49,7 @@ IsListedSoFar-push {xs} {old} {new} {held} {faults} {w} {v} {x} f g =
       few = omega arith;
     }
 
--- lines that were held are written
+-- buffered lines are written
 pub IsListedSoFar-sent : {xs : List ℕ} {old mid new : Option (List ℕ)} {held left : List ℕ} {faults : ℕ} {w : Window}
     → IsListedSoFar xs old mid held faults w → Sends mid new held left → IsListedSoFar xs old new left faults w
 IsListedSoFar-sent {old} {mid} {new} {held} {left} {faults} f sends =
@@ -59,7 +60,7 @@ IsListedSoFar-sent {old} {mid} {new} {held} {left} {faults} f sends =
       few = f.few;
     }
 
--- the window is empty and nothing is held, so the listing is whole
+-- the window is empty and nothing is buffered, so the listing is complete
 pub WritesListing-all : {xs : List ℕ} {old mid new : Option (List ℕ)} {held : List ℕ} {faults : ℕ} {w v : Window}
     → IsListedSoFar xs old mid held faults w → GivesNone w v → Appends mid new held → WritesListing xs old new faults
 WritesListing-all {xs} {old} {mid} {new} {held} {faults} {w} {v} f g written =
@@ -76,24 +77,24 @@ WritesListingFront-so_far xs old new items w run front =
       written = rw (flat_map-append item_line items rest.more) (AppendsFront-first old new (listing items) (listing rest.more) front);
     }
 
--- the writer failed at the lines that were held
+-- the writer failed at the buffered lines
 pub WritesListingFront-failed : {xs : List ℕ} {old mid new : Option (List ℕ)} {held : List ℕ} {faults : ℕ} {w : Window}
     → IsListedSoFar xs old mid held faults w → AppendsFront mid new held → WritesListingFront xs old new
 WritesListingFront-failed {xs} {old} {mid} {new} {held} {faults} {w} f front =
     WritesListingFront-so_far xs old new f.items w f.run (AppendsFront-held item_line is_fault f.items old mid new held faults f.lines front)
 
--- and so is nothing
+-- nothing is a front of the listing
 pub WritesListingFront-none : (xs : List ℕ) (held : Option (List ℕ)) → WritesListingFront xs held held
 WritesListingFront-none xs held = WritesListingFront-so_far xs held held [] (whole_window xs) (IsRunSoFar-none xs) (AppendsFront-none held [])
 
--- A listing has no error exactly where its bytes are text.
+-- A listing has no error if and only if its bytes are text.
 pub listing_of_text : (xs : List ℕ) (old new : Option (List ℕ)) (faults : ℕ) → WritesListing xs old new faults → (faults ≡ 0) ↔ IsUtf8 xs
 listing_of_text xs old new faults h = (
   (λ zero. text_where_no_fault xs h.entries h.run (sym h.lines.counted ∙ zero)),
   (λ text. h.lines.counted ∙ no_fault_where_text xs h.entries h.run text),
 )
 
--- How many faults it counts.
+-- The number of faults that a listing counts.
 pub listing_of_pieces : (xs : List ℕ) (old new : Option (List ℕ)) (faults : ℕ) → WritesListing xs old new faults → faults ≡ faulty_item_count (pieces xs)
 listing_of_pieces xs old new faults h = h.lines.counted ∙ ap faulty_item_count (run_is_pieces xs h.entries h.run)
 

@@ -1,4 +1,4 @@
--- Bytes recoded on their way from a reader to a writer, part by part.
+-- Bytes transcoded on their way from a reader to a writer, part by part.
 use Rattle.std.proofs.Common.{◌≡◌, ℕ, ◌+◌, ◌<◌, ◌≤◌, ◌⊎◌, inl, inr, ⊎_elim, List, [], ◌++◌, length, Option, Some, None, refl, ap, sym, subst, ◌∙◌, arith, length-append}
 use Rattle.std.proofs.lemmas.List.{append-nil}
 use Rattle.std.proofs.KnownBytes.{Appends-nil, Appends-trans, Consumes-nil, Consumes-trans, Consumes-kept}
@@ -15,8 +15,8 @@ use Rattle.text_runs.proofs.Fronts.{AppendsFront-all, AppendsFront-first, Append
 use Rattle.recoding.proofs.Growing.{Continues-none, Continues-append, Continues-trans, recoded_once}
 use Rattle.recoding.proofs.RecodedLists.{same_list}
 
--- What was read so far was recoded and written, up to what the recoder holds. Of so many reads each gave a byte, or one
--- failed.
+-- What was read so far was transcoded and written, except for the carried-over bytes. Each of the reads gave a byte,
+-- or one failed.
 pub record IsRelayed (from to : Form) (in_old in_now out_old out_now : Option (List ℕ)) (failures_old failures_now turns : ℕ) (r : Recoding) : Type 0 where
   pub bytes : List ℕ
   pub grown : List ℕ
@@ -84,7 +84,7 @@ IsRelayed-idle {in_old} {in_mid} {in_new} now keeps le more = record {
   paced = inl (omega arith);
 }
 
--- the reader is at its end, and what was held is written
+-- the reader is at its end, and the carried-over bytes are written
 pub IsRelayed-all : {from to : Form} {in_old in_mid : Option (List ℕ)} (in_new : Option (List ℕ)) {out_old out_mid out_new : Option (List ℕ)} {f g n : ℕ} {r : Recoding}
     → IsRelayed from to in_old in_mid out_old out_mid f g n r → Consumes in_mid in_new [] → IsAtEnd in_new → PassesLast r out_mid out_new
     → WritesRecoded from to in_old out_old out_new
@@ -106,7 +106,7 @@ IsRelayed-all {from} {to} {in_old} {in_mid} in_new {out_old} {out_mid} {out_new}
     bytes_of_input (Some zs) None xs h i = absurd h
     bytes_of_input (Some zs) (Some us) xs h i = sym (h ∙ ap (λ w. xs ++ w) i ∙ append-nil xs)
 
--- so many reads found no end in fewer bytes, so one failed
+-- more reads than bytes found no end, so one failed
 pub IsRelayed-long : {from to : Form} {in_old in_now out_old out_now : Option (List ℕ)} {f g n : ℕ} (most : ℕ) {r : Recoding}
     → IsRelayed from to in_old in_now out_old out_now f g n r → most ≤ n → IfSome in_old (λ xs. length xs < most → f < g)
 IsRelayed-long {in_old} {in_now} {f} {g} {n} most now le = by_bytes in_old in_now now.bytes f g n most now.read now.paced le
@@ -118,7 +118,7 @@ IsRelayed-long {in_old} {in_now} {f} {g} {n} most now le = by_bytes in_old in_no
         let e = ap length h in
         ⊎_elim (λ (failed : f < g). failed) (λ (each : n ≤ length xs). absurd (omega (arith, length-append xs us))) paced
 
--- what some bytes are recoded as whatever follows is a front of what they are recoded as
+-- the output for some bytes, whatever follows, is a front of their output at the end
 front_of : (from to : Form) (bytes grown held : List ℕ) → Continues from to bytes grown held
     → (rest : List ℕ) × IsRecoded from to bytes (grown ++ rest)
 front_of from to bytes grown held continues =
@@ -146,7 +146,7 @@ BeginsRecoded-now {from} {to} {in_old} {in_mid} {in_new} {out_old} {out_now} {r}
     BeginsRecoded-held from to in_old in_new out_old out_now now.bytes now.grown r.held
     (Consumes-kept in_old in_mid in_new now.bytes now.read keeps) now.continues (AppendsFront-all out_old out_now now.grown now.written)
 
--- a part was read, and memory for it was refused
+-- a part was read, and an allocation for it failed
 pub BeginsRecoded-refused : (from to : Form) (in_old in_mid in_new out_old out_now : Option (List ℕ)) (f g n : ℕ) (r : Recoding) (part : List ℕ)
     → IsRelayed from to in_old in_mid out_old out_now f g n r → Consumes in_mid in_new part → BeginsRecoded from to in_old in_new out_old out_now
 BeginsRecoded-refused from to in_old in_mid in_new out_old out_now f g n r part now taken =
@@ -154,7 +154,7 @@ BeginsRecoded-refused from to in_old in_mid in_new out_old out_now f g n r part 
     (Consumes-trans in_old in_mid in_new now.bytes part now.read taken)
     (Continues-append from to now.bytes now.grown r.held part now.continues) (AppendsFront-all out_old out_now now.grown now.written)
 
--- a part was read and fed, and a write of what came of it failed
+-- a part was read and fed, and a write of its output failed
 pub BeginsRecoded-part : (from to : Form) (in_old in_mid in_new out_old out_mid out_new : Option (List ℕ)) (f g n : ℕ) (r s : Recoding) (part : List ℕ)
     → IsRelayed from to in_old in_mid out_old out_mid f g n r → Consumes in_mid in_new part → PassesFront r part out_mid out_new s
     → BeginsRecoded from to in_old in_new out_old out_new
@@ -168,7 +168,7 @@ BeginsRecoded-part from to in_old in_mid in_new out_old out_mid out_new f g n r 
     (Continues-trans from to (now.bytes ++ part) now.grown (r.held ++ part) grows.grown s.held first then)
     (AppendsFront-then out_old out_mid out_new now.grown grows.grown now.written (rw all at put))
 
--- the reader was at its end, and a front of what was held was written
+-- the reader was at its end, and a front of the last output was written
 pub BeginsRecoded-last : (from to : Form) (in_old in_mid in_new out_old out_mid out_new : Option (List ℕ)) (f g n : ℕ) (r : Recoding)
     → IsRelayed from to in_old in_mid out_old out_mid f g n r → Consumes in_mid in_new [] → PassesLastFront r out_mid out_new
     → BeginsRecoded from to in_old in_new out_old out_new
@@ -184,7 +184,7 @@ BeginsRecoded-last from to in_old in_mid in_new out_old out_mid out_new f g n r 
       written = AppendsFront-then out_old out_mid out_new now.grown last.grown now.written (rw all at put);
     }
 
--- whatever the last write answered
+-- a front of the output was written, whatever the last write returned
 pub BeginsRecoded-end : {U : Type 0} {from to : Form} {in_old in_mid in_new out_old out_mid out_new : Option (List ℕ)} {f g n : ℕ} {r : Recoding} (result : Result U RecodeFault)
     → IsRelayed from to in_old in_mid out_old out_mid f g n r → Consumes in_mid in_new [] → OnOk result (PassesLast r out_mid out_new)
     → (result ≡ Err Write → PassesLastFront r out_mid out_new) → (result ≡ Err Memory → out_new ≡ out_mid) → (result ≡ Err Read → ⊥)
@@ -197,7 +197,7 @@ BeginsRecoded-end {from} {to} {in_old} {in_mid} {in_new} {out_old} {out_mid} {f}
     rw (refused refl) (BeginsRecoded-refused from to in_old in_mid in_new out_old out_mid f g n r [] now taken)
 BeginsRecoded-end (Err Read) now taken all front refused other = absurd (other refl)
 
--- whatever fault a part had
+-- a front of the output was written, whatever fault a part had
 pub BeginsRecoded-fault : {from to : Form} {in_old in_mid in_new out_old out_mid out_new : Option (List ℕ)} {f g n : ℕ} {r s : Recoding} {part : List ℕ} (fault : RecodeFault)
     → IsRelayed from to in_old in_mid out_old out_mid f g n r → Consumes in_mid in_new part
     → (fault ≡ Write → PassesFront r part out_mid out_new s) → (fault ≡ Memory → out_new ≡ out_mid) → (fault ≡ Read → ⊥)
@@ -215,18 +215,18 @@ from_nothing (Some ys) xs h some =
     let long = ap length h in
     omega (arith, length-append xs ys)
 
--- and where it gave none, still nothing is left
+-- after a read that gave nothing, still nothing is left
 pub still_nothing : (b : Option (List ℕ)) → Keeps (Some []) b → b ≡ Some []
 still_nothing None h = absurd h
 still_nothing (Some ys) h = ap Some h
 
--- where no growth was refused, a fault is one of the reader or of the writer
+-- if no allocation failed, a fault is one of the reader or of the writer
 pub fails_at_an_end : (fault : RecodeFault) (f g h k : ℕ) → (fault ≡ Read → f < g) → (fault ≡ Write → h < k) → (fault ≡ Memory → ⊥) → (f < g) ⊎ (h < k)
 fails_at_an_end Read f g h k reads writes refused = inl (reads refl)
 fails_at_an_end Write f g h k reads writes refused = inr (writes refl)
 fails_at_an_end Memory f g h k reads writes refused = absurd (refused refl)
 
--- where all of a known input was recoded, its one list was written
+-- if all of a known input was transcoded, its one list was written
 pub AppendsRecoded-of : {from to : Form} (input : Option (List ℕ)) {old new : Option (List ℕ)} → WritesRecoded from to input old new → AppendsRecoded from to input old new
 AppendsRecoded-of None w = tt
 AppendsRecoded-of {from} {to} (Some xs) {old} {new} w =

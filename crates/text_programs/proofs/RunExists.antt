@@ -12,7 +12,7 @@ use Rattle.text_runs.specs.Collected.{IsMergedRun}
 use Rattle.text_runs.specs.Items.{piece_of, HasKind, answers_of}
 use Rattle.text_runs.proofs.ForwardRuns.{IsRunSoFar-none, GoesOn-always}
 
--- the same piece with the kind that a merger gives
+-- a piece with the kind that a merger gives
 record Merged (xs : List ℕ) (x : Item) : Type 0 where
   pub item : Item
   pub same : piece_of item ≡ piece_of x
@@ -26,7 +26,7 @@ merged_item : (xs : List ℕ) (p n : ℕ) (r : Result ℕ Utf8ErrorKind) → Has
 merged_item xs p n (Ok s) has = record { item = (p, Ok s, n); same = refl; kind = tt }
 merged_item xs p n (Err k) has = merged_fault xs p n k has (merger_kind (drop p xs)) refl
 
--- the same of all items
+-- all items with the kinds that a merger gives
 record AllMerged (xs : List ℕ) (items : List Item) : Type 0 where
   pub merged : List Item
   pub same : map piece_of merged ≡ map piece_of items

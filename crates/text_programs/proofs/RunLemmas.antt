@@ -1,4 +1,4 @@
--- What a whole run has written.
+-- The output of a whole run.
 use Rattle.std.proofs.Common.{◌≡◌, ℕ, List, [], map, flat_map, Option, Some, None, refl, subst, arith, Result, Ok, Err}
 use Rattle.std.specs.Prelude.{IfOk, IfErr, IfSome, OnErr}
 use Rattle.utf_base.proofs.ByteWalks.{byte_walk_exists}
@@ -29,7 +29,7 @@ pub BeginsAsked-none : (asked : Asked) (input held : Option (List ℕ)) → Begi
 BeginsAsked-none asked None held = record { bytes = []; read = tt; lines = WritesAskedFront-none asked [] held }
 BeginsAsked-none asked (Some xs) held = record { bytes = xs; read = refl; lines = WritesAskedFront-none asked xs held }
 
--- what was asked for is one thing
+-- a request has one result
 pub DoesAsked-all : (args : List (List ℕ)) (a : Asked) (bytes : List ℕ) (input old new : Option (List ℕ)) (r : Result ℕ Stop)
     → Asks args a → IfSome input (λ xs. bytes ≡ xs) → IfOk r (WritesAsked a bytes old new)
     → IfOk r (λ faults. (asked : Asked) → Asks args asked → DoesAsked asked input old new faults)
@@ -43,7 +43,7 @@ pub BeginsAsked-all : (args : List (List ℕ)) (a : Asked) (bytes : List ℕ) {i
 BeginsAsked-all args a bytes {input} {old} {new} is read lines asked asks =
     subst (λ b. BeginsAsked b input old new) (one_asked args a asked is asks) (record { bytes = bytes; read = read; lines = lines })
 
--- where no call of the output failed it is as it was
+-- if no call of the output failed, the output is as it was
 stays : {T : Type 0} (stop : Stop) (old new : Counting T) → FailsOrStays old new stop → new.failures ≡ old.failures → new ≡ old
 stays WrongArguments old new same quiet = same
 stays CannotRead old new same quiet = same

@@ -1,4 +1,4 @@
--- Text recoded on its way from a reader to a writer, part by part, to the first fault.
+-- Text transcoded on its way from a reader to a writer, part by part, up to the first fault.
 use Rattle.std.proofs.Common.{◌≡◌, ℕ, ◌+◌, ◌-◌, ◌^◌, ◌<◌, ◌≤◌, min, ◌⊎◌, inl, inr, ⊎_elim, List, [], ◌++◌, length, take, drop, Option, Some, None, refl, ap, sym, subst, ◌∙◌, arith, append_assoc, length-append, length-drop}
 use Rattle.std.proofs.lemmas.List.{append-nil, drop_at}
 use Rattle.std.proofs.KnownBytes.{Appends-nil, Appends-trans, Consumes-nil, Consumes-trans, Consumes-kept}
@@ -33,7 +33,7 @@ module _ (r s : Recoding) (part room new : List ℕ) (p : StrictProgress) (x : F
         length-drop p.read part,
       )
 
-  -- it lies within what was read
+  -- the fault lies within what was read
   pub back_within : (before read : ℕ) → length r.held ≤ before → read ≡ min (before + p.read) (2 ^ 64 - 1) → x.back ≤ read
   back_within before read held sum =
       omega (arith, lengths, ends_faulty.1.back, ends_faulty.0.len, fault_few r.from, f.few, f.within)
@@ -51,8 +51,8 @@ module _ (r s : Recoding) (part room new : List ℕ) (p : StrictProgress) (x : F
     kind = λ later following. ends_faulty.0.kind later;
   }
 
--- What was read so far is text, which was recoded and written, and then what the recoder holds. Of so many reads each gave a
--- byte, or one failed.
+-- What was read so far is text, which was transcoded and written, followed by the carried-over bytes. Each of the
+-- reads gave a byte, or one failed.
 pub record IsTextRelayed (from to : Form) (in_old in_now out_old out_now : Option (List ℕ)) (failures_old failures_now turns : ℕ) (r : Recoding) (offset : ℕ) : Type 0 where
   pub text : List ℕ
   pub grown : List ℕ
@@ -137,7 +137,7 @@ module _ {from to : Form} {in_old in_mid out_old out_mid : Option (List ℕ)} {f
     before = now.before;
   }
 
-  -- the reader is at its end, and what was held is text
+  -- the reader is at its end, and the carried-over bytes are text
   pub IsTextRelayed-all : (in_new out_new : Option (List ℕ)) → Consumes in_mid in_new [] → IsAtEnd in_new → PassesTextLast r out_mid out_new → WritesText from to in_old out_old out_new
   IsTextRelayed-all in_new out_new taken end last = record {
     text = now.text ++ r.held;

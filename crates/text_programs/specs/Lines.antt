@@ -17,16 +17,16 @@ kind_name OverlongEncoding = codes "OverlongEncoding"
 kind_name Utf16ReservedCodepoint = codes "Utf16ReservedCodepoint"
 kind_name TooHighCodepoint = codes "TooHighCodepoint"
 
--- a scalar in six hexadecimal digits, or what is wrong by its name
+-- a scalar in six hexadecimal digits, or the name of the error
 abbrev pub answer_text : Result ℕ Utf8ErrorKind → List ℕ
 answer_text (Ok s) = six_hex_digits s
 answer_text (Err k) = kind_name k
 
--- the offset, the length and the answer, with a space between them
+-- the offset, the length and the result, with a space between them
 abbrev pub item_line : Item → List ℕ
 item_line x = decimal x.0 ++ 32 ∷ [] ++ decimal x.2 ++ 32 ∷ [] ++ answer_text x.1 ++ 10 ∷ []
 
--- the answer alone
+-- a result without offset and length
 abbrev pub answer_line : Result ℕ Utf8ErrorKind → List ℕ
 answer_line r = answer_text r ++ 10 ∷ []
 
@@ -35,7 +35,7 @@ abbrev pub step_line : Option Item → List ℕ
 step_line None = codes "none" ++ 10 ∷ []
 step_line (Some x) = item_line x
 
--- whether that is an error line
+-- whether the line of a piece is an error line
 abbrev pub is_fault_step : Option Item → Bool
 is_fault_step None = false
 is_fault_step (Some x) = is_fault x

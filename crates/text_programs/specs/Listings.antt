@@ -1,4 +1,4 @@
--- What is written of a whole run over bytes.
+-- The output of a whole run over bytes.
 use Rattle.std.specs.Prelude.{ℕ, List, flat_map}
 use Rattle.encode_unicode.specs.Window.{Item}
 use Rattle.text_programs.specs.Lines.{item_line}

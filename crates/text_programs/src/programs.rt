@@ -1,4 +1,4 @@
-//! What the programs `pieces` and `recode` do: their arguments, their lines, and how they end.
+//! The programs `pieces` and `recode`: their arguments, their lines, and how they end.
 
 pub(crate) mod entries;
 pub(crate) mod lines;

@@ -1,4 +1,4 @@
--- Which code lies over a place, and the places between two pieces near it.
+-- The code that covers an offset, and the offsets between two pieces near it.
 use Rattle.std.proofs.Common.{◌≡◌, ℕ, ◌+◌, ◌-◌, ◌<◌, ◌≤◌, List, length, get_or, take, drop, None, Some, ⊎_elim, arith, refl, ap, ◌∙◌, false, length-drop}
 use Rattle.std.proofs.lemmas.Bool.{cases_lt}
 use Rattle.std.proofs.lemmas.List.{get_or-drop, take_rest}
@@ -17,11 +17,11 @@ use Rattle.recoding.proofs.CodeFronts.{continues_not}
 use Rattle.text_runs.specs.PieceBoundaries.{IsBetween, IsCodeOver, IsEndFrom, IsFirstBetween, IsLastBetween}
 use Rattle.text_runs.proofs.InnerLemmas.{asked_len}
 
--- no code that begins from the place i on and before j lies over p
+-- no code that begins from the offset i on and before j covers p
 abbrev pub NoneOver : List ℕ → ℕ → ℕ → ℕ → Type 0
 NoneOver xs p i j = (k s : ℕ) → i ≤ k → k < j → Stands utf8 xs k s → k + length (utf8 s) ≤ p
 
--- a code that stands at a place begins what is left from there on
+-- a code at an offset begins the rest from there on
 stands_at_front : (xs : List ℕ) (i s : ℕ) → Stands utf8 xs i s → Stands utf8 (slice_range xs i (length xs)) 0 s
 stands_at_front xs i s h =
     let len : 0 + length (utf8 s) - 0 ≡ i + length (utf8 s) - i = omega arith in
@@ -58,7 +58,7 @@ over_found xs p j e ends before over =
     let code = ends.some (omega arith) in
     record { char = code.0; stands = code.1; end = ends.code code.0 code.1; begins = before; over = over }
 
--- a code has at most four bytes, so one that lies over the place begins at most three before it
+-- a code has at most four bytes, so one that covers the offset begins at most three before it
 pub none_over : (xs : List ℕ) (p : ℕ) → p ≤ length xs → NoneOver xs p (p - 3) p → IsBetween xs p
 none_over xs p le none = record {
   within = le;
@@ -69,7 +69,7 @@ none_over xs p le none = record {
       omega arith;
 }
 
--- a byte that a code lies over continues it
+-- a byte that a code covers continues it
 over_continues : (xs : List ℕ) (p : ℕ) → Inside utf8 xs p → (0x80 ≤ get_or xs p 0) × (get_or xs p 0 < 0xC0)
 over_continues xs p i =
     let w = drop i.from xs in

@@ -1,4 +1,4 @@
--- Bytes are text exactly where each of their pieces is a character; and where pieces lie.
+-- Bytes are text if and only if each of their pieces is a character; and the range in which pieces lie.
 use Rattle.std.proofs.Common.{◌≡◌, ℕ, suc, ◌+◌, ◌<◌, ◌≤◌, Bool, ◌&&◌, List, [], ◌∷◌, length, map, refl, sym, ◌∙◌, arith, true, false, cond, Option, Some, None, Ok, Err, Result}
 use Rattle.std.proofs.lemmas.List.Elements.{All-cons, All-nil}
 use Rattle.std.specs.Bool.{IsTrue}
@@ -50,7 +50,7 @@ text_by_pieces xs = (
   (λ text. (chars_alone (pieces xs) (no_fault_where_text xs (pieces xs) (pieces_are_the_run xs) text)).0),
 )
 
--- so are those of a merger
+-- bytes are text if and only if each result of a merger is a character
 pub text_by_merger : (xs : List ℕ) → IsTrue (list_all (λ r. is_ok r) (merged xs)) ↔ IsUtf8 xs
 text_by_merger xs = rw (merged_alike xs) (text_by_pieces xs)
 

@@ -1,4 +1,4 @@
--- Lists of faults: what a character and a fault at the front leave of them, and what text does.
+-- Lists of faults: the effect of a character, of a fault and of text at the front.
 use Rattle.std.proofs.Common.{◌≡◌, ℕ, zero, suc, ◌+◌, ◌<◌, ◌≤◌, List, [], ◌∷◌, length, length-drop, filter, is_err, map, drop, Result, Ok, Err, arith, refl, ap, subst, sym, ◌∙◌}
 use Rattle.std.proofs.lemmas.List.{drop-drop, drop_all, take_rest}
 use Rattle.std.proofs.lemmas.List.Sums.{length-filter}
@@ -11,7 +11,7 @@ use Rattle.text_runs.specs.ForwardRuns.{faulty_item_count}
 use Rattle.text_runs.specs.ShardRuns.{faults, moved}
 use Rattle.text_runs.specs.WellFormed.{valid_len}
 
--- The faults of a list whose first element stands at a place, by what a decoding answers.
+-- The faults of a list whose first element is at an offset, by what a decoding returns.
 abbrev pub faults_by : {E : Type 0} → (List ℕ → Result (ℕ × ℕ) E) → ℕ → List ℕ → List (Placed E)
 faults_by answer place w = filter (λ x. is_err x.1) (pieces_by answer (length w) place w)
 
@@ -30,7 +30,7 @@ module _ {E : Type 0} (answer : List ℕ → Result (ℕ × ℕ) E) (some : (xs 
       let left = length-drop x.1 (b ∷ w) in
       ap (λ ps. (place, x.0, x.1) ∷ ps) (same_by n m (place + x.1) (drop x.1 (b ∷ w)) (omega arith) (omega arith))
 
-  -- one piece, and then those of what it leaves
+  -- one piece, and then the pieces of the rest
   pub pieces_first : (place : ℕ) (w : List ℕ) → 0 < length w
       → pieces_by answer (length w) place w ≡ (place, (as_piece (answer w)).0, (as_piece (answer w)).1) ∷ pieces_by answer (length (drop (as_piece (answer w)).1 w)) (place + (as_piece (answer w)).1) (drop (as_piece (answer w)).1 w)
   unfolding pieces_by
@@ -78,7 +78,7 @@ module _ {E : Type 0} (answer : List ℕ → Result (ℕ × ℕ) E) (some : (xs 
           let at : place ≡ place + n = omega arith in
           ap (λ j. faults_by answer j (b ∷ w)) at ∙ ap (λ j. faults_by answer (place + n) (drop j (b ∷ w))) (sym none)
 
-  -- the same list at another place
+  -- the list of pieces at another offset
   pub pieces_on : (i n place : ℕ) (w : List ℕ) → pieces_by answer n (i + place) w ≡ map (moved i) (pieces_by answer n place w)
   unfolding pieces_by
   pieces_on i zero place w = refl
@@ -88,7 +88,7 @@ module _ {E : Type 0} (answer : List ℕ → Result (ℕ × ℕ) E) (some : (xs 
       let at : i + place + x.1 ≡ i + (place + x.1) = omega arith in
       ap (λ ps. (i + place, x.0, x.1) ∷ ps) (ap (λ j. pieces_by answer n j (drop x.1 (b ∷ w))) at ∙ pieces_on i n (place + x.1) (drop x.1 (b ∷ w)))
 
--- A run that counts faults has come so far, and so many are before that place.
+-- A run that counts faults has reached an offset, and counted those before it.
 pub record AreCounted {E : Type 0} (answer : List ℕ → Result (ℕ × ℕ) E) (xs : List ℕ) (read count : ℕ) : Type 0 where
   pub all : length (faults_by answer 0 xs) ≡ count + length (faults_by answer read (drop read xs))
   pub within : read ≤ length xs
@@ -122,7 +122,7 @@ module _ {E : Type 0} (answer : List ℕ → Result (ℕ × ℕ) E) (some : (xs 
       let no_fault : length (faults_by answer read (drop read xs)) ≡ 0 = ap (λ w. length (faults_by answer read w)) (drop_all read xs end) ∙ ap length (faults_none answer some read) in
       omega (arith, h.all)
 
--- What a decoder of the rest of a list answers, and how far that is text, said of the rest.
+-- The result of a decoder of the rest of a list, and the length of text at its front, stated for the rest.
 
 pub front_known : {E : Type 0} (answer : List ℕ → Result (ℕ × ℕ) E) (xs : List ℕ) (place : ℕ) (w : Window) (r : Result ℕ E) (n : ℕ) → w ≡ whole_window (slice_range xs place (length xs))
     → (r, n) ≡ as_piece (answer (elements w)) → as_piece (answer (drop place xs)) ≡ (r, n)
@@ -158,7 +158,7 @@ text_known answer xs place n e =
     let v = slice_range xs place (length xs) in
     e ∙ ap (λ y. valid_len (pieces_by answer (length y) 0 y)) (take_rest v 0 ∙ take_rest xs place)
 
--- the same of the whole list
+-- the result of a decoder at an offset, and the length of text there, stated for the whole list
 pub text_at_front : {E : Type 0} (answer : List ℕ → Result (ℕ × ℕ) E) (xs : List ℕ) (n : ℕ) → n ≡ valid_len (pieces_by answer (length (elements (whole_window xs))) 0 (elements (whole_window xs)))
     → n ≡ valid_len (pieces_by answer (length xs) 0 xs)
 text_at_front answer xs n e = e ∙ ap (λ y. valid_len (pieces_by answer (length y) 0 y)) (take_rest xs 0)
@@ -166,7 +166,7 @@ text_at_front answer xs n e = e ∙ ap (λ y. valid_len (pieces_by answer (lengt
 pub text_fits : (xs : List ℕ) (place n : ℕ) → n ≤ length (slice_range xs place (length xs)) → n ≤ length (drop place xs)
 text_fits xs place n h = rw (take_rest xs place) at h
 
--- Those of bytes.
+-- The faults of bytes, as a decoder finds them.
 
 pub faults_are : (w : List ℕ) → faults w ≡ faults_by decoded 0 w
 faults_are w = ap (faults_by decoded 0) (take_rest w 0)

@@ -1,4 +1,4 @@
--- The places of the faults of a text.
+-- The offsets of the faults of a text.
 use Rattle.std.proofs.Common.{◌≡◌, ℕ, ◌+◌, ◌<◌, ◌≤◌, List, length, get_or, take, drop, arith, refl, ap, sym, ◌∙◌, true, Ok, Err, None}
 use Rattle.std.proofs.lemmas.List.{get_or-map, length-map, take-append-drop}
 use Rattle.std.proofs.lemmas.List.Sums.{sum_by-append, count_by_more_yes}
@@ -11,18 +11,18 @@ use Rattle.text_runs.specs.ForwardRuns.{is_fault, faulty_item_count}
 use Rattle.text_runs.specs.Items.{piece_of}
 use Rattle.text_runs.proofs.ForwardRuns.{pieces_are_the_run}
 
--- a fault at a place
+-- a fault at an offset
 abbrev pub fault_piece : ℕ → Piece
 fault_piece p = record { start = p; len = 1; char = None }
 
 abbrev pub IsFaultAt : List ℕ → ℕ → Type 0
 IsFaultAt xs p = IsPieceAt utf8 xs p 1 None
 
--- a fault by its place alone
+-- a fault is determined by its offset
 pub only_place : (xs : List ℕ) (z : Piece) → IsPiece utf8 xs z → z.char ≡ None → IsFaultAt xs z.start
 only_place xs z h e = let g : IsPieceAt utf8 xs z.start z.len None = rw e at h in (g.0, refl, g.2)
 
--- Where no item is a fault, there is none.
+-- If no item is a fault, there is none.
 fault_item : (x : Item) → (piece_of x).char ≡ None → is_fault x ≡ true
 fault_item (p, Ok s, n) e = absurd cc
 fault_item (p, Err kind, n) e = refl

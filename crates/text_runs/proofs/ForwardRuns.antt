@@ -1,4 +1,4 @@
--- A forward run, one answer after another: from the contract of one call and the laws of cuts alone.
+-- A forward run, one result after another: only from the contract of one call and the laws of cuts.
 use Rattle.std.proofs.Common.{◌≡◌, ℕ, zero, suc, ◌+◌, ◌<◌, ◌≤◌, ⊎_elim, List, [], ◌∷◌, ◌++◌, length, refl, ◌∙◌, arith, append-nil, append_assoc, Option, Some, None, Ok, Err, Result}
 use Rattle.std.proofs.lemmas.Grind.{common_steps}
 use Rattle.std.proofs.lemmas.Bool.{cases_lt}
@@ -24,7 +24,7 @@ use Rattle.text_runs.specs.Items.{IsRun}
 use Rattle.text_runs.specs.ForwardRuns.{IsForwardRun}
 use Rattle.text_runs.proofs.PieceRuns.{Excludes, IsRunTo, IsRunTo-front, IsRunTo-push, IsRun-all}
 
--- The items are the run as far as the window's front, and the rest of the list is in the window.
+-- The items are the run up to the window's front, and the rest of the list is in the window.
 pub record IsWindowRun {E : Type 0} (code : ℕ → List ℕ) (kind : List ℕ → Option E) (xs : List ℕ) (items : List (Placed E)) (w : Window) : Type 0 where
   pub whole : w.whole ≡ xs
   pub end : w.back ≡ length xs
@@ -33,7 +33,7 @@ pub record IsWindowRun {E : Type 0} (code : ℕ → List ℕ) (kind : List ℕ �
 IsWindowRun-none : {E : Type 0} (code : ℕ → List ℕ) (kind : List ℕ → Option E) (xs : List ℕ) → IsWindowRun code kind xs [] (whole_window xs)
 IsWindowRun-none code kind xs = record { whole = refl; end = refl; run = IsRunTo-front code kind xs }
 
--- one answer more
+-- one more result
 IsWindowRun-push : {E : Type 0} (code : ℕ → List ℕ) (most : ℕ) (kind : List ℕ → Option E) (answer : List ℕ → Result (ℕ × ℕ) E) → IsCode code → Excludes code kind
     → (xs : List ℕ) (items : List (Placed E)) (w v : Window) (x : Placed E) → IsWindowRun code kind xs items w → GivesFrontOf code most kind answer w x v
     → IsWindowRun code kind xs (items ++ x ∷ []) v
@@ -47,7 +47,7 @@ IsWindowRun-all : {E : Type 0} (code : ℕ → List ℕ) (kind : List ℕ → Op
     → IsRun code kind xs items
 IsWindowRun-all code kind xs items w v f g = IsRun-all code kind xs items w.front f.run (g.none ∙ f.end)
 
--- The same of bytes.
+-- The items are the run of bytes up to the window's front.
 
 abbrev pub IsRunSoFar : List ℕ → List Item → Window → Type 0
 IsRunSoFar = IsWindowRun utf8 fault_kind
@@ -61,7 +61,7 @@ IsRunSoFar-push {xs} {items} {w} {v} {x} f g = IsWindowRun-push utf8 4 fault_kin
 pub IsForwardRun-all : (xs : List ℕ) (items : List Item) (w v : Window) → IsRunSoFar xs items w → GivesNone w v → IsForwardRun xs items
 IsForwardRun-all = IsWindowRun-all utf8 fault_kind
 
--- And of units.
+-- The items are the run of units up to the window's front.
 
 abbrev pub IsUnitRunSoFar : List ℕ → List UnitItem → Window → Type 0
 IsUnitRunSoFar = IsWindowRun utf16 unit_fault_kind
@@ -109,7 +109,7 @@ front_item w some fits = by_kind w some fits (fault_kind (elements w)) refl
           },
         )
 
--- The same of a window of units.
+-- a window of units that is not empty has a first item
 front_unit : (w : Window) → IsUnits w.whole → w.front < w.back → w.back ≤ length w.whole → (x : UnitItem) × GivesFrontUnits w x (without_front w x.2)
 front_unit w units some fits = by_kind (unit_fault_kind (elements w)) refl
   where
@@ -145,7 +145,7 @@ front_unit w units some fits = by_kind (unit_fault_kind (elements w)) refl
           },
         )
 
--- The run, whatever it has come to, goes on to the end, with what the decoder still gives.
+-- The run, continued from any offset to the end with the remaining items of the decoder.
 
 module _ {E : Type 0} (code : ℕ → List ℕ) (most : ℕ) (kind : List ℕ → Option E) (answer : List ℕ → Result (ℕ × ℕ) E) (c : IsCode code) (apart : Excludes code kind) (left : Window → List (Placed E))
     (none : (w : Window) → GivesNone w w → left w ≡ []) (more : (w v : Window) (x : Placed E) → GivesFrontOf code most kind answer w x v → left w ≡ x ∷ left v)
@@ -180,11 +180,11 @@ pub record GoesOn (xs : List ℕ) (items : List Item) : Type 0 where
 pub GoesOn-always : (xs : List ℕ) (items : List Item) (w : Window) → IsRunSoFar xs items w → GoesOn xs items
 GoesOn-always xs items w f = record { more = pieces_left w; run = bytes_out xs items w f }
 
--- what a decoder gives of some bytes is the forward run over them
+-- the items of a decoder of some bytes are the forward run over them
 pub pieces_are_the_run : (xs : List ℕ) → IsForwardRun xs (pieces xs)
 pieces_are_the_run xs = bytes_out xs [] (whole_window xs) (IsRunSoFar-none xs)
 
--- and so of units
+-- the items of a decoder of units are the forward run over them
 pub unit_pieces_are_the_run : (xs : List ℕ) → IsUnits xs → IsRun utf16 unit_fault_kind xs (unit_pieces xs)
 unit_pieces_are_the_run xs units =
     run_out utf16 2 unit_fault_kind decoded_pairs utf16_is_code no_units_where_kind unit_pieces_left (λ w g. (unit_decoder_listed w None w g).0) (λ w v x g. unit_decoder_listed w (Some x) v g) xs

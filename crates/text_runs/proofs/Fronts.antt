@@ -12,7 +12,7 @@ use Rattle.text_runs.specs.Failures.{AppendsFront}
 pub AppendsFront-none : (held : Option (List ℕ)) (xs : List ℕ) → AppendsFront held held xs
 AppendsFront-none held xs = (0, Appends-nil held)
 
--- and so is the whole
+-- the whole is a front
 pub AppendsFront-all : (old new : Option (List ℕ)) (xs : List ℕ) → Appends old new xs → AppendsFront old new xs
 AppendsFront-all old new xs h = (length xs, rw take-length h)
 

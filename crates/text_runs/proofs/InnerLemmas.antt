@@ -39,13 +39,6 @@ asked_len w s n stands len =
     let same = same_char utf8 utf8_is_code w 0 (value w) s code.0 stands in
     len ∙ (ap (λ t. length (utf8 t)) (sym same) ∙ sym code.1)
 
-pub inner_most : (w : List ℕ) → inner_after w ≤ 3
-unfolding inner_after
-inner_most w =
-    let le = inner_few (fault_kind w) (asked_by w) in
-    let four = asked_le (get_or w 0 0) in
-    omega arith
-
 -- four bytes decide
 inner_four : (w : List ℕ) → inner_after (take 4 w) ≡ inner_after w
 unfolding inner_after
@@ -62,7 +55,7 @@ pub inner_more : (xs : List ℕ) (n : ℕ) → inner_before xs (n + 1) ≡ inner
 unfolding inner_before
 inner_more xs n = let e : n + 1 ≡ suc n = omega arith in rw e refl
 
--- those of a part of the bytes, as far as three bytes before its end
+-- the inner bytes of a part of the bytes, up to three bytes before its end
 pub inner_of_part : (xs : List ℕ) (p m n : ℕ) → n + 3 ≤ m → inner_before (take m (drop p xs)) n + inner_before xs p ≡ inner_before xs (p + n)
 inner_of_part xs p m zero far = let e : p + 0 ≡ p = omega arith in rw e (omega (arith, inner_zero (take m (drop p xs))))
 inner_of_part xs p m (suc n) far =
@@ -76,14 +69,14 @@ inner_of_part xs p m (suc n) far =
     let next : p + suc n ≡ p + n + 1 = omega arith in
     rw (next, one) (omega (arith, inner_more w n, inner_more xs (p + n)))
 
--- they grow
+-- the number of inner bytes before an offset grows with it
 pub inner_grows : (xs : List ℕ) (p n : ℕ) → inner_before xs p ≤ inner_before xs (p + n)
 inner_grows xs p zero = let e : p + 0 ≡ p = omega arith in rw e (omega arith)
 inner_grows xs p (suc n) =
     let e : p + suc n ≡ p + n + 1 = omega arith in
     rw e (omega (arith, inner_grows xs p n, inner_more xs (p + n)))
 
--- A code has as many as it has bytes after its first.
+-- A code has as many inner bytes as it has bytes after its first.
 none_inside : (xs : List ℕ) (p n : ℕ) → ((k : ℕ) → 0 < k → k < n → inner_after (drop (p + k) xs) ≡ 0) → 0 < n → inner_before xs (p + n) ≡ inner_before xs p + inner_after (drop p xs)
 none_inside xs p zero none some = absurd (omega arith)
 none_inside xs p (suc zero) none some = inner_more xs p
@@ -92,12 +85,12 @@ none_inside xs p (suc (suc n)) none some =
     let e : p + suc (suc n) ≡ p + suc n + 1 = omega arith in
     rw e (omega (arith, inner_more xs (p + suc n), none (suc n) (omega arith) (omega arith)))
 
--- one piece more
+-- one more piece
 module _ (xs : List ℕ) (p c : ℕ) (h : IsCountedTo xs p c) (sum : c + inner_before xs p ≡ p) (some : p < length xs) where
   abbrev w : List ℕ
   w = drop p xs
 
-  -- a place after the piece, up to which it is known too
+  -- an offset after the piece, up to which the count is known too
   pub record Next : Type 0 where
     pub len : ℕ
     pub positive : 0 < len
@@ -148,7 +141,7 @@ counted_up (suc fuel) xs p c h sum far =
     (λ (end : length xs ≤ p). counted_end xs p c h sum end)
     (cases_lt p (length xs))
 
--- So every other byte begins a piece.
+-- Every byte that is not inner begins a piece.
 pub others_begin : (xs : List ℕ) → length (pieces xs) + inner_before xs (length xs) ≡ length xs
 others_begin xs = counted_up (length xs) xs 0 0 (counted_none xs) (omega (arith, inner_zero xs)) (omega arith)
 

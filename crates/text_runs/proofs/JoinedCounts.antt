@@ -1,4 +1,4 @@
--- Pieces, and faults among them, of two parts with no code over their seam.
+-- Pieces, and faults among them, of two parts with no code across their seam.
 use Rattle.std.proofs.Common.{◌≡◌, ℕ, ◌+◌, ◌≤◌, List, [], ◌∷◌, ◌++◌, length, map, arith, refl, ap, ap₂, sym, ◌∙◌, Ok, Err, length-append}
 use Rattle.std.proofs.lemmas.List.{length-map}
 use Rattle.std.proofs.lemmas.List.Sums.{sum_by-cons, sum_by-append}
@@ -16,7 +16,7 @@ use Rattle.text_runs.specs.Items.{piece_of}
 use Rattle.text_runs.proofs.ForwardRuns.{pieces_are_the_run}
 use Rattle.text_runs.proofs.JoinedPieces.{cut_joined}
 
--- Faults are told by the pieces alone.
+-- Faults are determined by the pieces, without their kinds.
 no_char : Piece → Bool
 no_char x = is_none x.char
 
@@ -47,7 +47,7 @@ faults_moved a b (x ∷ ps) =
     ∙ sym (sum_by-cons (λ y. one_if (no_char y)) x ps))
 
 module _ (a b : List ℕ) (seam : Inside utf8 (a ++ b) (length a) → ⊥) where
-  -- the pieces of the whole are those of its parts, but for their kinds
+  -- the pieces of the whole are those of its parts, except for their kinds
   pub pieces_joined : map piece_of (pieces (a ++ b)) ≡ map piece_of (pieces a) ++ map (moved 0 (length a)) (map piece_of (pieces b))
   pieces_joined =
       cut_unique utf8 utf8_is_code (a ++ b) 0 (length (a ++ b)) (map piece_of (pieces (a ++ b)))

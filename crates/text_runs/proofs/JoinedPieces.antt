@@ -1,4 +1,4 @@
--- Two lists that are joined, where no code lies over the seam: their pieces are those of the whole.
+-- Two lists that are joined, with no code across the seam: their pieces are those of the whole.
 use Rattle.std.proofs.Common.{◌≡◌, ℕ, ◌+◌, ◌-◌, ◌<◌, ◌≤◌, List, ◌++◌, length, map, arith, refl, ◌∙◌, ⊎_elim, Some, None, Option, length-append}
 use Rattle.std.proofs.lemmas.Bool.{cases_lt}
 use Rattle.std.proofs.lemmas.List.{take_at, take_rest, drop_at}
@@ -17,7 +17,7 @@ front_part a b = between_from_start (a ++ b) (length a) ∙ take_at a b (length 
 rest_part : (a b : List ℕ) → slice_range (a ++ b) (length a) (length (a ++ b)) ≡ b
 rest_part a b = take_rest (a ++ b) (length a) ∙ drop_at a b (length a) refl
 
--- What stands in a part stands in the whole, and what stands in the whole within a part stands in it.
+-- A code in a part is in the whole, and a code of the whole within a part is in it.
 
 pub front_in_whole : (code : ℕ → List ℕ) (a b : List ℕ) (p s : ℕ) → Stands code a p s → Stands code (a ++ b) p s
 front_in_whole code a b p s h =
@@ -36,7 +36,7 @@ whole_in_rest code a b p q s e h =
     let within = h.within in
     rw (rest_part a b) at (stands_in_part code (a ++ b) (length a) (length (a ++ b)) p q s e (omega arith) h within)
 
--- The same of a code over a place.
+-- A code of a part covers an offset if and only if it does in the whole.
 
 pub inside_front : (code : ℕ → List ℕ) (a b : List ℕ) (p : ℕ) → Inside code a p → Inside code (a ++ b) p
 inside_front code a b p i = record { from = i.from; char = i.char; stands = front_in_whole code a b i.from i.char i.stands; begins = i.begins; ends = i.ends }
@@ -50,7 +50,7 @@ inside_rest code a b p i = record {
   ends = omega (arith, i.ends);
 }
 
--- no code of UTF-8 lies over a place and over one that is three bytes away
+-- no code of UTF-8 covers both an offset and one that is three bytes away
 pub near_front : (a b : List ℕ) (p : ℕ) → p + 3 ≤ length a → Inside utf8 (a ++ b) p → Inside utf8 a p
 near_front a b p h i = record {
   from = i.from;
@@ -74,7 +74,7 @@ near_rest_of code most few a b p h i =
 pub near_rest : (a b : List ℕ) (p : ℕ) → 3 ≤ p → Inside utf8 (a ++ b) (length a + p) → Inside utf8 b p
 near_rest a b p h = near_rest_of utf8 4 length_utf8 a b p (omega arith)
 
--- Where no code lies over the seam.
+-- If no code covers the seam.
 module _ (code : ℕ → List ℕ) (a b : List ℕ) (seam : Inside code (a ++ b) (length a) → ⊥) where
   -- a code that begins in the front ends there
   ends_in_front : (p s : ℕ) → Stands code (a ++ b) p s → p < length a → p + length (code s) ≤ length a
@@ -84,7 +84,7 @@ module _ (code : ℕ → List ℕ) (a b : List ℕ) (seam : Inside code (a ++ b)
       (λ (fits : p + length (code s) ≤ length a). fits)
       (cases_lt (length a) (p + length (code s)))
 
-  -- and one that ends in the rest begins there
+  -- a code that ends in the rest begins there
   begins_in_rest : (p s : ℕ) → Stands code (a ++ b) p s → length a < p + length (code s) → length a ≤ p
   begins_in_rest p s h over =
       ⊎_elim
@@ -168,18 +168,18 @@ module _ (code : ℕ → List ℕ) (a b : List ℕ) (seam : Inside code (a ++ b)
             }),
       )
 
-  -- the pieces of the front, at the places of the whole
+  -- the pieces of the front, at the offsets of the whole
   pub cut_of_front : (ps : List Piece) → IsCut code a ps → IsCutBetween code (a ++ b) 0 (length a) ps
   cut_of_front ps cut = cut_stays code a (a ++ b) 0 (length a) ps (λ p lt n char. (piece_from_front p n char lt, piece_of_front p n char lt)) cut
 
-  -- and those of the rest
+  -- the pieces of the rest, at the offsets of the whole
   pub cut_of_rest : IsCode code → (ps : List Piece) → IsCut code b ps → IsCutBetween code (a ++ b) (length a) (length (a ++ b)) (map (moved 0 (length a)) ps)
   cut_of_rest c ps cut =
       let place : length a + 0 ≡ length a = omega arith in
       rw place at (cut_moves code c b (a ++ b) 0 (length a) 0 (length (a ++ b)) ps
       (λ p lo n char. let first : 0 + p ≡ p = omega arith in rw first (piece_from_rest p n char, piece_of_rest p n char)) (omega arith) cut)
 
-  -- The cut of the whole is those of its parts.
+  -- The cut of the whole consists of the cuts of its parts.
   pub cut_joined : IsCode code → (ps qs : List Piece) → IsCut code a ps → IsCut code b qs → IsCut code (a ++ b) (ps ++ map (moved 0 (length a)) qs)
   cut_joined c ps qs front rest =
       cut_append code (a ++ b) 0 (length a) (length (a ++ b)) ps (map (moved 0 (length a)) qs) (omega arith) (omega (arith, length-append a b))

@@ -1,4 +1,4 @@
--- The lines of some parts: taken from the front and from the back, and that they are std's lines.
+-- The lines of some parts: taken from the front and from the end, and that they are std's lines.
 use Rattle.std.proofs.Common.{◌≡◌, ℕ, ◌<◌, ◌≤◌, Bool, true, false, nat_eq, List, [], ◌∷◌, ◌++◌, length, map, refl, ap, sym, ◌∙◌, arith, append-nil, length-append}
 use Rattle.std.proofs.lemmas.List.{length-map}
 use Rattle.std.specs.Prelude.{IfSome, None, Option, Some, if◌then◌else◌}
@@ -7,12 +7,12 @@ use Rattle.std.specs.Str.Lines.{lines, lines_of_parts}
 use Rattle.text_runs.proofs.SplitLemmas.{split_bytes}
 use Rattle.text_runs.specs.Splits.{PlacedBytes, ended_line, lines_by, lines_left, lines_of, split_by}
 
--- the first of them
+-- the first line
 pub first_line : (x : PlacedBytes) (parts : List PlacedBytes) → 0 < length parts → lines_of (x ∷ parts) ≡ ended_line x ∷ lines_of parts
 first_line x [] some = absurd (omega arith)
 first_line x (y ∷ parts) some = refl
 
--- the last of them, where it has bytes and where it has none
+-- the last line, if the last part has bytes and if it has none
 last_of_lines : (parts : List PlacedBytes) (x : PlacedBytes) → lines_of (parts ++ x ∷ []) ≡ map ended_line parts ++ lines_of (x ∷ [])
 last_of_lines [] x = refl
 last_of_lines (y ∷ []) x = refl
@@ -28,7 +28,7 @@ pub ended_push : (parts : List PlacedBytes) (x : PlacedBytes) → map ended_line
 ended_push [] x = refl
 ended_push (y ∷ parts) x = ap (λ l. ended_line y ∷ l) (ended_push parts x)
 
--- without their places they are std's
+-- without their offsets they are std's
 line_bytes : (parts : List PlacedBytes) → map (λ x. x.bytes) (lines_of parts) ≡ lines_of_parts (map (λ x. x.bytes) parts)
 line_bytes [] = refl
 line_bytes (x ∷ []) = by_len (nat_eq (length x.bytes) 0)
@@ -59,7 +59,7 @@ pub few_left : {s : List PlacedBytes} (ended : Bool) (parts : List PlacedBytes) 
 few_left ended parts None view h = h
 few_left ended parts (Some n) view h = let fewer = fewer_left ended parts in let same = ap length view in omega arith
 
--- how many are left before the last
+-- the number of lines left before the last
 all_lines : {s parts : List PlacedBytes} {ended : Bool} (rest : List PlacedBytes) (x : PlacedBytes) → lines_left ended parts ≡ s → ended ≡ false → parts ≡ rest ++ x ∷ [] → lines_of (rest ++ x ∷ []) ≡ s
 all_lines {s} {parts} {ended} rest x view open_end taken = ap lines_of (sym taken) ∙ ap (λ b. lines_left b parts) (sym open_end) ∙ view
 

@@ -1,4 +1,4 @@
--- Codes of two bytes or more, told by four bytes.
+-- Codes of two bytes or more, recognised by their first four bytes.
 use Rattle.std.proofs.Common.{◌≡◌, ℕ, ◌+◌, ◌-◌, ◌*◌, ◌<◌, ◌≤◌, Bool, true, false, ◌&&◌, List, length, get_or, arith, refl, ⊎_elim, Some, None, Option, lit<, inl, inr}
 use Rattle.std.proofs.lemmas.Bool.{cases_lt}
 use Rattle.std.proofs.lemmas.Grind.{common_steps}
@@ -10,7 +10,7 @@ use Rattle.text_runs.specs.InnerBytes.{inner_after, is_longer}
 use Rattle.text_runs.proofs.InnerLemmas.{inner_code, inner_fault, inner_none}
 
 module _ (w : List ℕ) (enough : 4 ≤ length w) where
-  -- Where the test passes, nothing is wrong.
+  -- If the test passes, there is no fault.
   module _ (h : is_longer (get_or w 0 0) (get_or w 1 0) (get_or w 2 0) (get_or w 3 0) ≡ true) where
     pub low : 0xC2 ≤ get_or w 0 0
     low = grind (arith, common_steps)
@@ -93,7 +93,7 @@ module _ (w : List ℕ) (enough : 4 ≤ length w) where
         let below_value : v < 0x11_0000 = ⊎_elim (λ (less : get_or w 0 0 < 0xF4). omega arith) (λ (ge : 0xF4 ≤ get_or w 0 0). let to = after_f4 (omega arith) in omega arith) (cases_lt (get_or w 0 0) 0xF4) in
         kind-none w 4 v sums (rw least_value-4 enough_value) (record { below = below_value; no_surrogate = λ g. omega arith })
 
-    -- so the code has as many bytes as its first says
+    -- the code has as many bytes as its first asks for
     pub inner_two : get_or w 0 0 < 0xE0 → inner_after w ≡ 1
     inner_two lt = let asks = asked-2 (get_or w 0 0) low lt in omega (arith, inner_code w (none_two lt))
 
@@ -103,7 +103,7 @@ module _ (w : List ℕ) (enough : 4 ≤ length w) where
     pub inner_four : 0xF0 ≤ get_or w 0 0 → inner_after w ≡ 3
     inner_four ge = let asks = asked-4 (get_or w 0 0) ge high in omega (arith, inner_code w (none_four ge))
 
-  -- Where nothing is wrong, and the first byte asks for more, it passes.
+  -- If there is no fault, and the first byte asks for more, the test passes.
   module _ (e : fault_kind w ≡ None) where
     longer_two : 0xC2 ≤ get_or w 0 0 → get_or w 0 0 < 0xE0 → is_longer (get_or w 0 0) (get_or w 1 0) (get_or w 2 0) (get_or w 3 0) ≡ true
     longer_two ge lt =
@@ -163,7 +163,7 @@ module _ (w : List ℕ) (enough : 4 ≤ length w) where
         grind (arith, common_steps))
         (cases_lt 0xF0 (get_or w 0 0))
 
-  -- Where it does not pass, no such code begins the bytes.
+  -- If the test fails, no code of two bytes or more begins the bytes.
   pub inner_not_longer : is_longer (get_or w 0 0) (get_or w 1 0) (get_or w 2 0) (get_or w 3 0) ≡ false → inner_after w ≡ 0
   inner_not_longer h = by_kind (fault_kind w) refl
     where

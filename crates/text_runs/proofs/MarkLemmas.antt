@@ -1,4 +1,4 @@
--- The byte order mark in each form, and what a test for it tells.
+-- The byte order mark in each encoding, and the result of a test for it.
 use Rattle.std.proofs.Common.{◌≡◌, ℕ, Bool, true, false, eqb, List, [], ◌∷◌, length, take, refl, ap, sym, ◌∙◌, eqb-true, eq-eqb, true≢false}
 use Rattle.std.proofs.lemmas.Slice.Eq.{slice_eq-Decides}
 use lib.Pointwise.{pointwise}
@@ -31,7 +31,7 @@ module _ (form : Form) (bytes mark : List ℕ) (is : mark_of form ≡ mark) (r :
   pub begins_not : r ≡ false → take (length (mark_of form)) bytes ≡ mark_of form → ⊥
   begins_not fails front = true≢false (sym (decides.1 (sym (rw is at front))) ∙ fails)
 
--- no mark where none of three begins the bytes
+-- no mark if none of three begins the bytes
 pub has_no_mark : (bytes : List ℕ) → (take (length (mark_of Utf8)) bytes ≡ mark_of Utf8 → ⊥) → (take (length (mark_of (utf16_form false))) bytes ≡ mark_of (utf16_form false) → ⊥)
     → (take (length (mark_of (utf16_form true))) bytes ≡ mark_of (utf16_form true) → ⊥) → HasNoMark bytes
 has_no_mark bytes a b c = by_form _ a by_order

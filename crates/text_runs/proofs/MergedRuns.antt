@@ -1,4 +1,4 @@
--- A run of a merger, one answer after another: from the contract of one call and the laws of cuts alone.
+-- A run of a merger, one result after another: only from the contract of one call and the laws of cuts.
 use Rattle.std.proofs.Common.{◌≡◌, ℕ, suc, ◌+◌, ◌-◌, ◌<◌, List, [], ◌∷◌, ◌++◌, length, drop, refl, ap, sym, ◌∙◌, arith, Option, Some, None, Ok, Err, Result, length-append}
 use Rattle.std.proofs.lemmas.Grind.{common_steps}
 use Rattle.std.proofs.lemmas.List.{map-append, take_rest, drop_at, drop-drop}
@@ -20,8 +20,8 @@ use Rattle.text_runs.specs.Collected.{IsMergedRun, IsJoinedExactly}
 use Rattle.text_runs.proofs.PieceRuns.{Excludes, IsRunTo, IsRunTo-front, IsRunTo-push, IsRun-all}
 use Rattle.text_runs.proofs.RunLaws.{run_unique, run_of_joined, joined_of_run}
 
--- What a merger of a code rests on: it is one, no kind of a fault is told where a scalar stands, and it is found where one
--- does.
+-- The properties of a code that a merger needs: it is a code, no kind of a fault is found if a scalar is there, and a
+-- scalar is found if one is there.
 pub record IsMerger {E : Type 0} (code : ℕ → List ℕ) (kind : List ℕ → Option E) : Type 0 where
   pub is_code : IsCode code
   pub apart : Excludes code kind
@@ -36,7 +36,7 @@ of_bytes = record { is_code = utf8_is_code; apart = no_bytes_where_kind; finds =
 pub of_units : IsMerger utf16 unit_fault_kind
 of_units = record { is_code = utf16_is_code; apart = no_units_where_kind; finds = utf16_finds }
 
--- The answers are those of the run as far as a place, after which the unread elements stand.
+-- The results are those of the run up to an offset, from which on the elements are unread.
 pub record IsMergedSoFar {E : Type 0} (code : ℕ → List ℕ) (kind : List ℕ → Option E) (xs : List ℕ) (answers : List (Result ℕ E)) (unread : List ℕ) : Type 0 where
   pub items : List (Placed E)
   pub place : ℕ
@@ -48,7 +48,7 @@ pub IsMergedSoFar-none : {E : Type 0} (code : ℕ → List ℕ) (kind : List ℕ
     → IsMergedSoFar code kind xs answers unread
 IsMergedSoFar-none code kind xs answers unread none all = record { items = []; place = 0; run = IsRunTo-front code kind xs; following = all; same = none }
 
--- what leaves the unread elements with one answer
+-- a step that leaves the unread elements with one result
 record Taken {E : Type 0} (code : ℕ → List ℕ) (kind : List ℕ → Option E) (old : List ℕ) (r : Result ℕ E) (new : List ℕ) : Type 0 where
   pub len : ℕ
   pub front : IsFrontOf code kind old r len
@@ -73,7 +73,7 @@ place_before : (xs : List ℕ) (i : ℕ) → 0 < length (drop i xs) → i < leng
 place_before xs i some = grind (arith, common_steps)
 
 module _ {E : Type 0} {code : ℕ → List ℕ} {kind : List ℕ → Option E} (m : IsMerger code kind) (xs : List ℕ) (answers : List (Result ℕ E)) (old new : List ℕ) (f : IsMergedSoFar code kind xs answers old) where
-  -- one answer more
+  -- one more result
   pub merged_push : (r : Result ℕ E) → TakesFront code kind old (Some r) new → IsMergedSoFar code kind xs (answers ++ r ∷ []) new
   merged_push r h =
       let t = taken code kind m.is_code old new r h in
@@ -87,7 +87,7 @@ module _ {E : Type 0} {code : ℕ → List ℕ} {kind : List ℕ → Option E} (
         same = ap (λ rs. rs ++ r ∷ []) f.same ∙ sym (map-append (λ (x : Placed E). x.1) f.items ((f.place, r, t.len) ∷ []));
       }
 
-  -- an answer stands for some element
+  -- a result represents some element
   pub merged_some : (r : Result ℕ E) → TakesFront code kind old (Some r) new → xs ≡ [] → ⊥
   merged_some r h none =
       let t = taken code kind m.is_code old new r h in
@@ -107,7 +107,7 @@ module _ {E : Type 0} {code : ℕ → List ℕ} {kind : List ℕ → Option E} (
           ends : (ys : List ℕ) (n : ℕ) → length ys ≡ n → ys ≡ [] → n ≡ 0
           ends ys n len e = sym len ∙ ap length e
 
-  -- its answers are characters all exactly where the elements are joined codes
+  -- a run's results are all characters if and only if the elements are joined codes
   pub merged_joined : TakesFront code kind old None new → IsJoinedExactly code xs answers
   merged_joined h =
       let run = merged_all h in
@@ -116,7 +116,7 @@ module _ {E : Type 0} {code : ℕ → List ℕ} {kind : List ℕ → Option E} (
         only = λ scalars e. joined_of_run code kind m.is_code m.finds xs scalars run.items run.run (sym run.same ∙ e);
       }
 
-  -- and every run over the elements answers the same
+  -- every run over the elements has the same results
   pub merged_alike : TakesFront code kind old None new → (items : List (Placed E)) → IsRun code kind xs items → answers ≡ answers_of items
   merged_alike h items is =
       let run = merged_all h in

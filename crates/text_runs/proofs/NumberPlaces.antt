@@ -1,4 +1,4 @@
--- A place that a number has.
+-- The offset of the piece with a number.
 use Rattle.std.proofs.Common.{◌≡◌, ℕ, ◌<◌, List, length, get_or, map, arith, refl, ap, ◌∙◌, Some, None, Option}
 use Rattle.std.proofs.lemmas.List.{get_or-map, length-map}
 use Rattle.std.proofs.lemmas.Option.{slice_get_within, get_or_from_slice_get}
@@ -9,7 +9,7 @@ use Rattle.encode_unicode.specs.Window.{Item}
 use Rattle.text_runs.specs.Items.{piece_of}
 use Rattle.text_runs.proofs.ForwardRuns.{pieces_are_the_run}
 
--- a place that the number has lies in the bytes
+-- the offset of the piece with a number lies in the bytes
 pub number_within : (xs : List ℕ) (number i : ℕ) → Some i ≡ option_map (λ (z : Item). z.0) (slice_get (pieces xs) number) → i < length xs
 number_within xs number i told = by_item (slice_get (pieces xs) number) refl told
   where

@@ -1,4 +1,4 @@
--- A run, one piece after another, over one list and generic in its code: from the laws of cuts alone.
+-- A run, one piece after another, over one list and generic in its code: only from the laws of cuts.
 use Rattle.std.proofs.Common.{◌≡◌, ℕ, ◌+◌, ◌<◌, ◌≤◌, List, [], ◌∷◌, ◌++◌, length, map, ap, subst, arith, Option, Ok, Err, Result}
 use Rattle.std.proofs.lemmas.List.{map-append, take_rest, length_push}
 use Rattle.std.proofs.lemmas.List.Elements.{All-push}
@@ -12,7 +12,7 @@ use Rattle.encode_unicode.specs.Window.{Placed, IsFrontOf}
 pub use Rattle.recoding.proofs.FirstFaults.{Excludes}
 use Rattle.text_runs.specs.Items.{piece_of, HasKind, IsRunBetween, IsRun}
 
--- The items are the run from the place i as far as the place j.
+-- The items are the run from the offset i up to the offset j.
 pub record IsRunTo {E : Type 0} (code : ℕ → List ℕ) (kind : List ℕ → Option E) (xs : List ℕ) (i : ℕ) (items : List (Placed E)) (j : ℕ) : Type 0 where
   pub within : j ≤ length xs
   pub outside : Inside code xs j → ⊥
@@ -31,7 +31,7 @@ IsRunTo-none code kind xs i within outside = record {
 pub IsRunTo-front : {E : Type 0} (code : ℕ → List ℕ) (kind : List ℕ → Option E) (xs : List ℕ) → IsRunTo code kind xs 0 [] 0
 IsRunTo-front code kind xs = IsRunTo-none code kind xs 0 (omega arith) (outside_front code xs)
 
--- What a piece at the front of the rest is of the whole list.
+-- A piece at the front of the rest, as a piece of the whole list.
 pub record AtFront {E : Type 0} (code : ℕ → List ℕ) (kind : List ℕ → Option E) (xs : List ℕ) (i n : ℕ) (r : Result ℕ E) : Type 0 where
   pub piece : IsPieceAt code xs i n (result_ok r)
   pub some : 0 < n
@@ -50,7 +50,7 @@ at_front code kind c apart xs i n (Err k) lt b (h, e) =
     let f = front_fault code xs i (length xs) b (outside_end code xs) lt (omega arith) (λ s st. apart _ k s h st) in
     record { piece = (f.0.0, e, f.0.2); some = omega arith; within = omega arith; outside = rw e f.1; kind_is = rw (← take_rest xs i) h }
 
--- one answer more
+-- one more result
 pub IsRunTo-push : {E : Type 0} (code : ℕ → List ℕ) (kind : List ℕ → Option E) → IsCode code → Excludes code kind → (xs : List ℕ) (i : ℕ) (items : List (Placed E)) (j : ℕ) (x : Placed E)
     → IsRunTo code kind xs i items j → x.0 ≡ j → j < length xs → IsFrontOf code kind (slice_range xs j (length xs)) x.1 x.2
     → IsRunTo code kind xs i (items ++ x ∷ []) (j + x.2)
@@ -70,7 +70,7 @@ IsRunTo-push code kind c apart xs i items j x f place lt front =
       passed = omega arith;
     }
 
--- at the end of the list it is whole
+-- at the end of the list the run is complete
 pub IsRun-all : {E : Type 0} (code : ℕ → List ℕ) (kind : List ℕ → Option E) (xs : List ℕ) (items : List (Placed E)) (i : ℕ) → IsRunTo code kind xs 0 items i → i ≡ length xs
     → IsRun code kind xs items
 IsRun-all code kind xs items i f e = rw e at f.run

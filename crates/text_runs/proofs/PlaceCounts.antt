@@ -1,4 +1,5 @@
--- The pieces of a list, counted by the places at which one begins: those over which no code lies. Generic in the code.
+-- The pieces of a list, counted by the offsets at which one begins: those that no code covers. Generic in the
+-- code.
 use Rattle.std.proofs.Common.{◌≡◌, ℕ, zero, suc, ◌+◌, ◌<◌, ◌≤◌, Bool, true, false, cond, List, length, get_or, map, arith, refl, ap, sym, ◌∙◌, subst, ⊎_elim, Some, None, Option, Ok}
 use Rattle.std.proofs.lemmas.Bool.{cases_lt}
 use Rattle.std.proofs.lemmas.List.{get_or-map, length-map}
@@ -13,7 +14,7 @@ use Rattle.text_runs.specs.Items.{IsRun, Placed, piece_of}
 use Rattle.text_runs.specs.Tables.{IsSplitAt}
 use Rattle.text_runs.proofs.SplitNumbers.{begins_outside_of}
 
--- A test tells of each place of the list whether no code lies over it.
+-- A test that decides of each offset of the list whether no code covers it.
 pub record TellsOutside (code : ℕ → List ℕ) (xs : List ℕ) (is : ℕ → Bool) : Type 0 where
   pub outside : (p : ℕ) → p < length xs → is p ≡ true → Inside code xs p → ⊥
   pub inside : (p : ℕ) → p < length xs → is p ≡ false → Inside code xs p
@@ -30,7 +31,7 @@ module _ {E : Type 0} (code : ℕ → List ℕ) (c : IsCode code) (finds : Finds
       let pairs = run.cut.in_order n m (piece_of d) lt (omega (arith, len)) in
       rw (piece_at n d (omega arith), piece_at m d within) at pairs
 
-  -- where no piece begins, as many begin before the next place
+  -- if no piece begins at an offset, as many begin before the next offset
   split_inside : (m k : ℕ) → m < length xs → is m ≡ false → IsSplitAt items m k → IsSplitAt items (m + 1) k
   split_inside m k lt lacking h = record {
     within = h.within;
@@ -47,7 +48,7 @@ module _ {E : Type 0} (code : ℕ → List ℕ) (c : IsCode code) (finds : Finds
         (cases_lt m x.0);
   }
 
-  -- where one begins, it is the next
+  -- if one begins there, it is the next
   split_outside : (m k : ℕ) → m < length xs → is m ≡ true → IsSplitAt items m k → IsSplitAt items (m + 1) (k + 1)
   split_outside m k lt held h =
       let begins = piece_begins code c finds xs m (tells.outside m lt held) lt in
@@ -83,7 +84,7 @@ module _ {E : Type 0} (code : ℕ → List ℕ) (c : IsCode code) (finds : Finds
   split_more m k lt true e h = split_outside m k lt e h
   split_more m k lt false e h = let none : k ≡ k + 0 = omega arith in subst (IsSplitAt items (m + 1)) none (split_inside m k lt e h)
 
-  -- So before a place begin as many as there are such places.
+  -- As many pieces begin before an offset as there are such offsets before it.
   pub split_at : (m : ℕ) → m ≤ length xs → IsSplitAt items m (place_count is m)
   split_at zero le = record { within = omega arith; before = λ n d lo hi. absurd (omega arith); following = λ n d lo hi. omega arith }
   split_at (suc m) le = by (is m) refl (split_at m (omega arith))
@@ -96,7 +97,7 @@ module _ {E : Type 0} (code : ℕ → List ℕ) (c : IsCode code) (finds : Finds
           let count : place_count is m + cond {A = ℕ} b 1 0 ≡ place_count is (suc m) = ap (λ b. place_count is m + cond {A = ℕ} b 1 0) (sym e) ∙ sym (places_more is m) ∙ ap (place_count is) on in
           subst (λ j. IsSplitAt items j (place_count is (suc m))) on (subst (IsSplitAt items (m + 1)) count (split_more m (place_count is m) (omega arith) b e before))
 
-  -- all pieces are as many as all such places
+  -- all pieces are as many as all such offsets
   pub places_counted : length items ≡ place_count is (length xs)
   places_counted =
       let k = place_count is (length xs) in
@@ -112,7 +113,7 @@ module _ {E : Type 0} (code : ℕ → List ℕ) (c : IsCode code) (finds : Finds
       (λ (ge : length items ≤ k). omega arith)
       (cases_lt k (length items))
 
-  -- and the piece with a number begins at the place with that number
+  -- the piece with a number begins at the offset with that number
   pub place_numbered : (number p : ℕ) → p < length xs → is p ≡ true → place_count is p ≡ number → Some p ≡ option_map (λ (x : Placed E). x.0) (slice_get items number)
   place_numbered number p lt held count =
       let some : Placed E = (0, Ok 0, 0) in

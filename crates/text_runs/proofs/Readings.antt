@@ -1,4 +1,4 @@
--- Bytes read until a reader answers the end.
+-- Bytes read until a reader returns the end.
 use Rattle.std.proofs.Common.{◌≡◌, ℕ, ◌+◌, ◌<◌, ◌≤◌, ◌⊎◌, inl, inr, ⊎_elim, zero, suc, Bool, false, List, [], ◌∷◌, ◌++◌, length, Option, Some, None, Ok, Err, refl, ap, sym, ◌∙◌, arith, length-append}
 use Rattle.std.proofs.lemmas.List.{append-nil}
 use Rattle.std.proofs.Math.Dec.{eqb-suc-zero}
@@ -10,8 +10,8 @@ use Rattle.std.specs.declared.io.Error.{Error}
 use Rattle.std.specs.declared.io.ErrorKind.TheVariants.{Interrupted}
 use Rattle.text_runs.specs.Failures.{ReadCounts, NoFailedRead, NoReadAfterEnd, CountsRead, is_end}
 
--- From one reader to another these bytes were read, in so many reads. Where reads are counted, each gave a byte or one
--- failed, none of them by more than an interruption, and none answered the end.
+-- From one reader to another these bytes were read, in `turns` reads. If reads are counted, each gave a byte or one
+-- failed, none of them by more than an interruption, and none returned the end.
 pub record IsReadSoFar (counted : Bool) (left_old left_now : Option (List ℕ)) (failures_old failures_now : ℕ) (old now : ReadCounts) (turns : ℕ) (bytes : List ℕ) : Type 0 where
   pub read : Consumes left_old left_now bytes
   pub paced : IsTrue counted → (failures_old < failures_now) ⊎ (turns ≤ length bytes)
@@ -20,7 +20,7 @@ pub record IsReadSoFar (counted : Bool) (left_old left_now : Option (List ℕ)) 
   pub unended : IsTrue counted → old.ended ≡ false → now.ended ≡ false
   pub in_time : IsTrue counted → NoReadAfterEnd old now
 
--- a read that gave something did not answer the end
+-- a read that gave something did not return the end
 pub is_end-some : (count : ℕ) (places : List ℕ) → 0 < count → is_end {E = Error} (Ok count) places ≡ false
 is_end-some count [] some = refl
 is_end-some zero (place ∷ places) some = absurd (omega arith)
@@ -33,7 +33,7 @@ still_false a b c e none also = e ∙ rw (none, also) refl
 pub still_early : (a : Bool) (m n : ℕ) → n ≡ (if a then m + 1 else m) → a ≡ false → n ≡ m
 still_early a m n e none = e ∙ rw none refl
 
--- and then a read gave a part
+-- bytes were read, and then a read gave a part
 pub IsReadSoFar-part : {counted : Bool} {left_old left_mid left_new : Option (List ℕ)} {f g h : ℕ} {old mid new : ReadCounts} {n : ℕ} {bytes : List ℕ} (part : List ℕ) {count : ℕ} {places : List ℕ}
     → IsReadSoFar counted left_old left_mid f g old mid n bytes → Consumes left_mid left_new part → 0 < length part → 0 < count
     → (IsTrue counted → h ≡ g + 0) → (IsTrue counted → CountsRead mid new (Ok count) places)
@@ -52,7 +52,7 @@ IsReadSoFar-part {left_old} {left_mid} {left_new} {f} {g} {n} {bytes} part {coun
   in_time = λ is open_yet. still_early _ _ _ (counts is).reads_after_end (now.unended is open_yet) ∙ now.in_time is open_yet;
 }
 
--- and then a read was interrupted
+-- bytes were read, and then a read was interrupted
 pub IsReadSoFar-idle : {counted : Bool} {left_old left_mid left_new : Option (List ℕ)} {f g h : ℕ} {old mid new : ReadCounts} {n : ℕ} {bytes : List ℕ} {error : Error} {places : List ℕ}
     → IsReadSoFar counted left_old left_mid f g old mid n bytes → Keeps left_mid left_new → error_kind error ≡ Interrupted
     → (IsTrue counted → h ≡ g + 1) → (IsTrue counted → CountsRead mid new (Err error) places)
@@ -66,7 +66,7 @@ IsReadSoFar-idle {left_old} {left_mid} {left_new} {bytes} now keeps kind more co
   in_time = λ is open_yet. still_early _ _ _ (counts is).reads_after_end (now.unended is open_yet) ∙ now.in_time is open_yet;
 }
 
--- the last read answered the end, so these are all bytes
+-- the last read returned the end, so these are all bytes
 pub reads_all : (a b c : Option (List ℕ)) (bytes : List ℕ) → Consumes a b bytes → Consumes b c [] → IsAtEnd c → IfSome a (λ xs. bytes ≡ xs)
 reads_all a b c bytes first last end = all_of a c bytes (rw (append-nil bytes) at (Consumes-trans a b c bytes [] first last)) end
   where

@@ -1,4 +1,5 @@
--- A list has at most one run, and one without an error exactly where it is the codes of some scalars, joined.
+-- A list has at most one run, and one without an error if and only if it is the codes of some scalars,
+-- joined.
 use Rattle.std.proofs.Common.{◌≡◌, ℕ, suc, ◌+◌, List, [], ◌∷◌, length, map, refl, ap, ap₂, sym, ◌∙◌, arith, true, Option, Some, Ok, Err, Result}
 use Rattle.std.proofs.lemmas.List.Elements.{All-cons, All-nil}
 use Rattle.std.specs.Prelude.{All, IfErr, drop, is_some}
@@ -10,7 +11,7 @@ use Rattle.utf_base.proofs.JoinedCodes.{no_fault_in_joined_codes}
 use Rattle.encode_unicode.specs.Window.{Placed}
 use Rattle.text_runs.specs.Items.{piece_of, HasKind, IsRun, IsRunBetween, answers_of}
 
--- the answer at a place is known by its piece
+-- the result at an offset is known by its piece
 same_answer : {E : Type 0} (kind : List ℕ → Option E) (xs : List ℕ) (p q : ℕ) (r t : Result ℕ E) → p ≡ q → result_ok r ≡ result_ok t
     → IfErr r (λ k. kind (drop p xs) ≡ Some k) → IfErr t (λ k. kind (drop q xs) ≡ Some k) → r ≡ t
 same_answer kind xs p q (Ok s) (Ok u) place e h g = let same : s ≡ u = cc in ap Ok same
@@ -48,7 +49,7 @@ pub run_unique : {E : Type 0} (code : ℕ → List ℕ) (kind : List ℕ → Opt
     → IsRun code kind xs items → IsRun code kind xs others → items ≡ others
 run_unique code kind c xs items others a b = run_between_unique code kind c xs 0 (length xs) items others a b
 
--- the answers of items that are the pieces of joined codes
+-- the results of items that are the pieces of joined codes
 answers_of_chars : {E : Type 0} (code : ℕ → List ℕ) (i : ℕ) (items : List (Placed E)) (scalars : List ℕ) → map piece_of items ≡ char_pieces code i scalars
     → answers_of items ≡ map Ok scalars
 answers_of_chars code i [] [] e = refl
@@ -63,7 +64,7 @@ answers_of_chars code i (x ∷ items) (s ∷ scalars) e =
     ok_of (Ok t) s e = let same : t ≡ s = cc in ap Ok same
     ok_of (Err k) s e = absurd cc
 
--- pieces whose answers are characters all
+-- pieces whose results are all characters
 no_fault_of_chars : {E : Type 0} (items : List (Placed E)) (scalars : List ℕ) → answers_of items ≡ map Ok scalars → HaveNoFault (map piece_of items)
 no_fault_of_chars [] scalars e = All-nil (λ x. is_some x.char ≡ true)
 no_fault_of_chars (x ∷ items) [] e = absurd cc
@@ -81,13 +82,13 @@ same_scalars {E} (s ∷ ss) (t ∷ ts) e =
     let rest : ◌≡◌ {A = List (Result ℕ E)} (map Ok ss) (map Ok ts) = cc in
     ap₂ (λ x xs. x ∷ xs) first (same_scalars ss ts rest)
 
--- the run over joined codes answers their scalars
+-- the run over joined codes returns their scalars
 pub run_of_joined : {E : Type 0} (code : ℕ → List ℕ) (kind : List ℕ → Option E) → IsCode code → Finds code → (xs scalars : List ℕ) (items : List (Placed E))
     → IsJoined code xs scalars → IsRun code kind xs items → answers_of items ≡ map Ok scalars
 run_of_joined code kind c find xs scalars items h run =
     answers_of_chars code 0 items scalars ((no_fault_in_joined_codes code c find).joined xs scalars (map piece_of items) h run.cut)
 
--- and no other answers scalars alone
+-- a run whose results are all scalars is over their joined codes
 pub joined_of_run : {E : Type 0} (code : ℕ → List ℕ) (kind : List ℕ → Option E) → IsCode code → Finds code → (xs scalars : List ℕ) (items : List (Placed E))
     → IsRun code kind xs items → answers_of items ≡ map Ok scalars → IsJoined code xs scalars
 joined_of_run {E} code kind c find xs scalars items run e =

@@ -1,4 +1,4 @@
--- Where a part of some bytes is replaced: no code comes to lie over a place that is three bytes away from it.
+-- If a part of some bytes is replaced, no code comes to cover an offset that is three bytes away from it.
 use Rattle.std.proofs.Common.{◌≡◌, ℕ, ◌+◌, ◌-◌, ◌≤◌, ◌⊎◌, List, ◌++◌, length, take, drop, arith, ap, sym, ◌∙◌, subst, ⊎_elim, append_assoc, length-append, length-drop}
 use Rattle.std.proofs.lemmas.List.{take-append-drop, length-take-le}
 use Rattle.std.specs.List.{splice}
@@ -8,7 +8,7 @@ use Rattle.utf_base.proofs.Standing.{outside_front, outside_end}
 use Rattle.text_runs.proofs.JoinedPieces.{inside_front, inside_rest, near_front, near_rest}
 
 module _ (xs new : List ℕ) (s e : ℕ) (lo : s ≤ e) (hi : e ≤ length xs) where
-  -- a place before the change
+  -- an offset before the change
   pub stays_outside_before : (p : ℕ) → (p ≡ 0) ⊎ (p + 3 ≤ s) → (Inside utf8 xs p → ⊥) → Inside utf8 (splice xs s e new) p → ⊥
   stays_outside_before p far out i =
       ⊎_elim
@@ -19,7 +19,7 @@ module _ (xs new : List ℕ) (s e : ℕ) (lo : s ≤ e) (hi : e ≤ length xs) w
       out (subst (λ ys. Inside utf8 ys p) (take-append-drop s xs) (inside_front utf8 (take s xs) (drop s xs) p in_front)))
       far
 
-  -- and one after it, which moves with what stands there
+  -- an offset after the change, which moves with its bytes
   pub stays_outside_after : (p : ℕ) → (p ≡ length xs) ⊎ (e + 3 ≤ p) → p ≤ length xs → (Inside utf8 xs p → ⊥) → Inside utf8 (splice xs s e new) (s + length new + (p - e)) → ⊥
   stays_outside_after p far within out i =
       let front : length (take s xs) ≡ s = length-take-le s xs (omega arith) in

@@ -1,12 +1,12 @@
--- The parts of a list: taken from the front and from the back, and what they are together.
+-- The parts of a list: taken from the front and from the end, and joined again.
 use Rattle.std.proofs.Common.{◌≡◌, ℕ, zero, suc, ◌+◌, ◌-◌, ◌<◌, ◌≤◌, Bool, true, false, nat_eq, count_by, List, [], ◌∷◌, ◌++◌, length, take, drop, map, slice_index_or, refl, ap, sym, subst, ◌∙◌, arith, ne_eqb, length-append, length-drop}
 use Rattle.std.proofs.lemmas.Bool.{eq-eqb}
 use Rattle.std.proofs.lemmas.List.{get_or-drop, length-take-le, take_all, take_rest}
-use Rattle.std.proofs.lemmas.List.Sums.{count_by-le-length}
+use Rattle.std.proofs.lemmas.List.Sums.{count_by-le-length, sum_by-cons}
 use Rattle.std.proofs.lemmas.List.Splits.{join_with_byte-slice_split, length-slice_split, slice_split_at, slice_split_none}
-use Rattle.std.specs.Prelude.{slice_range}
+use Rattle.std.specs.Prelude.{slice_range, sum_by}
 use Rattle.std.specs.List.{All, IsAfterLastMatch, IsFirstMatchOrLen, join_with_byte, onto_first}
-use Rattle.text_runs.specs.Splits.{IsSplit, OneSplit, parts_by, placed_from, split_by, split_left}
+use Rattle.text_runs.specs.Splits.{IsSplit, OneSplit, PlacedBytes, parts_by, placed_from, split_by, split_left}
 
 -- the first of the parts has n elements
 record EndsFirst (separator : ℕ) (xs : List ℕ) (n : ℕ) : Type 0 where
@@ -14,7 +14,7 @@ record EndsFirst (separator : ℕ) (xs : List ℕ) (n : ℕ) : Type 0 where
   more : n < length xs → parts_by separator xs ≡ take n xs ∷ parts_by separator (drop (suc n) xs)
   last : n ≡ length xs → parts_by separator xs ≡ xs ∷ []
 
--- the last of the parts begins at the place n
+-- the last of the parts begins at the offset n
 record BeginsLast (separator : ℕ) (xs : List ℕ) (n : ℕ) : Type 0 where
   within : n ≤ length xs
   more : 0 < n → parts_by separator xs ≡ parts_by separator (take (n - 1) xs) ++ drop n xs ∷ []
@@ -79,7 +79,7 @@ module _ (separator : ℕ) where
           let cut : xs ≡ take (n - 1) xs ++ slice_index_or xs (n - 1) 0 ∷ drop n xs = subst (λ m. xs ≡ take (n - 1) xs ++ slice_index_or xs (n - 1) 0 ∷ drop m xs) suc_n (at_last xs (n - 1) (omega arith)) in
           ap (parts_by separator) cut ∙ parts-append (take (n - 1) xs) (drop n xs) (slice_index_or xs (n - 1) 0) (h.1 lt 0) ∙ ap (λ l. parts_by separator (take (n - 1) xs) ++ l) none
 
--- how many places parts take, with one after each
+-- the number of offsets that parts take, with one after each
 abbrev places_taken : List (List ℕ) → ℕ
 places_taken [] = 0
 places_taken (part ∷ parts) = length part + 1 + places_taken parts
@@ -101,7 +101,7 @@ joined_taken separator (part ∷ next ∷ parts) some =
 all_taken : (separator : ℕ) (xs : List ℕ) → places_taken (parts_by separator xs) ≡ length xs + 1
 all_taken separator xs = joined_taken separator (parts_by separator xs) (some_part separator xs) ∙ ap (λ l. length l + 1) (join_with_byte-slice_split separator xs)
 
--- One part taken from the front, where others follow and where none does.
+-- One part taken from the front, followed by others or by none.
 module _ (place : ℕ) (xs : List ℕ) (separator : ℕ) (n : ℕ) (le : n ≤ length xs) (first : IsFirstMatchOrLen (λ y. nat_eq y separator) xs n) where
   pub front_more : n < length xs → split_left place xs separator false ≡ record { start = place; bytes = take n xs } ∷ split_left (place + n + 1) (slice_range xs (n + 1) (length xs)) separator false
   front_more lt =
@@ -114,7 +114,7 @@ module _ (place : ℕ) (xs : List ℕ) (separator : ℕ) (n : ℕ) (le : n ≤ l
       let all : n ≡ length xs = omega arith in
       rw ((first_cut separator xs n le first).last all, take_all n xs (omega arith)) refl
 
--- One part taken from the back.
+-- One part taken from the end.
 module _ (place : ℕ) (xs : List ℕ) (separator : ℕ) (n : ℕ) (le : n ≤ length xs) (last : IsAfterLastMatch (λ y. nat_eq y separator) xs n) where
   pub back_more : 0 < n → split_left place xs separator false ≡ split_left place (take (n - 1) xs) separator false ++ record { start = place + n; bytes = slice_range xs n (length xs) } ∷ []
   back_more lt =
@@ -129,7 +129,7 @@ module _ (place : ℕ) (xs : List ℕ) (separator : ℕ) (n : ℕ) (le : n ≤ l
       let here : place + 0 ≡ place = omega arith in
       rw (take_rest xs n, (last_cut separator xs n le last).first zero_n, zero_n, here) refl
 
--- How many they are, and what they are without their places.
+-- The number of the parts, and the parts without their offsets.
 
 pub placed_length : (place : ℕ) (parts : List (List ℕ)) → length (placed_from place parts) ≡ length parts
 placed_length place [] = refl
@@ -145,7 +145,7 @@ split_bytes separator xs = placed_bytes 0 (parts_by separator xs)
 pub split_length : (separator : ℕ) (xs : List ℕ) → length (split_by separator xs) ≡ count_by (λ x. nat_eq x separator) xs + 1
 split_length separator xs = placed_length 0 (parts_by separator xs) ∙ length-slice_split (λ x. nat_eq x separator) xs
 
--- Joined they are the bytes, none has a separator, and no others are so.
+-- Joined they are the bytes, none has a separator, and no other parts are so.
 
 module _ (separator : ℕ) where
   abbrev Clean : List ℕ → Type 0
@@ -190,7 +190,7 @@ is_split separator xs = record { some = some_part separator xs; clean = parts_cl
 pub one_split : OneSplit
 one_split separator xs parts h = unique_parts separator parts h.some h.clean ∙ ap (parts_by separator) h.joined
 
--- all parts were given where none is left
+-- if none is left all parts were given
 pub done_left : (place : ℕ) (xs : List ℕ) (separator : ℕ) (done : Bool) → done ≡ nat_eq (length (split_left place xs separator done)) 0
 done_left place xs separator true = refl
 done_left place xs separator false =
@@ -198,7 +198,7 @@ done_left place xs separator false =
     let long = placed_length place (parts_by separator xs) in
     sym (ne_eqb (length (placed_from place (parts_by separator xs))) 0 (λ e. absurd (omega arith)))
 
--- one part at least is left until all were given, and one more than there are bytes at most
+-- at least one part is left until all were given, and at most one more than there are bytes
 pub some_left : (place : ℕ) (xs : List ℕ) (separator : ℕ) → 1 ≤ length (split_left place xs separator false)
 some_left place xs separator =
     let some = some_part separator xs in
@@ -211,3 +211,13 @@ few_left place xs separator =
     let count = length-slice_split (λ x. nat_eq x separator) xs in
     let most = count_by-le-length (λ x. nat_eq x separator) xs in
     omega arith
+
+-- the parts that are left have one more than there are bytes, if each has one for its end
+placed_taken : (place : ℕ) (parts : List (List ℕ)) → sum_by (λ (x : PlacedBytes). length x.bytes + 1) (placed_from place parts) ≡ places_taken parts
+placed_taken place [] = refl
+placed_taken place (part ∷ parts) =
+    sum_by-cons (λ (x : PlacedBytes). length x.bytes + 1) (record { start = place; bytes = part }) (placed_from (place + length part + 1) parts)
+    ∙ ap (λ n. length part + 1 + n) (placed_taken (place + length part + 1) parts)
+
+pub bytes_left : (place : ℕ) (xs : List ℕ) (separator : ℕ) → sum_by (λ (x : PlacedBytes). length x.bytes + 1) (split_left place xs separator false) ≡ length xs + 1
+bytes_left place xs separator = placed_taken place (parts_by separator xs) ∙ all_taken separator xs

@@ -1,4 +1,4 @@
--- How many pieces begin before a place, and which stand on either side of a boundary.
+-- The number of pieces that begin before an offset, and the pieces on either side of a boundary.
 use Rattle.std.proofs.Common.{◌≡◌, ℕ, ◌+◌, ◌-◌, ◌<◌, ◌≤◌, ◌⊎◌, List, ◌++◌, length, get_or, take, drop, map, arith, refl, ap, sym, ◌∙◌, subst, ⊎_elim, Some, None, Option, length-append}
 use Rattle.std.proofs.lemmas.Bool.{cases_lt}
 use Rattle.std.proofs.lemmas.List.Elements.{All-drop, All-take}
@@ -19,7 +19,7 @@ use Rattle.text_runs.specs.Tables.{IsSplitAt}
 use Rattle.text_runs.proofs.ForwardRuns.{pieces_are_the_run, unit_pieces_are_the_run}
 use Rattle.text_runs.proofs.JoinedPieces.{cut_joined}
 
--- no code lies over the place where a piece begins
+-- no code covers the offset of a piece
 pub begins_outside_of : (code : ℕ → List ℕ) → IsCode code → (xs : List ℕ) (p n : ℕ) (char : Option ℕ) → IsPieceAt code xs p n char → Inside code xs p → ⊥
 begins_outside_of code c xs p n (Some s) h i = not_inside code c xs p s h.0 i
 begins_outside_of code c xs p n None h i = h.2 (record { from = i.from; char = i.char; stands = i.stands; begins = omega (arith, i.begins); ends = i.ends })
@@ -81,7 +81,7 @@ module _ {E : Type 0} (code : ℕ → List ℕ) (c : IsCode code) (kind : List �
       let at = ap (λ (y : Piece). y.start) (get_or-map (moved 0 b) rs (n - length ps) (piece_of d) (piece_of d) in_rest) in
       omega arith
 
-  -- the place of a piece of the front, and of one of the rest
+  -- the offset of a piece of the front, and of one of the rest
   pub place_in_front : (n : ℕ) (d : Placed E) → n < length front → (get_or items n d).0 ≡ (get_or front n d).0
   place_in_front n d lt =
       let len : length ps ≡ length front = length-map front piece_of in
@@ -103,7 +103,7 @@ module _ {E : Type 0} (code : ℕ → List ℕ) (c : IsCode code) (kind : List �
       let here = ap (λ (y : Piece). y.start) (ap (λ k. get_or rs k (piece_of d)) same ∙ get_or-map piece_of rest (n - length front) d (piece_of d) (omega (arith, count_is))) in
       omega arith
 
-  -- so where m lies after all that begin before this boundary, they are as many as begin before m
+  -- if m lies after all pieces that begin before this boundary, they are as many as begin before m
   pub split_at_boundary : (m : ℕ) → (m ≤ b) ⊎ (b ≡ length xs) → ((n : ℕ) → m ≤ n → n < b → (Inside code xs n → ⊥) → ⊥) → IsSplitAt items m (length front)
   split_at_boundary m far over = record {
     within = omega (arith, count_is);
@@ -127,7 +127,7 @@ module _ {E : Type 0} (code : ℕ → List ℕ) (c : IsCode code) (kind : List �
         far;
   }
 
--- Of bytes.
+-- Pieces of bytes on either side of a boundary.
 pub bytes_split : (xs : List ℕ) (b : ℕ) → b ≤ length xs → (Inside utf8 xs b → ⊥) → (m : ℕ) → (m ≤ b) ⊎ (b ≡ length xs) → ((n : ℕ) → m ≤ n → n < b → Inside utf8 xs n)
     → IsSplitAt (pieces xs) m (length (pieces (take b xs)))
 bytes_split xs b le out m far over =
@@ -138,7 +138,7 @@ pub bytes_counted : (xs : List ℕ) (b : ℕ) → b ≤ length xs → (Inside ut
 bytes_counted xs b le out =
     count_is utf8 utf8_is_code fault_kind xs b le out (pieces xs) (pieces (take b xs)) (pieces (drop b xs)) (pieces_are_the_run xs) (pieces_are_the_run (take b xs)) (pieces_are_the_run (drop b xs))
 
--- And of units.
+-- Pieces of units on either side of a boundary.
 pub units_split : (xs : List ℕ) → IsUnits xs → (b : ℕ) → b ≤ length xs → (Inside utf16 xs b → ⊥) → (m : ℕ) → (m ≤ b) ⊎ (b ≡ length xs) → ((n : ℕ) → m ≤ n → n < b → (Inside utf16 xs n → ⊥) → ⊥)
     → IsSplitAt (unit_pieces xs) m (length (unit_pieces (take b xs)))
 units_split xs units b le out =

@@ -1,4 +1,5 @@
--- Where parts and lines lie: each between two places that no code lies over. So do the items of runs that give them.
+-- The offsets of parts and lines: each part lies between two offsets that no code covers. So do the items of
+-- runs that give them.
 use Rattle.std.proofs.Common.{◌≡◌, ℕ, zero, suc, ◌+◌, ◌-◌, ◌<◌, ◌≤◌, Bool, true, false, nat_eq, List, [], ◌∷◌, ◌++◌, length, take, drop, reverse, slice_index, slice_index_or, Option, Some, None, refl, ap, sym, subst, ◌∙◌, arith, length-append, length-drop}
 use Rattle.std.proofs.iter.runs.Lists.{slice_get_within}
 use Rattle.std.proofs.lemmas.Bool.{eqb-true, false≢true}
@@ -63,7 +64,7 @@ module _ (separator : ℕ) (ascii : separator < 128) (xs : List ℕ) where
   pub parts_lie : All (LiesBetween xs) (split_by separator xs)
   parts_lie = lie_between 0 (parts_by separator xs) (omega arith) (starts_between xs) (sym (is_split separator xs).joined)
 
--- A line that a line feed ended has lost its carriage return, which is a byte below 0x80.
+-- A line that ended with a line feed has lost its carriage return, which is a byte below 0x80.
 
 some_last : (l : List ℕ) → nat_eq (slice_index l (length l - 1)) 13 ≡ true → 0 < length l
 some_last [] e = absurd (false≢true e)
@@ -92,7 +93,7 @@ ended_lies xs x h = by_last (nat_eq (slice_index x.bytes (length x.bytes - 1)) 1
           ends = rw len (record { within = omega arith; outside = ascii_before xs (x.start + n) byte });
         }
 
--- Runs that give a list give items that lie so.
+-- Runs that give a list, whose items lie between such offsets.
 
 spans_listed : IsListed NextSpan (λ left. left)
 spans_listed s r t h = h
@@ -107,7 +108,7 @@ each_lies xs s all p seen from k =
     let gives : Gives p s = subst (Gives p) from (listed_run NextSpan (λ left. left) spans_listed p seen) in
     item_lies (LiesBetween xs) s (p.at k) k all (λ x e. slice_get_within s k x (gives.2.5.0 k x e)) (gives.0.6 k)
 
--- The same from the back.
+-- Runs that give a list from the end, whose items lie between such offsets.
 
 spans_last : (s : List PlacedBytes) (r : Option PlacedBytes) (t : List PlacedBytes) → BackSpan s r t → YieldsLast (λ left. left) s r t
 spans_last s r t h = h
@@ -127,7 +128,7 @@ spans_run = listed_run NextSpan (λ left. left) spans_listed
 pub spans_run_back : EveryRun BackSpan (λ p. GivesReversed p p.from)
 spans_run_back = listed_run_back BackSpan (λ left. left) spans_last
 
--- The lines of some parts lie so where the parts do.
+-- If parts lie between such offsets, their lines do.
 
 pub lines_lie_of : (xs : List ℕ) (parts : List PlacedBytes) → All (LiesBetween xs) parts → All (LiesBetween xs) (lines_of parts)
 lines_lie_of xs [] all = all

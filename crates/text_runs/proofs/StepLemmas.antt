@@ -1,4 +1,4 @@
--- One step after another: how many pieces there are, and where one begins.
+-- One step after another: the number of pieces, and the offset of a piece.
 use Rattle.std.proofs.Common.{◌≡◌, ℕ, ◌+◌, ◌-◌, ◌<◌, ◌≤◌, List, [], ◌++◌, length, get_or, take, drop, arith, refl, ap, sym, ◌∙◌, ⊎_elim, subst, Some, None, Option, Result, Ok, Err, length-drop, length-take}
 use Rattle.std.proofs.lemmas.Bool.{cases_lt}
 use Rattle.std.proofs.lemmas.List.{drop-take, get_or-take, length-take-le, take-append-drop, take-take, take_all}
@@ -59,7 +59,7 @@ counted_none xs = record { within = omega arith; outside = λ i. let begins = i.
 text_faults : (xs : List ℕ) → IsUtf8 xs → faulty_item_count (pieces xs) ≡ 0
 text_faults xs text = no_fault_where_text xs (pieces xs) (pieces_are_the_run xs) text
 
--- One step more.
+-- One more step.
 module _ (xs : List ℕ) (place count : ℕ) (h : IsCountedTo xs place count) (n m : ℕ) (s : IsCountedTo (drop place xs) n m) where
   step_within : place + n ≤ length xs
   step_within = let within = s.within in let before = h.within in omega (arith, length-drop place xs)
@@ -70,7 +70,7 @@ module _ (xs : List ℕ) (place count : ℕ) (h : IsCountedTo xs place count) (n
       let len : length (take place xs) ≡ place = length-take-le place xs h.within in
       s.outside (inside_following utf8 (take place xs) (drop place xs) (λ j. h.outside (rw (parts, len) at j)) n (rw (parts, len) i))
 
-  -- the front of so many bytes more, in its two parts
+  -- the front that is n bytes longer, in its two parts
   step_front : take place (take (place + n) xs) ≡ take place xs
   step_front = take-take place (place + n) xs (omega arith)
 
@@ -89,7 +89,7 @@ module _ (xs : List ℕ) (place count : ℕ) (h : IsCountedTo xs place count) (n
       let second = ap (λ ys. length (pieces ys)) step_rest in
       record { within = step_within; outside = step_outside; counted = omega (arith, h.counted, s.counted) }
 
-  -- the same of the faults among them
+  -- the faults of the longer front are those of its two parts
   pub faults_on : (faults more : ℕ) → faults ≡ faulty_item_count (pieces (take place xs)) → more ≡ faulty_item_count (pieces (take n (drop place xs)))
       → faults + more ≡ faulty_item_count (pieces (take (place + n) xs))
   faults_on faults more is are =
@@ -104,7 +104,7 @@ module _ (xs : List ℕ) (place count : ℕ) (h : IsCountedTo xs place count) (n
       let second = ap (λ ys. faulty_item_count (pieces ys)) step_rest in
       omega arith
 
-  -- a number that the step has
+  -- a piece number that lies in the step
   pub found_in_step : (number left offset : ℕ) → number ≡ count + left → left < m → Some offset ≡ option_map (λ (x : Item). x.0) (slice_get (pieces (take n (drop place xs))) left)
       → Some (place + offset) ≡ option_map (λ (x : Item). x.0) (slice_get (pieces xs) number)
   found_in_step number left offset is lt told =
@@ -125,14 +125,14 @@ module _ (xs : List ℕ) (place count : ℕ) (h : IsCountedTo xs place count) (n
       some_is : (i j : ℕ) → Some i ≡ Some j → i ≡ j
       some_is i j e = cc
 
--- a number that there is not
+-- a piece number that does not exist
 pub none_found : (xs : List ℕ) (place count number : ℕ) → IsCountedTo xs place count → length xs ≤ place → count ≤ number → None ≡ option_map (λ (x : Item). x.0) (slice_get (pieces xs) number)
 none_found xs place count number h all le =
     let whole : take place xs ≡ xs = take_all place xs all in
     let len = ap (λ ys. length (pieces ys)) whole in
     sym (ap (option_map (λ (x : Item). x.0)) (slice_get_past (pieces xs) number (omega (arith, h.counted))))
 
--- One piece, whichever it is, as a step.
+-- One piece of any kind, as a step.
 pub one_piece : (xs : List ℕ) (n : ℕ) (r : Result ℕ Utf8ErrorKind) → 0 < length xs → IsFrontPiece xs r n → IsPieceStep xs (record { len = n; pieces = 1; faults = cond (is_err r) 1 0; text = 0 })
 one_piece xs n r some piece =
     let whole : slice_range xs 0 (length xs) ≡ xs = take_all _ xs (omega arith) in
@@ -180,7 +180,7 @@ one_piece xs n r some piece =
         (λ (none : faulty_item_count (pieces front) ≤ 0). absurd (no_faults front (omega arith) 0 (omega arith, refl, alone)))
         (cases_lt 0 (faulty_item_count (pieces front)))
 
--- Text, and text with a piece after it, as steps.
+-- Text, and text followed by a piece, as steps.
 counted_text : (xs : List ℕ) (n m : ℕ) → n ≤ length xs → IsUtf8 (take n xs) → m ≡ start_count (take n xs) → IsCountedTo xs n m
 counted_text xs n m within text count = record { within = within; outside = (good_text xs n within text).outside; counted = count ∙ sym (text_counted (take n xs) text) }
 
@@ -227,7 +227,7 @@ faults_few xs place count faults h is =
     let among : faulty_item_count (pieces (take place xs)) ≤ length (pieces (take place xs)) = count_by-le-length is_fault (pieces (take place xs)) in
     omega (arith, h.counted)
 
--- the place of a piece that is numbered in text, or of the one after it
+-- the offset of a piece that has a number in text, or of the one after it
 pub numbered_in_step : (xs : List ℕ) (n number : ℕ) (r : Option ℕ) → n ≤ length xs → IsUtf8 (take n xs) → number < length (pieces xs) → length (pieces xs) ≤ length (pieces (take n xs)) + 1
     → MatchOption r (start_count (take n xs) ≤ number) (IsStartOf (take n xs) number) → Some (unwrap_or r n) ≡ option_map (λ (x : Item). x.0) (slice_get (pieces xs) number)
 numbered_in_step xs n number r within text lt most is = by r is
@@ -266,7 +266,7 @@ numbered_in_step xs n number r within text lt most is = by r is
         (λ (past : length (pieces (take n xs)) ≤ number). absurd (none_is (told ∙ ap (option_map (λ (x : Item). x.0)) (slice_get_past (pieces (take n xs)) number past))))
         (cases_lt number (length (pieces (take n xs))))
 
--- the step has what is looked for
+-- the step has the piece that is sought
 pub not_none : (xs : List ℕ) (left : ℕ) → left < length (pieces xs) → None ≡ option_map (λ (x : Item). x.0) (slice_get (pieces xs) left) → ⊥
 not_none xs left lt e = none_is (e ∙ ap (option_map (λ (x : Item). x.0)) (slice_get-get_or (pieces xs) left (0, Ok 0, 0) lt))
   where

@@ -1,4 +1,4 @@
--- Text by its bytes that begin a code: how many pieces it has, and where one of them begins.
+-- Text by its bytes that begin a code: the number of pieces, and the offset of one of them.
 use Rattle.std.proofs.Common.{◌≡◌, ℕ, zero, suc, ◌+◌, ◌-◌, ◌<◌, ◌≤◌, ◌⊎◌, ⊎_elim, Bool, true, false, not, cond, List, [], ◌∷◌, length, get_or, take, drop, flat_map, arith, refl, ap, sym, ◌∙◌, Some, le-leb, lt-ltb, le-ltb, length-drop, true≢false}
 use Rattle.std.proofs.lemmas.Bool.{cases_lt, lt-leb}
 use Rattle.std.proofs.lemmas.List.{get_or-drop, get_or-take, length-map, take_all}
@@ -23,7 +23,7 @@ use Rattle.text_runs.proofs.ForwardRuns.{pieces_are_the_run}
 use Rattle.text_runs.proofs.RunLaws.{run_of_joined}
 use Rattle.text_runs.proofs.SplitNumbers.{count_is, place_in_rest}
 
--- a continuation byte, told by its bounds
+-- a continuation byte, recognised by its bounds
 is_continuing : (b : ℕ) → 0x80 ≤ b → b < 0xC0 → is_start b ≡ false
 is_continuing b lo hi = rw (le-leb 0x80 b lo, lt-ltb b 0xC0 hi) refl
 
@@ -63,7 +63,7 @@ starts_of_codes (s ∷ scalars) all =
     let both = sum_by-append (λ b. cond (is_start b) 1 0) (utf8 s) (flat_map utf8 scalars) in
     omega arith
 
--- Text has as many pieces as such bytes.
+-- Text has as many pieces as bytes that begin a code.
 pub text_counted : (xs : List ℕ) → IsUtf8 xs → length (pieces xs) ≡ start_count xs
 text_counted xs text =
     let (scalars, joined) = joined_from_text xs text in
@@ -73,7 +73,7 @@ text_counted xs text =
     let starts : start_count xs ≡ length scalars = ap start_count joined.1 ∙ starts_of_codes scalars joined.0 in
     omega arith
 
--- No code lies over such a byte.
+-- No code covers the offset of such a byte.
 start_outside : (xs : List ℕ) (p : ℕ) → is_start (get_or xs p 0) ≡ true → Inside utf8 xs p → ⊥
 start_outside xs p start i =
     let stands = i.stands in
@@ -87,7 +87,7 @@ start_outside xs p start i =
     let (lo, hi) = utf8-continuation_byte i.char k stands.scalar (omega arith) (omega arith) in
     true≢false (sym start ∙ is_continuing (get_or xs p 0) (rw (← byte) lo) (rw (← byte) hi))
 
--- and text may be divided there
+-- text may be divided at the offset of such a byte
 start_divides : (xs : List ℕ) (p : ℕ) → p < length xs → is_start (get_or xs p 0) ≡ true → IsCharBoundary xs p
 start_divides xs p lt start = (
   omega arith,

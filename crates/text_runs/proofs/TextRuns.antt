@@ -1,4 +1,4 @@
--- A run has no error exactly where its bytes are text.
+-- A run has no error if and only if its bytes are text.
 use Rattle.std.proofs.Common.{◌≡◌, ℕ, suc, ◌+◌, List, [], ◌∷◌, map, refl, sym, ◌∙◌, arith, true, cond, Ok, Err, Result}
 use Rattle.std.proofs.lemmas.List.Elements.{All-cons, All-nil}
 use Rattle.std.proofs.lemmas.List.Sums.{sum_by-cons}

@@ -1,4 +1,4 @@
--- Pieces of units are counted by the units that end no pair.
+-- Pieces of units are counted by the units that do not end a pair.
 use Rattle.std.proofs.Common.{◌≡◌, ℕ, ◌+◌, ◌-◌, ◌<◌, ◌≤◌, Bool, true, false, not, List, length, get_or, drop, arith, refl, ap, sym, ◌∙◌, ⊎_elim, Some, None, Option, true≢false, length-drop}
 use Rattle.std.proofs.lemmas.Bool.{cases_lt}
 use Rattle.std.proofs.lemmas.List.{get_or-drop}
@@ -12,7 +12,7 @@ use Rattle.utf_base.proofs.Utf16Code.{StandsAsPair, StandsAsUnit, begins_with_pa
 use Rattle.utf_lanes.specs.UnitStarts.{IsUnitStartOf, is_unit_start, unit_start_count}
 use Rattle.encode_unicode.specs.Pieces.{unit_pieces}
 use Rattle.encode_unicode.specs.Window.{UnitItem}
-use Rattle.recoding.proofs.ShardEnds.{stands_in_list, stands_in_rest}
+use Rattle.recoding.proofs.LastBoundaries.{stands_in_list, stands_in_rest}
 use Rattle.text_runs.proofs.ForwardRuns.{unit_pieces_are_the_run}
 use Rattle.text_runs.proofs.PlaceCounts.{TellsOutside, none_numbered, place_numbered, places_counted}
 
@@ -24,7 +24,7 @@ both false b e = absurd (true≢false e)
 not_both : (a b : Bool) → a ≡ true → b ≡ true → not (a && b) ≡ true → ⊥
 not_both a b first second e = true≢false (sym e ∙ rw (first, second) refl)
 
--- a code lies over a unit just where that ends a pair
+-- a code covers the offset of a unit if and only if the unit ends a pair
 pub unit_tells : (us : List ℕ) → TellsOutside utf16 us (is_unit_start us)
 unit_tells us = record { outside = outside; inside = inside }
   where

@@ -1,4 +1,4 @@
--- The place of the first fault, as a term and as a chain finds it.
+-- The offset of the first fault, as a term and as a chain finds it.
 use Rattle.std.proofs.Common.{◌≡◌, ℕ, zero, suc, ◌+◌, ◌<◌, ◌≤◌, List, [], ◌∷◌, length, drop, Option, Some, None, Ok, Err, Result, ⊎_elim, arith, ap, refl, sym, subst, ◌∙◌, length-drop, is_err, get_or, w16, Fits}
 use Rattle.std.proofs.lemmas.Bool.{cases_lt}
 use Rattle.std.proofs.lemmas.List.{take_all, drop-drop}
@@ -30,12 +30,12 @@ one_first code xs n m a b = ⊎_elim (λ (lt : n < m). absurd (less n m a b lt))
         let least = b.none _ (a.fault (omega arith)) refl in
         omega arith
 
--- what an answer at a place says of the list
+-- what a result at an offset says of the list
 abbrev Judged : {E : Type 0} → (ℕ → List ℕ) → List ℕ → ℕ → Result (ℕ × ℕ) E → Type 0
 Judged code xs i (Ok x) = IsGoodTo code xs (i + x.1)
 Judged code xs i (Err k) = IsFirstFault code xs i
 
--- the pieces from a place on, before which there is no fault, tell the first one
+-- the pieces from an offset on, before which there is no fault, determine the first one
 record Tells {E : Type 0} (code : ℕ → List ℕ) (xs : List ℕ) (place : ℕ) (items : List (Placed E)) : Type 0 where
   first : IsFirstFault code xs (place + valid_len items)
   found : MatchOption (find (λ x. is_err x.1) items) (length xs ≡ place + valid_len items) (λ x. x.0 ≡ place + valid_len items)
@@ -101,7 +101,7 @@ judge_units xs units i good lt = by_kind (unit_fault_kind (drop i xs)) refl
         subst (Judged utf16 xs i) (sym (decoded_pairs_code (drop i xs) (unit_value (drop i xs)) code)) (good_units xs i (unit_value (drop i xs)) _ good (code, refl))
     by_kind (Some k) e = subst (Judged utf16 xs i) (sym (decoded_pairs_kind (drop i xs) k e)) (first_pair_fault xs i k good lt e)
 
--- the place of the first fault of units is a term
+-- the offset of the first fault of units is a term
 pub first_unit_fault_known : (xs : List ℕ) → ((i : ℕ) → Fits w16 (get_or xs i 0)) → (n : ℕ) → IsFirstFault utf16 xs n → n ≡ valid_len (unit_pieces xs)
 first_unit_fault_known xs fits n first =
     let units : IsUnits xs = All-from_get_or (λ u. u < 0x1_0000) xs 0 (λ i lt. (fits i).fits) in
@@ -115,17 +115,17 @@ place_told xs =
     let sum : 0 + valid_len (pieces xs) ≡ valid_len (pieces xs) = omega arith in
     subst (λ k. MatchOption (find (λ (x : Item). is_err x.1) (pieces xs)) (length xs ≡ k) (λ x. x.0 ≡ k)) sum (tells_bytes xs).found
 
--- the place of the first fault is a term
+-- the offset of the first fault is a term
 pub first_fault_known : (xs : List ℕ) (n : ℕ) → IsFirstFault utf8 xs n → n ≡ valid_len (pieces xs)
 first_fault_known xs n first = one_first utf8 xs n (valid_len (pieces xs)) first (front_told xs)
 
--- where a chain found a fault, it is the first
+-- if a chain found a fault, it is the first
 pub first_fault_found : (xs : List ℕ) (x : Item) → Some x ≡ find (λ (y : Item). is_err y.1) (pieces xs) → IsFirstFault utf8 xs x.0
 first_fault_found xs x e =
     let place : x.0 ≡ valid_len (pieces xs) = subst (λ r. MatchOption r (length xs ≡ valid_len (pieces xs)) (λ (y : Item). y.0 ≡ valid_len (pieces xs))) (sym e) (place_told xs) in
     subst (IsFirstFault utf8 xs) (sym place) (front_told xs)
 
--- where it found none, there is none
+-- if it found none, there is none
 pub no_fault_found : (xs : List ℕ) → None ≡ find (λ (y : Item). is_err y.1) (pieces xs) → IsFirstFault utf8 xs (length xs)
 no_fault_found xs e =
     let place : length xs ≡ valid_len (pieces xs) = subst (λ r. MatchOption r (length xs ≡ valid_len (pieces xs)) (λ (y : Item). y.0 ≡ valid_len (pieces xs))) (sym e) (place_told xs) in

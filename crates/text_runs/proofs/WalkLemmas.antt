@@ -1,4 +1,5 @@
--- A walk, one answer after another: from the contract of one call and the laws of walks alone. It is generic in the encoding.
+-- A walk, one result after another: only from the contract of one call and the laws of walks. It is generic
+-- in the encoding.
 use Rattle.std.proofs.Common.{◌≡◌, ℕ, suc, ◌+◌, ◌-◌, ◌<◌, ◌≤◌, List, [], ◌∷◌, ◌++◌, length, map, take, get_or, refl, ap, sym, subst, ◌∙◌, arith, Option, Some, None, Ok, Err, Result}
 use Rattle.std.proofs.lemmas.Grind.{common_steps}
 use Rattle.std.proofs.lemmas.List.{map-append, length-map, take_all}
@@ -24,7 +25,7 @@ use Rattle.text_runs.specs.declared.runs.items.End.TheVariants.{Front, Back}
 use Rattle.text_runs.specs.Walks.{side, CallGives}
 use Rattle.text_runs.proofs.PieceRuns.{Excludes}
 
--- The answers are the walk of the letters as far as the window.
+-- The results are the walk of the letters up to the window.
 pub record IsWalkSoFar {E : Type 0} (e : Encoding E) (xs : List ℕ) (word : List End) (answers : List (Option (Placed E))) (w : Window) : Type 0 where
   pub whole : w.whole ≡ xs
   pub walks : Walks e xs 0 (length xs) (map side word) answers w.front w.back
@@ -40,7 +41,7 @@ module _ {E : Type 0} where
   window_open : (e : Encoding E) → IsCode e.code → (xs : List ℕ) (word : List End) (answers : List (Option (Placed E))) (w : Window) → IsWalkSoFar e xs word answers w → IsOpen e.code xs w.front w.back
   window_open e c xs word answers w f = stays_open e c xs 0 (length xs) (map side word) answers w.front w.back (open_whole e.code xs) f.walks
 
-  -- What a piece at the front of such a window is of the whole list, and one at its end.
+  -- A piece at the front of such a window, and one at its end, as pieces of the whole list.
 
   at_front : (e : Encoding E) → IsCode e.code → Excludes e.code e.forward → (xs : List ℕ) (i j n : ℕ) (r : Result ℕ E) → IsOpen e.code xs i j → i < j → IsFrontOf e.code e.forward (slice_range xs i j) r n
       → IsPieceAt e.code xs i n (result_ok r) × IfErr r (λ k. e.forward (slice_range xs i j) ≡ Some k)
@@ -76,7 +77,7 @@ module _ {E : Type 0} where
       let p = at_back e c xs w.front w.back x.0 x.2 x.1 o g.some g.place piece in
       record { some = g.some; piece = p.0; ends = g.place; kind = p.1 }
 
-  -- One answer more.
+  -- One more result.
 
   none_more : (e : Encoding E) (xs : List ℕ) (word : List End) (answers : List (Option (Placed E))) (w v : Window) (end : End) → IsWalkSoFar e xs word answers w → GivesNone w v
       → IsWalkSoFar e xs (word ++ end ∷ []) (answers ++ None ∷ []) v
@@ -112,7 +113,7 @@ module _ {E : Type 0} where
       let whole : take n word ≡ word = take_all n word all in
       record { front = w.front; back = w.back; walks = rw whole at f.walks }
 
-  -- what every walk is: one entry a letter, each piece once, and neither end inside a code
+  -- every walk has one entry a letter and each piece once, and neither end is inside a code
 
   entries_of : (e : Encoding E) (xs : List ℕ) (i j : ℕ) (word : List Side) (answers : List (Option (Placed E))) (k l : ℕ) → Walks e xs i j word answers k l → length answers ≡ length word
   entries_of e xs i j [] [] k l w = refl
@@ -131,7 +132,7 @@ module _ {E : Type 0} where
   pub walk_outside : (e : Encoding E) → IsCode e.code → (xs : List ℕ) (word : List End) (answers : List (Option (Placed E))) → IsWalk e xs (map side word) answers → StaysOutside e xs (map side word) answers
   walk_outside e c xs word answers w = walk_stays_outside e c xs (map side word) answers w
 
-  -- one call more, at either end, of what gives pieces of the encoding
+  -- one more call, at either end, of what gives pieces of the encoding
   call_more : (e : Encoding E) → IsCode e.code → Excludes e.code e.forward → (next back : Window → Option (Placed E) → Window → Type 0) (most : ℕ) (answer answer_back : List ℕ → Result (ℕ × ℕ) E)
       → ((w v : Window) → next w None v → GivesNone w v) → ((w v : Window) (x : Placed E) → next w (Some x) v → GivesFrontOf e.code most e.forward answer w x v)
       → ((w v : Window) → back w None v → GivesNone w v) → ((w v : Window) (x : Placed E) → back w (Some x) v → GivesBackOf e.code most e.backward answer_back w x v)
@@ -142,7 +143,7 @@ module _ {E : Type 0} where
   call_more e c apart next back most answer answer_back none some none_back some_back xs word answers w v Back None f g = none_more e xs word answers w v Back f (none_back w v g)
   call_more e c apart next back most answer answer_back none some none_back some_back xs word answers w v Back (Some x) f g = back_more e c most answer_back xs word answers w v x f (some_back w v x g)
 
--- One call more of the decoder of bytes, and of that of units.
+-- One more call of the decoder of bytes, and of the decoder of units.
 
 pub byte_more : {xs : List ℕ} {word : List End} {answers : List (Option Item)} {w v : Window} (end : End) (a : Option Item) → IsWalkSoFar utf8_bytes xs word answers w
     → CallGives NextGives NextBackGives end w a v → IsWalkSoFar utf8_bytes xs (word ++ end ∷ []) (answers ++ a ∷ []) v

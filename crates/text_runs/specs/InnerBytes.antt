@@ -3,16 +3,16 @@ use Rattle.std.specs.Prelude.{ℕ, zero, suc, ◌+◌, ◌-◌, Bool, not, ◌&&
 use Rattle.utf_base.specs.Kinds.{asked_by, fault_kind, is_continuation}
 use Rattle.utf_base.specs.declared.errors.Utf8ErrorKind.{Utf8ErrorKind}
 
--- so many bytes after the first, where nothing is wrong with a code of n bytes
+-- the number of bytes after the first of a code of n bytes, if it is no fault
 abbrev pub inner_of : Option Utf8ErrorKind → ℕ → ℕ
 inner_of None n = n - 1
 inner_of (Some kind) n = 0
 
--- how many the code has that begins the bytes, or none where no code does
+-- the number of inner bytes of the code that begins the bytes, or 0 if no code does
 unfoldable pub inner_after : List ℕ → ℕ
 inner_after w = inner_of (fault_kind w) (asked_by w)
 
--- how many the codes have that begin before a place
+-- the number of inner bytes of the codes that begin before an offset
 unfoldable pub inner_before : List ℕ → ℕ → ℕ
 inner_before xs zero = 0
 inner_before xs (suc n) = inner_before xs n + inner_after (drop n xs)
@@ -24,6 +24,6 @@ is_begun a b =
     && (not (nat_eq a 0xE0) || nat_le 0xA0 b) && (not (nat_eq a 0xED) || nat_lt b 0xA0)
     && (not (nat_eq a 0xF0) || nat_le 0x90 b) && (not (nat_eq a 0xF4) || nat_lt b 0x90)
 
--- four bytes that such a code begins
+-- four bytes that begin with a code of two bytes or more
 abbrev pub is_longer : ℕ → ℕ → ℕ → ℕ → Bool
 is_longer a b c d = is_begun a b && (nat_lt a 0xE0 || is_continuation c) && (nat_lt a 0xF0 || is_continuation d)

@@ -1,4 +1,4 @@
--- Some bytes at the front of others, with all of their pieces: what counting goes by.
+-- The first bytes of a list, with all of their pieces, from which counts are made.
 use Rattle.std.specs.Prelude.{◌≡◌, ℕ, ◌+◌, ◌≤◌, List, length, take}
 use Rattle.std.specs.Str.{IsUtf8}
 use Rattle.utf_base.specs.Code.{utf8}
@@ -7,13 +7,14 @@ use Rattle.encode_unicode.specs.Pieces.{pieces}
 use Rattle.text_runs.specs.ForwardRuns.{faulty_item_count}
 use Rattle.text_runs.specs.declared.runs.steps.Step.{Step}
 
--- no code lies over the place, and the bytes before it have so many pieces
+-- no code covers the offset, and the bytes before it have `count` pieces
 pub record IsCountedTo (xs : List ℕ) (place count : ℕ) : Type 0 where
   pub within : place ≤ length xs
   pub outside : ¬ (Inside utf8 xs place)
   pub counted : count ≡ length (pieces (take place xs))
 
--- so many bytes at the front have so many pieces and faults; the first bytes of the step are text, and no more than one piece follows it
+-- the first bytes have these numbers of pieces and faults; the front of the step is text, and at most one piece
+-- follows it
 pub record IsPieceStep (xs : List ℕ) (step : Step) : Type 0 where
   pub all : IsCountedTo xs step.len step.pieces
   pub faults : step.faults ≡ faulty_item_count (pieces (take step.len xs))

@@ -6,32 +6,32 @@ use Rattle.utf_base.specs.Piece.{Inside, Piece, IsPiece, IsCutBetween}
 use Rattle.encode_unicode.specs.Window.{Item, Placed}
 use Rattle.text_runs.specs.ForwardRuns.{IsForwardRun}
 
--- what callers see of a table
+-- what contracts see of a table
 pub record Table : Type 0 where
   pub bytes : List ℕ
   pub pieces : List Item
 
--- an item whose place is counted from b and was counted from a
+-- an item whose offset is moved from a to b
 abbrev pub moved_item : ℕ → ℕ → Item → Item
 moved_item a b x = (b + (x.0 - a), x.1, x.2)
 
--- Where the bytes from the place s to e were replaced, and what stands there ends at t: of the items that begin at s - 4 or
--- before the others are the same, and of those that begin at e + 3 or after they are the same at their new places.
+-- If the bytes from the offset s to e were replaced, and the new ones end at t: both lists have the same items that
+-- begin at s - 4 or before, and those of the first that begin at e + 3 or after are in the second at their new
+-- offsets.
 abbrev pub StayAround : List Item → List Item → ℕ → ℕ → ℕ → Type 0
 StayAround items others s e t =
     (x : Item)
     → (x.0 + 4 ≤ s → Contains items x ↔ Contains others x)
     × (e + 3 ≤ x.0 → Contains items x ↔ Contains others (moved_item e t x))
 
--- from one number of steps to another there was one, or more, for each piece of the bytes that begins from the place i on
--- and before j
+-- the number of steps grew by one or more for each piece of the bytes that begins from the offset i on and before j
 abbrev pub StepForEach : List ℕ → ℕ → ℕ → ℕ → ℕ → Type 0
 StepForEach xs i j before after = (ps : List Piece) → IsCutBetween utf8 xs i j ps → before + length ps ≤ after
 
 -- The parts of a replacement.
 
--- the items were the pieces of some bytes, which became ys where those from the place s to e were replaced by others, which
--- end at t
+-- the items were the pieces of some bytes, which became ys when those from the offset s to e were replaced by others,
+-- which end at t
 pub record WereReplaced (ys : List ℕ) (s e t : ℕ) (items : List Item) : Type 0 where
   pub old : List ℕ
   pub new : List ℕ
@@ -42,18 +42,18 @@ pub record WereReplaced (ys : List ℕ) (s e t : ℕ) (items : List Item) : Type
   pub replaced : ys ≡ splice old s e new
   pub run : IsForwardRun old items
 
--- the first k items begin before the place m, and the others do not
+-- the first k items begin before the offset m, and the others do not
 pub record IsSplitAt {E : Type 0} (items : List (Placed E)) (m k : ℕ) : Type 0 where
   pub within : k ≤ length items
   pub before : AllWithin (λ x. x.0 < m) items 0 k
   pub following : AllWithin (λ x. m ≤ x.0) items k (length items)
 
--- the place at which the first k of the items end, 0 where these are none
+-- the offset at which the first k of the items end, or 0 if k is 0
 abbrev pub EndsAt : List Item → ℕ → ℕ → Type 0
 EndsAt items k from = (k ≡ 0 → from ≡ 0) × (0 < k → HoldsAt (λ x. from ≡ x.0 + x.2) items (k - 1))
 
--- Where the pieces of ys take the place of those items: the first k stay, those from the r-th on move, and between them
--- stand the pieces that are decoded from the place `from` on.
+-- The pieces of ys replace the items: the first k stay, those from the r-th on move, and between them are the
+-- pieces that are decoded from the offset `from` on.
 pub record IsSplice (ys : List ℕ) (s e t : ℕ) (items : List Item) (k r from : ℕ) : Type 0 where
   pub kept : IsSplitAt items (s - 3) k
   pub moved : IsSplitAt items (e + 3) r
@@ -71,7 +71,7 @@ pub record IsRenewed (ys : List ℕ) (s e t : ℕ) (items others : List Item) (s
   pub least : StepForEach ys (s - 3) (t + 3) steps_before steps
   pub most : steps ≤ steps_before + (t - s + 6)
 
--- what stood from one place on stands from another on, and what stood before both stands there
+-- what followed one offset follows another, and what preceded both is unchanged
 pub record IsRestMoved {X : Type 0} (old new : List X) (from to : ℕ) : Type 0 where
   pub front : (k : ℕ) → k ≤ from → k ≤ to → take k new ≡ take k old
   pub rest : drop to new ≡ drop from old

@@ -9,7 +9,7 @@ abbrev pub side : End → Side
 side Front = from_front
 side Back = from_back
 
--- one call at that end, where `next` and `next_back` say what calls of them give
+-- one call at that end, where `next` and `next_back` describe the calls
 abbrev pub CallGives : {S A : Type 0} → (S → Option A → S → Type 0) → (S → Option A → S → Type 0) → End → S → Option A → S → Type 0
 CallGives next next_back Front = next
 CallGives next next_back Back = next_back

@@ -1,4 +1,4 @@
--- How far a list is well-formed.
+-- The length of the well-formed front of a list.
 use Rattle.std.specs.Prelude.{◌≡◌, ℕ, ◌+◌, ◌*◌, ◌/◌, ◌<◌, ◌≤◌, Bool, List, [], ◌∷◌, length, is_ok, if◌then◌else◌}
 use Rattle.utf_base.specs.Code.{utf16}
 use Rattle.utf_base.specs.Front.{BeginsWith, NoneBegins}
@@ -8,7 +8,7 @@ use Rattle.recoding.specs.declared.form.Form.{Form}
 use Rattle.recoding.specs.TextForms.{text_form}
 pub use Rattle.recoding.specs.FirstFaults.{IsFirstFault, IsFirstFaultOf, IsFirstUnitFault}
 
--- how many elements stand before the first fault of some pieces, which are all where none is a fault
+-- the number of elements before the first fault of some pieces, which is all if none is a fault
 abbrev pub valid_len : {E : Type 0} → List (Placed E) → ℕ
 valid_len [] = 0
 valid_len (x ∷ items) = if is_ok x.1 then x.2 + valid_len items else 0
@@ -21,10 +21,10 @@ pub record BeginsUnits (high_first : Bool) (bytes : List ℕ) (n : ℕ) : Type 0
   pub within : n ≤ length bytes
   pub least : 0 < n
 
--- where they are a unit or more, no character begins them
+-- if they are a unit or more, no character begins them
 abbrev pub NoUnitsBegin : Bool → List ℕ → Type 0
 NoUnitsBegin high_first bytes = 2 ≤ length bytes → NoneBegins utf16 (units_of high_first bytes)
 
--- the first fault of bytes of that form begins at the place n, or there is none, and n is their length
+-- the first fault of bytes of that encoding begins at the offset n, or there is none, and n is their length
 abbrev pub IsFirstFaultIn : Form → List ℕ → ℕ → Type 0
 IsFirstFaultIn form = (text_form form).first_fault

@@ -1,8 +1,8 @@
-//! Character boundaries next to any byte, also one inside of a character: for a viewer that is asked for a byte, and for
+//! Character boundaries next to any byte, also one inside a character: for a viewer that is asked for a byte, and for
 //! a log whose lines are cut to a length.
 //!
-//! As `floor_char_boundary` and `ceil_char_boundary` of a `str`, of bytes that may be damaged. Each faulty byte has a
-//! boundary before it and one after it. A call looks at six bytes around the place, and takes no memory.
+//! They are `floor_char_boundary` and `ceil_char_boundary` of a `str`, for bytes that may be damaged. Each invalid
+//! byte has a boundary before it and one after it. A call reads six bytes around the offset, and does not allocate.
 ghost use Rattle.std.specs.Prelude.{◌≡◌, ◌+◌, ◌-◌, ◌<◌, ◌≤◌, MatchOption, length, min, take};
 ghost use Rattle.text_runs.specs.PieceBoundaries.{IsBetween, IsCodeOver, IsEndFrom, IsFirstBetween, IsLastBetween};
 
@@ -12,7 +12,7 @@ use utf_base::elements::is_continuation;
 /// The last boundary at or before this offset: `floor(b"a\xe2\x82\xac", 3)` is 1. A boundary is an
 /// offset between two pieces, or either end of the bytes.
 ///
-/// Condition: the place is at most the length.
+/// Condition: the offset is at most the length.
 pub fn floor(bytes: &[u8], place: usize) -> usize
     requires { place ≤ length bytes.now }
     ensures { IsLastBetween bytes.now place result }
@@ -27,7 +27,7 @@ pub fn floor(bytes: &[u8], place: usize) -> usize
 /// The first boundary at or after this offset: `ceil(b"a\xe2\x82\xac", 3)` is 4. A boundary is an
 /// offset between two pieces, or either end of the bytes.
 ///
-/// Condition: the place is at most the length.
+/// Condition: the offset is at most the length.
 pub fn ceil(bytes: &[u8], place: usize) -> usize
     requires { place ≤ length bytes.now }
     ensures { IsFirstBetween bytes.now place result }
@@ -38,10 +38,10 @@ pub fn ceil(bytes: &[u8], place: usize) -> usize
     }
 }
 
-/// The offset at which the piece begins that has the byte before this offset. A piece is a
-/// character or one invalid byte.
+/// The offset where the piece begins that has the byte before this offset. A piece is a character or one
+/// invalid byte.
 ///
-/// Condition: the place is above 0 and at most the length.
+/// Condition: the offset is above 0 and at most the length.
 pub fn previous(bytes: &[u8], place: usize) -> usize
     requires some { 0 < place }
     requires within { place ≤ length bytes.now }
@@ -50,10 +50,10 @@ pub fn previous(bytes: &[u8], place: usize) -> usize
     floor(bytes, place - 1)
 }
 
-/// The offset at which the piece ends that has the byte at this offset. A piece is a character or
-/// one invalid byte.
+/// The offset where the piece ends that has the byte at this offset. A piece is a character or one invalid
+/// byte.
 ///
-/// Condition: the place is below the length.
+/// Condition: the offset is below the length.
 pub fn following(bytes: &[u8], place: usize) -> usize
     requires { place < length bytes.now }
     ensures { IsFirstBetween bytes.now (place + 1) result }
@@ -71,7 +71,7 @@ pub fn truncated(bytes: &[u8], most: usize) -> &[u8]
     &bytes[..floor(bytes, most.min(bytes.len()))]
 }
 
-// The code that lies over a place: where it begins, and where it ends.
+// The range of the character that covers an offset.
 fn code_over(bytes: &[u8], place: usize) -> Option<(usize, usize)>
     requires { place ≤ length bytes.now }
     ensures { MatchOption result (IsBetween bytes.now place) (λ x. IsCodeOver bytes.now x.0 x.1 place) }
@@ -91,7 +91,7 @@ fn code_over(bytes: &[u8], place: usize) -> Option<(usize, usize)>
     None
 }
 
-// Where the code ends that begins at a place, and that place where none does.
+// The end of the character that begins at an offset, or that offset if none does.
 fn end_of_code(bytes: &[u8], start: usize) -> usize
     requires { start ≤ length bytes.now }
     ensures { IsEndFrom bytes.now start result }

@@ -1,5 +1,5 @@
 //! The lines of bytes that may be damaged, from both ends, with their offsets.
-ghost use Rattle.std.specs.Prelude.{◌≡◌, ◌+◌, ◌≤◌, IfSome, ⊤, count_by, length, map, nat_eq};
+ghost use Rattle.std.specs.Prelude.{◌≡◌, ◌+◌, ◌≤◌, IfSome, IsSome, ⊤, count_by, length, map, nat_eq};
 ghost use Rattle.std.specs.Iterator.{UpTo, YieldsFirst, YieldsLast, item_count};
 ghost use Rattle.std.specs.Iterator.Runs.{EveryRun};
 ghost use Rattle.std.specs.Iterator.SizeHint.{IsWithinCount};
@@ -30,7 +30,7 @@ impl<'a> Model for SplitLines<'a> {
 }
 
 /// The lines of the bytes, as `str::lines` of std. A line ends at `\n` or `\r\n`, which does not belong to it, or at
-/// the end of the bytes. What follows the last `\n` is a line if it has a byte. A `\r` alone ends no line. The bytes
+/// the end of the bytes. What follows the last `\n` is a line if it has a byte. A lone `\r` ends no line. The bytes
 /// may be invalid. No line begins or ends inside a character.
 #[tactic(auto, using(crate::proofs::LinesOfParts::are_lines, crate::proofs::SplitPlaces::lines_lie, crate::proofs::SplitPlaces::each_lies, crate::proofs::SplitPlaces::each_lies_back, crate::proofs::LinesOfParts::few_lines))]
 pub fn lines(bytes: &[u8]) -> SplitLines<'_>
@@ -56,7 +56,7 @@ impl<'a> Iterator for SplitLines<'a> {
 
     ghost remaining = { item_count (λ left. left) };
 
-    /// The line at the front, and `None` once all were given.
+    /// The line at the front, or `None` once all were given.
     ///
     /// Cost: O(n) in the line.
     #[tactic(auto, using(crate::proofs::LinesOfParts::first_line))]
@@ -71,10 +71,11 @@ impl<'a> Iterator for SplitLines<'a> {
         Some(part)
     }
 
-    /// Bounds of how many lines remain: (none; as many as there may be fields between line feeds).
+    /// Bounds of the number of lines that remain: (none; as many as there may be fields between line feeds).
     fn size_hint(&self) -> (usize, Option<usize>)
         ensures lower { IsWithinCount result.0 (item_count (λ left. left) self.now) }
         ensures upper { IfSome result.1 (UpTo (item_count (λ left. left) self.now)) }
+        ensures bounded { IsSome result.1 }
     {
         let (_, most) = self.parts.size_hint();
         (0, most)
@@ -84,7 +85,7 @@ impl<'a> Iterator for SplitLines<'a> {
 impl<'a> DoubleEndedIterator for SplitLines<'a> {
     ghost next_back_gives = { YieldsLast (λ left. left) };
 
-    /// The line at the back, and `None` once all were given.
+    /// The line at the end, or `None` once all were given.
     ///
     /// Cost: O(n) in the line.
     #[tactic(auto, using(crate::proofs::LinesOfParts::last_line, crate::proofs::LinesOfParts::no_last_line, crate::proofs::LinesOfParts::ended_push))]

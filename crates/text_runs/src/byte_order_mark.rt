@@ -1,13 +1,13 @@
-//! The byte order mark, by which some texts tell their form.
+//! The byte order mark, which some texts begin with and which indicates their encoding.
 ghost use Rattle.std.specs.Prelude.{◌≤◌, IfNone, IfSome};
 ghost use Rattle.text_runs.specs.ByteOrderMarks.{BeginsWithMark, HasNoMark};
 
 use recoding::form::Form;
 
-/// The form that a byte order mark at the front tells, and how many bytes the mark has:
-/// `form_of_bom(b"\xef\xbb\xbfa")` is `Some((Form::Utf8, 3))`. `None` where no mark begins the bytes.
+/// The encoding that a byte order mark at the front indicates, and the length of the mark in bytes:
+/// `form_of_bom(b"\xef\xbb\xbfa")` is `Some((Form::Utf8, 3))`. `None` if no mark begins the bytes.
 ///
-/// UTF-32 with the low byte first begins with the mark of UTF-16, and is told as that.
+/// UTF-32LE begins with the mark of UTF-16LE, and is reported as that.
 pub fn form_of_bom(bytes: &[u8]) -> Option<(Form, usize)>
     ensures some { IfSome result (λ x. BeginsWithMark x.0 bytes.now x.1) }
     ensures len { IfSome result (λ x. 2 ≤ x.1) }

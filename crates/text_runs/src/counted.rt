@@ -1,9 +1,9 @@
-//! A reader or writer whose failures are counted, for contracts alone.
+//! A reader or writer whose failures are counted, only for contracts.
 //!
-//! A contract can then say that a function answers an error only where its reader or writer failed, since
-//! the count rose. The counts take no memory. This module holds `Counted` and its five calls and nothing
-//! else, and no call hands out a count, or the reader or writer inside: so a count rises only where a call
-//! of the reader or writer was made and failed.
+//! A contract can then say that a function returns an error only if its reader or writer failed, since the
+//! count rose. The counts take no memory. This module holds `Counted` and its five calls and nothing else,
+//! and no call hands out a count, or the reader or writer inside: so a count rises only if a call of the
+//! reader or writer was made and failed.
 ghost use Rattle.std.specs.Prelude.{◌≡◌, ◌+◌, false};
 ghost use Rattle.std.specs.Io.{ReadsAtMost, WritesAtMost};
 ghost use Rattle.std.specs.Io.KnownBytes.{Keeps, ReadConsumes, WriteAppends};
@@ -91,10 +91,10 @@ impl<T> Counted<T> {
 }
 
 impl<W: Write> Counted<W> {
-    /// Calls `write` of the inner writer once, and gives what that gave.
+    /// Calls `write` of the inner writer once, and returns its result.
     ///
-    /// An error counts as a failure. So does `Ok(0)` for at least one byte, a stall, which is also
-    /// counted apart.
+    /// An error counts as a failure. So does `Ok(0)` for at least one byte, a stall, which is also counted
+    /// separately.
     ///
     /// Cost: that of the call.
     #[inline(always)]
@@ -122,8 +122,8 @@ impl<W: Write> Counted<W> {
         answer
     }
 
-    /// Calls `flush` of the inner writer once, and gives what that gave. An error is counted, apart
-    /// from failures.
+    /// Calls `flush` of the inner writer once, and returns its result. An error is counted, separately from
+    /// failures.
     ///
     /// Cost: that of the call.
     #[inline(always)]
@@ -144,9 +144,9 @@ impl<W: Write> Counted<W> {
 }
 
 impl<R: Read> Counted<R> {
-    /// Calls `read` of the inner reader once, and gives what that gave.
+    /// Calls `read` of the inner reader once, and returns its result.
     ///
-    /// An error counts as a failure. `Ok(0)` does not: it is the end, or there was no room.
+    /// An error counts as a failure. `Ok(0)` does not: it is the end, or the buffer was empty.
     ///
     /// Cost: that of the call.
     #[inline(always)]

@@ -1,6 +1,6 @@
 //! Whole runs over bytes and units, parts and lines of bytes, boundaries, and readers and writers that are counted.
 //!
-//! `cuts` passes these on. It is an addition of this project, and no part of the Rust crate.
+//! `cuts` re-exports this crate. It is an addition of this project, and no part of the Rust crate.
 #![tactic(auto)]
 
 pub mod boundaries;

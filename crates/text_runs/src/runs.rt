@@ -1,4 +1,4 @@
-//! Whole runs over bytes and units: every piece, from the front, from both ends, or as a merger answers.
+//! Whole runs over bytes and units: every piece, from the front, from both ends, or as a merger returns.
 
 pub mod collected;
 pub mod counts;

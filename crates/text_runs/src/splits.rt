@@ -1,7 +1,8 @@
 //! The parts of bytes between ASCII separators, from both ends, with their offsets.
 //!
-//! The bytes may be damaged: a byte below 0x80 is always a character of its own, so no part begins or ends inside of one.
-ghost use Rattle.std.specs.Prelude.{◌≡◌, ◌+◌, ◌<◌, ◌≤◌, ◌^◌, ◌∷◌, ◌++◌, IfSome, [], ⊤, count_by, false, length, map, nat_eq};
+//! The bytes may be damaged: a byte below 0x80 is always a character of its own, so no part begins or ends inside a
+//! character.
+ghost use Rattle.std.specs.Prelude.{◌≡◌, ◌+◌, ◌<◌, ◌≤◌, ◌^◌, ◌∷◌, ◌++◌, IfSome, [], ⊤, count_by, false, length, map, nat_eq, sum_by, Some};
 ghost use Rattle.std.specs.Iterator.{UpTo, YieldsFirst, YieldsLast, item_count};
 ghost use Rattle.std.specs.Iterator.SizeHint.{IsWithinCount};
 ghost use Rattle.std.specs.Iterator.Runs.{EveryRun};
@@ -53,7 +54,7 @@ impl<'a> Span<'a> {
         self.bytes
     }
 
-    // Without a carriage return at the end.
+    // The span without a carriage return at the end.
     pub(crate) fn without_return(&self) -> Span<'a>
         ensures { result ≡ ended_line self.now }
     {
@@ -69,14 +70,14 @@ impl<'a> Span<'a> {
         }
     }
 
-    /// How many bytes they are.
+    /// The length in bytes.
     pub fn len(&self) -> usize
         ensures { result ≡ length self.now.bytes }
     {
         self.bytes.len()
     }
 
-    /// Whether there is no byte.
+    /// Returns true if the span is empty.
     pub fn is_empty(&self) -> bool
         ensures { result ≡ nat_eq (length self.now.bytes) 0 }
     {
@@ -89,7 +90,7 @@ impl<'a> Clone for Span<'a> {
 
     ghost is_infallible = { λ _. ⊤ };
 
-    /// The same span once more. It never fails.
+    /// A copy of the span. It never fails.
     fn clone(&self) -> Result<Span<'a>, AllocError> {
         Ok(Span {
             start: self.start,
@@ -144,7 +145,7 @@ pub fn split_ascii(bytes: &[u8], separator: u8) -> SplitAscii<'_>
 }
 
 impl<'a> SplitAscii<'a> {
-    // Whether all parts were given.
+    // Returns true if all parts were given.
     #[tactic(auto, using(crate::proofs::SplitLemmas::done_left))]
     pub(crate) fn is_done(&self) -> bool
         ensures { result ≡ nat_eq (length self.now) 0 }
@@ -152,7 +153,7 @@ impl<'a> SplitAscii<'a> {
         self.done
     }
 
-    // No parts.
+    // A finished iterator.
     pub(crate) fn no_parts() -> SplitAscii<'a>
         ensures { result ≡ [] }
     {
@@ -172,7 +173,7 @@ impl<'a> Iterator for SplitAscii<'a> {
 
     ghost remaining = { item_count (λ left. left) };
 
-    /// The field at the front, and `None` once all were given.
+    /// The field at the front, or `None` once all were given.
     ///
     /// Cost: O(n) in the field.
     fn next(&mut self) -> Option<Span<'a>> {
@@ -184,12 +185,13 @@ impl<'a> Iterator for SplitAscii<'a> {
         Some(part)
     }
 
-    /// Bounds of how many fields remain: (one until all were given; one more than there are bytes).
-    #[tactic(auto, using(crate::proofs::SplitLemmas::some_left, crate::proofs::SplitLemmas::few_left))]
+    /// Bounds of the number of fields that remain: (one until all were given; one more than there are bytes).
+    #[tactic(auto, using(crate::proofs::SplitLemmas::some_left, crate::proofs::SplitLemmas::few_left, crate::proofs::SplitLemmas::bytes_left))]
     fn size_hint(&self) -> (usize, Option<usize>)
         ensures lower { IsWithinCount result.0 (item_count (λ left. left) self.now) }
         ensures upper { IfSome result.1 (UpTo (item_count (λ left. left) self.now)) }
         ensures some { 0 < length self.now → result.0 ≡ 1 }
+        ensures bytes { result.1 ≡ Some (sum_by (λ x. length x.bytes + 1) self.now) }
     {
         if self.done {
             return (0, Some(0));
@@ -201,7 +203,7 @@ impl<'a> Iterator for SplitAscii<'a> {
 impl<'a> DoubleEndedIterator for SplitAscii<'a> {
     ghost next_back_gives = { YieldsLast (λ left. left) };
 
-    /// The field at the back, and `None` once all were given.
+    /// The field at the end, or `None` once all were given.
     ///
     /// Cost: O(n) in the field.
     fn next_back(&mut self) -> Option<Span<'a>> {
@@ -276,7 +278,7 @@ fn last_part(start: usize, bytes: &[u8], separator: u8) -> (Span<'_>, SplitAscii
     (part, SplitAscii::no_parts())
 }
 
-// Where the byte stands first, and the length where it does not.
+// The offset of the first such byte, or the length if there is none.
 fn first_place(bytes: &[u8], byte: u8) -> usize
     ensures within { result ≤ length bytes.now }
     ensures first { IsFirstMatchOrLen (λ x. nat_eq x byte) bytes.now result }
@@ -284,7 +286,7 @@ fn first_place(bytes: &[u8], byte: u8) -> usize
     bytes.iter().position(|x| *x == byte).unwrap_or(bytes.len())
 }
 
-// The place after the last such byte, and 0 where there is none.
+// The offset after the last such byte, or 0 if there is none.
 fn place_after_last(bytes: &[u8], byte: u8) -> usize
     ensures within { result ≤ length bytes.now }
     ensures last { IsAfterLastMatch (λ x. nat_eq x byte) bytes.now result }

@@ -10,19 +10,19 @@ use std::io::{Read, Write};
 
 /// What programs read from: a reader, or a `Counted` one.
 pub trait Source {
-    // the bytes that reads will give, where they are known
+    // the bytes that reads will give, if they are known
     ghost remaining: { Self → Option (List ℕ) };
 
     // whether the reads are counted
     ghost is_counted: { Bool };
 
-    // how many reads failed
+    // the number of reads that failed
     ghost failures: { Self → ℕ };
 
-    // what else is known of the reads
+    // the other counts of the reads
     ghost reads: { Self → ReadCounts };
 
-    /// One call of the reader's `read`, with its answer.
+    /// Calls `read` of the reader once, and returns its result.
     ///
     /// Cost: that of the call.
     fn read_once(&mut self, buf: &mut [u8]) -> io::Result<usize>
@@ -68,22 +68,22 @@ impl<R: Read> Source for Counted<R> {
 
 /// What programs write to: a writer, or a `Counted` one.
 pub trait Sink {
-    // the bytes that were written, where they are known
+    // the bytes that were written, if they are known
     ghost contents: { Self → Option (List ℕ) };
 
     // whether the writes are counted
     ghost is_counted: { Bool };
 
-    // how many writes failed
+    // the number of writes that failed
     ghost failures: { Self → ℕ };
 
-    // how many writes took nothing
+    // the number of writes that took nothing
     ghost stalls: { Self → ℕ };
 
-    // what else is known of the writes
+    // the other counts of the writes
     ghost other_calls: { Self → OtherCalls };
 
-    /// One call of the writer's `write`, with its answer.
+    /// Calls `write` of the writer once, and returns its result.
     ///
     /// Cost: that of the call.
     fn write_once(&mut self, bytes: &[u8]) -> io::Result<usize>
@@ -134,10 +134,10 @@ impl<W: Write> Sink for Counted<W> {
     }
 }
 
-/// Writes all the bytes, in as many calls of `write` as it takes, none for no bytes.
+/// Writes all the bytes, in as many calls of `write` as it takes, and in none if there are none.
 ///
-/// The first failure ends it, `Interrupted` too: with the writer's error, or with `WriteZero` where the
-/// writer took nothing.
+/// The first failure ends it, `Interrupted` too: with the writer's error, or with `WriteZero` if the writer
+/// took nothing.
 ///
 /// Cost: O(n), and that of the calls.
 #[inline(always)]

@@ -16,7 +16,7 @@ use Rattle.uses.specs.Cases.{ArePiecesAlike}
 abbrev pub AreAlike : List ℕ → List ℕ → Type 0
 AreAlike xs ys = map to_ascii_lowercase xs ≡ map to_ascii_lowercase ys
 
--- beyond ASCII nothing has a case
+-- outside of ASCII `to_ascii_lowercase` changes nothing
 stays : (a : ℕ) → 128 ≤ a → to_ascii_lowercase a ≡ a
 stays a h = (lowercase_is a).2 (omega arith)
 
@@ -46,7 +46,7 @@ at_range xs p n k le lt = grind (arith, common_steps)
 range_length : (xs : List ℕ) (p n : ℕ) → p + n ≤ length xs → length (slice_range xs p (p + n)) ≡ n
 range_length xs p n le = grind (arith, common_steps)
 
--- a character that is equal but for case stands at the place, and its code is as long
+-- a character that is equal but for case is at the offset, and its encoded length is the same
 record AlikeAt (ys : List ℕ) (p s : ℕ) : Type 0 where
   char : ℕ
   stands : Stands utf8 ys p char
@@ -54,7 +54,7 @@ record AlikeAt (ys : List ℕ) (p s : ℕ) : Type 0 where
   alike : to_ascii_lowercase char ≡ to_ascii_lowercase s
 
 module _ (alone : AsciiStandsAlone) (apart : CodesNeverOverlap utf8) where
-  -- no byte of a code that begins beyond ASCII is ASCII
+  -- no byte of a character outside of ASCII is ASCII
   all_beyond : (xs : List ℕ) (p s k : ℕ) → Stands utf8 xs p s → 128 ≤ get_or xs p 0 → k < length (utf8 s) → 128 ≤ get_or xs (p + k) 0
   all_beyond xs p s k h ge lt =
       ⊎_elim

@@ -1,4 +1,4 @@
--- A text that goes through its units, character by character.
+-- A text converted to units and back, character by character.
 use Rattle.std.proofs.Common.{◌≡◌, ℕ, suc, ◌+◌, List, [], ◌∷◌, ◌++◌, length, drop, refl, ap, sym, ◌∙◌, arith, Some, Result, Ok, Err, length-append, append_assoc, append-nil}
 use Rattle.std.proofs.lemmas.Grind.{common_steps}
 use Rattle.std.proofs.lemmas.List.{drop_at}
@@ -21,7 +21,7 @@ use Rattle.encode_unicode.proofs.Listed.{scalars_listed, splitter_listed}
 abbrev pub units_left : Splitting Window → List ℕ
 units_left = unsent utf16 (λ w. chars (elements w))
 
--- the text is what came back and the characters whose units are unread
+-- the text is what was converted back and the characters whose units are unread
 pub record IsRecodedSoFar (text again following : List ℕ) : Type 0 where
   pub left : List ℕ
   pub scalars : All IsScalar left
@@ -57,7 +57,7 @@ recoded_char text again old new s before h e = by_left before.left before.scalar
           joined = joined ∙ ap (λ y. again ++ (utf8 y ++ flat_map utf8 left)) same ∙ sym (append_assoc again (utf8 s) (flat_map utf8 left));
         }
 
--- none of its units is faulty
+-- none of the units of a text is invalid
 pub recoded_fault : (text again old new : List ℕ) (u : ℕ) (k : Utf16PairError) → IsRecodedSoFar text again old → unit_fault_kind old ≡ Some k → old ≡ u ∷ new → ⊥
 recoded_fault text again old new u k before kind e = by_left before.left before.scalars before.units
   where
@@ -76,7 +76,7 @@ recoded_all text again old before none = by_left before.left before.scalars befo
         let zero : length old ≡ 0 = ap length none in
         absurd (omega arith)
 
--- The same by the answers of a merger over that splitter.
+-- the units of a text, by the results of a merger over a splitter
 
 pub units_listed : IsListed (SplitterNext utf16 NextScalar) units_left
 units_listed = splitter_listed utf16 NextScalar (λ w. chars (elements w)) scalars_listed

@@ -28,11 +28,11 @@ joined_last d (x ∷ y ∷ ts) t =
     ∙ sym (append_assoc x (d ∷ []) (closed d (y ∷ ts) ++ t))
     ∙ sym (append_assoc (x ++ d ∷ []) (closed d (y ∷ ts)) t)
 
--- no delimiter stands from the place i on and before j
+-- no delimiter is at an offset from i on and before j
 abbrev IsClean : List ℕ → ℕ → ℕ → ℕ → Type 0
 IsClean xs d i j = (q : ℕ) → i ≤ q → q < j → get_or xs q 0 ≢ d
 
--- the tokens in front of the place `start`, and no delimiter from there to the window
+-- the tokens in front of the offset `start`, and no delimiter from there to the window
 pub record IsTokenizedSoFar (xs : List ℕ) (d : ℕ) (tokens : List (List ℕ)) (start : ℕ) (w : Window) : Type 0 where
   pub whole : w.whole ≡ xs
   pub back : w.back ≡ length xs
@@ -59,7 +59,7 @@ ascii_code : (s : ℕ) → s < 128 → utf8 s ≡ s ∷ []
 unfolding utf8
 ascii_code s lt = grind (arith, common_steps)
 
--- where the window is after one piece
+-- the window after one piece
 record IsNext (xs : List ℕ) (w v : Window) (n : ℕ) : Type 0 where
   pub whole : v.whole ≡ xs
   pub back : v.back ≡ length xs
@@ -95,11 +95,11 @@ go_on xs d start ts w v n before next clean = record {
   clean = λ q lo hi. ⊎_elim (λ lt. before.clean q lo lt) (λ ge. clean q ge (omega (arith, next.front))) (cases_lt q w.front);
 }
 
--- the code that begins the window, as one of the whole
+-- the character at the front of the window is at its offset in the whole too
 standing : (xs : List ℕ) (w v : Window) (n s : ℕ) → IsNext xs w v n → w.front ≤ length xs → Stands utf8 (elements w) 0 s → Stands utf8 xs w.front s
 standing xs w v n s next le h = (front_char utf8 utf8_is_code xs w.front (length xs) s le (omega arith) (rw (← next.same) h)).0.0
 
--- another character has no delimiter in its code
+-- another character has no delimiter among its bytes
 pub tokens_other : AsciiStandsAlone → CodesNeverOverlap utf8 → {xs : List ℕ} {d start : ℕ} {ts : List (List ℕ)} {w v : Window} {x : Item} (s : ℕ) → d < 128
     → IsTokenizedSoFar xs d ts start w → GivesFront w x v → x.1 ≡ Ok s → s ≢ d → IsTokenizedSoFar xs d ts start v
 tokens_other alone apart {xs} {d} {start} {ts} {w} {v} {x} s ascii before step is other =
@@ -112,7 +112,7 @@ tokens_other alone apart {xs} {d} {start} {ts} {w} {v} {x} s ascii before step i
     let both = apart xs w.front q s d first found in
     ⊎_elim (λ lt. let over = both.1 lt in let len = begins.1 in absurd (omega arith)) (λ ge. absurd (other (both.0 (omega arith)))) (cases_lt w.front q))
 
--- nor is a faulty byte one
+-- an invalid byte is no delimiter
 pub tokens_fault : AsciiStandsAlone → {xs : List ℕ} {d start : ℕ} {ts : List (List ℕ)} {w v : Window} {x : Item} {k : Utf8ErrorKind} → d < 128
     → IsTokenizedSoFar xs d ts start w → GivesFront w x v → x.1 ≡ Err k → IsTokenizedSoFar xs d ts start v
 tokens_fault alone {xs} {d} {start} {ts} {w} {v} {x} {k} ascii before step is =
@@ -155,7 +155,7 @@ tokens_push {xs} {d} {start} {ts} {w} {v} {x} s {t} ascii before step is delimit
       clean = λ q lo hi. absurd (omega arith);
     }
 
--- what is left is the last
+-- what is left is the last token
 pub tokens_all : {xs : List ℕ} {d start : ℕ} {ts : List (List ℕ)} {w : Window} {t : List ℕ} → IsTokenizedSoFar xs d ts start w → w.front ≡ w.back → t ≡ slice_range xs start (length xs) → AreTokensOf xs d (ts ++ t ∷ [])
 tokens_all {xs} {d} {start} {ts} {w} {t} before end token =
     let back = before.back in

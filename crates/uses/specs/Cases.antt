@@ -4,7 +4,7 @@ use Rattle.std.specs.Char.{to_ascii_lowercase}
 use Rattle.encode_unicode.specs.Code.{utf8}
 use Rattle.encode_unicode.specs.Piece.{Piece, IsPiece}
 
--- each piece of the one list stands in the other too, at the same place and as long: a fault where it is a fault, and
+-- each piece of the one list is in the other too, at the same offset and as long: a fault if it is a fault, and
 -- otherwise a character that is equal but for case
 abbrev pub ArePiecesAlike : List ℕ → List ℕ → Type 0
 ArePiecesAlike xs ys =

@@ -4,6 +4,6 @@ use Rattle.encode_unicode.specs.Code.{utf8}
 use Rattle.encode_unicode.specs.Piece.{Stands}
 use Rattle.encode_unicode.specs.Chars.{ascii_uppercase}
 
--- a code begins the text, and c is its scalar in upper case
+-- a character begins the text, and c is its scalar in upper case
 abbrev pub IsInitial : List ℕ → ℕ → Type 0
 IsInitial text c = (s : ℕ) × Stands utf8 text 0 s × (c ≡ ascii_uppercase s)

@@ -7,7 +7,8 @@ use Rattle.encode_unicode.specs.Units.{unit_fault_kind}
 use Rattle.uses.specs.declared.records.Ending.{Ending}
 use Rattle.uses.specs.declared.records.Ending.TheVariants.{Zero, Damaged, Missing}
 
--- what stands at the end of a record, in front of the units `following`: a zero unit, a unit that is damaged, or nothing
+-- what is at the end of a record, in front of the units `following`: a zero unit, a unit that is damaged, or
+-- nothing
 abbrev pub EndsRecord : Ending → List ℕ → List ℕ → Type 0
 EndsRecord Zero units following = units ≡ 0 ∷ following
 EndsRecord (Damaged kind) units following = (unit_fault_kind units ≡ Some kind) × (units ≡ slice_index units 0 ∷ following)

@@ -1,23 +1,23 @@
-//! What was encoded decodes to the same, and calls of one argument answer alike.
+//! What was encoded decodes to the same, and calls with one argument return the same.
 ghost use Rattle.std.specs.Prelude.{◌≡◌, IsTrue};
 
 use encode_unicode::{CharExt, U8SliceExt, U8UtfExt, Utf8Char, Utf16Char};
 
-/// By the array.
+/// Encodes a character to an array and decodes it.
 pub fn array_and_back(c: Utf8Char) -> Utf8Char
     ensures { result ≡ c }
 {
     Utf8Char::from_array(c.to_array().0).unwrap()
 }
 
-/// By a text.
+/// Encodes a character to a text and decodes it.
 pub fn text_and_back(c: Utf8Char) -> Utf8Char
     ensures { result ≡ c }
 {
     c.as_str().parse().unwrap()
 }
 
-/// By a buffer.
+/// Encodes a character to a buffer and decodes it.
 pub fn buffer_and_back(c: Utf8Char) -> Utf8Char
     ensures { result ≡ c }
 {
@@ -27,14 +27,14 @@ pub fn buffer_and_back(c: Utf8Char) -> Utf8Char
     same
 }
 
-/// By one or two units.
+/// Encodes a character to one or two units and decodes them.
 pub fn tuple_and_back(c: Utf16Char) -> Utf16Char
     ensures { result ≡ c }
 {
     Utf16Char::from_tuple(c.to_tuple()).unwrap()
 }
 
-/// By a slice of units.
+/// Encodes a character to a slice of units and decodes it.
 pub fn unit_view_and_back(c: Utf16Char) -> Utf16Char
     ensures { result ≡ c }
 {
@@ -42,7 +42,7 @@ pub fn unit_view_and_back(c: Utf16Char) -> Utf16Char
     same
 }
 
-/// A `char`, by the bytes of its code.
+/// Encodes a `char` to UTF-8 and decodes it.
 pub fn char_by_bytes(c: char) -> char
     ensures { result ≡ c }
 {
@@ -51,14 +51,14 @@ pub fn char_by_bytes(c: char) -> char
     same
 }
 
-/// A `char`, by its number.
+/// Converts a `char` to its number and back.
 pub fn char_by_number(c: char) -> char
     ensures { result ≡ c }
 {
     char::from_u32_detailed(c as u32).unwrap()
 }
 
-/// The checked and the unchecked call of one slice.
+/// Returns true if the checked and the unchecked call agree on a slice.
 pub fn forms_agree(bytes: &[u8]) -> bool
     ensures { IsTrue result }
 {
@@ -68,7 +68,7 @@ pub fn forms_agree(bytes: &[u8]) -> bool
     }
 }
 
-/// The checked and the unchecked count of one byte.
+/// Returns true if the checked and the unchecked call agree on how many bytes follow a byte.
 pub fn counts_agree(byte: u8) -> bool
     ensures { IsTrue result }
 {
@@ -78,7 +78,7 @@ pub fn counts_agree(byte: u8) -> bool
     }
 }
 
-/// The methods of `char` and of `Utf8Char` on the same bytes.
+/// Returns true if the methods of `char` and of `Utf8Char` agree on the same bytes.
 pub fn types_agree(bytes: &[u8]) -> bool
     ensures { IsTrue result }
 {
@@ -92,7 +92,7 @@ pub fn types_agree(bytes: &[u8]) -> bool
     }
 }
 
-/// The decoder's first item and the decoding of the same bytes.
+/// Returns true if the decoder's first item agrees with decoding the front of the same bytes.
 pub fn first_item_agrees(bytes: &[u8]) -> bool
     ensures { IsTrue result }
 {

@@ -1,7 +1,7 @@
-//! Decoders and text iterators that were asked already: what still comes lies in the bytes, or in the text.
+//! Decoders and text iterators after a first call: their further items lie in the bytes, or in the text.
 use encode_unicode::{StrExt, U8SliceExt, U16SliceExt, Utf8Char};
 
-/// A command's letter, and its argument, which stands after the first space.
+/// A command's letter, and its argument, which follows the first space.
 pub fn command(text: &str) -> Option<(Utf8Char, &str)> {
     let mut characters = text.utf8char_indices();
     let (_, letter) = characters.next()?;
@@ -67,7 +67,7 @@ pub fn before_later_fault(bytes: &[u8]) -> Option<&[u8]> {
     Some(&bytes[front + len..place])
 }
 
-/// The bytes between the first two invalid bytes: a decoder is asked twice.
+/// The bytes between the first two invalid bytes: calls a decoder twice.
 pub fn between_faults(bytes: &[u8]) -> Option<&[u8]> {
     let mut pieces = bytes.utf8char_indices();
     let (first, _, len) = pieces.find(|x| x.1.is_err())?;

@@ -1,13 +1,13 @@
-//! Names that are compared without regard to the case of ASCII letters, as those of hosts and of header fields are, in
-//! bytes that may be damaged.
+//! Names that are compared without regard to the case of ASCII letters, as names of hosts and of header fields are,
+//! in bytes that may be damaged.
 ghost use Rattle.std.specs.Prelude.{◌≡◌, ◌↔◌, IsTrue, map};
 ghost use Rattle.std.specs.Char.{to_ascii_lowercase};
 ghost use Rattle.uses.specs.Cases.{ArePiecesAlike};
 
 use encode_unicode::laws;
 
-/// Whether the bytes are equal but for case. Then they are so piece by piece: no error hides a letter, and no byte of
-/// another character is taken for one.
+/// Returns true if the bytes are equal but for case. Then they are so piece by piece: no error hides a letter, and no
+/// byte of another character is taken for one.
 pub fn are_alike(first: &[u8], second: &[u8]) -> bool
     ensures bytes { IsTrue result ↔ (map to_ascii_lowercase first.now ≡ map to_ascii_lowercase second.now) }
     ensures pieces { IsTrue result → ArePiecesAlike first.now second.now }

@@ -1,4 +1,4 @@
-//! Chains over a decoder: what a chain answers is said of `pieces`, the list of what the decoder gives.
+//! Chains over a decoder: contracts state the result by `pieces`, the list of the decoder's items.
 ghost use Rattle.std.specs.Prelude.{◌≡◌, ◌+◌, None, cond, count_by, IfSome, ◌≤◌, is_err, is_ok, max, nat_eq, not, position, reverse, slice_get};
 ghost use Rattle.std.specs.List.{filter_map, find, fold, last_or, list_all, list_any};
 ghost use Rattle.std.specs.Result.{result_ok};
@@ -9,35 +9,35 @@ use encode_unicode::error::Utf8Error;
 use encode_unicode::laws::{lengths_are_bounded, runs_are_bounded};
 use encode_unicode::{StrExt, U8SliceExt, Utf8Char};
 
-/// How many of the bytes are invalid.
+/// The number of invalid bytes.
 pub fn fault_count(bytes: &[u8]) -> usize
     ensures { result ≡ count_by (λ x. is_err x.1) (pieces bytes.now) }
 {
     bytes.utf8char_indices().filter(|x| x.1.is_err()).count()
 }
 
-/// How many characters stand before the first invalid byte.
+/// The number of characters before the first invalid byte.
 pub fn characters_before(bytes: &[u8]) -> Option<usize>
     ensures { result ≡ position (λ x. is_err x.1) (pieces bytes.now) }
 {
     bytes.utf8char_indices().position(|x| x.1.is_err())
 }
 
-/// Whether one of the bytes is invalid.
+/// Returns true if one of the bytes is invalid.
 pub fn has_fault(bytes: &[u8]) -> bool
     ensures { result ≡ list_any (λ x. is_err x.1) (pieces bytes.now) }
 {
     bytes.utf8char_indices().any(|x| x.1.is_err())
 }
 
-/// Whether none of the bytes is invalid.
+/// Returns true if none of the bytes is invalid.
 pub fn has_no_fault(bytes: &[u8]) -> bool
     ensures { result ≡ list_all (λ x. is_ok x.1) (pieces bytes.now) }
 {
     bytes.utf8char_indices().all(|x| x.1.is_ok())
 }
 
-/// The bytes before the first invalid one, which are all where there is none.
+/// The bytes before the first invalid one, which are all if there is none.
 pub fn before_fault(bytes: &[u8]) -> &[u8] {
     match bytes.utf8char_indices().find(|x| x.1.is_err()) {
         Some((place, _, _)) => &bytes[..place],
@@ -53,14 +53,14 @@ pub fn first_beyond_ascii(bytes: &[u8]) -> &[u8] {
     }
 }
 
-/// How many spaces the text begins with, and `None` where it has nothing else.
+/// The number of spaces that the text begins with; `None` if it has nothing else.
 pub fn leading_spaces(text: &str) -> Option<usize>
     ensures { result ≡ position (λ c. not (nat_eq c 32)) (chars text.now) }
 {
     text.utf8chars().position(|c| !c.eq_char(' '))
 }
 
-/// The first tab of the text, with its place.
+/// The first tab of the text, with its offset.
 pub fn first_tab(text: &str) -> Option<(usize, Utf8Char)>
     ensures { result ≡ find (λ x. nat_eq x.1 9) (placed_chars 0 (chars text.now)) }
 {
@@ -81,21 +81,21 @@ pub fn first_character(text: &str) -> Option<Utf8Char>
     text.utf8chars().next()
 }
 
-/// The character after so many others.
+/// The character after `count` others.
 pub fn nth_character(text: &str, count: usize) -> Option<Utf8Char>
     ensures { result ≡ slice_get (chars text.now) count }
 {
     text.utf8chars().nth(count)
 }
 
-/// How many bytes the longest piece has: 4 at most.
+/// The length of the longest piece in bytes: at most 4.
 pub fn longest_piece(bytes: &[u8]) -> Option<usize>
     ensures { IfSome result (λ len. len ≤ 4) }
 {
     bytes.utf8char_indices().map(|x| x.2).max()
 }
 
-/// The text after its first space, which is all of it where there is none.
+/// The text after its first space, which is all of it if there is none.
 pub fn after_space(text: &str) -> &str {
     match text.utf8char_indices().find(|x| x.1.eq_char(' ')) {
         Some((place, c)) => &text[place + c.len()..],
@@ -111,7 +111,7 @@ pub fn trimmed(text: &str) -> &str {
     }
 }
 
-/// The bytes after the last line feed, which are all where there is none.
+/// The bytes after the last line feed, which are all if there is none.
 pub fn last_line(bytes: &[u8]) -> &[u8] {
     let feed = bytes
         .utf8char_indices()
@@ -123,25 +123,25 @@ pub fn last_line(bytes: &[u8]) -> &[u8] {
     }
 }
 
-/// How many units the text has in UTF-16.
+/// The length of the text in UTF-16, in units.
 pub fn units_needed(text: &str) -> usize {
     text.utf16chars().map(|c| c.len()).sum()
 }
 
-/// How many bytes the pieces have together. The law says that the sum fits.
+/// The sum of the lengths of the pieces in bytes. The law says that it fits.
 pub fn bytes_covered(bytes: &[u8]) -> usize {
     lengths_are_bounded();
     bytes.utf8char_indices().map(|x| x.2).sum()
 }
 
-/// How many line feeds the text has.
+/// The number of line feeds in the text.
 pub fn line_feeds(text: &str) -> usize
     ensures { result ≡ count_by (λ c. nat_eq c 10) (chars text.now) }
 {
     text.utf8chars().filter(|c| c.eq_char('\n')).count()
 }
 
-/// How many line feeds bytes have that may be damaged.
+/// The number of line feeds in bytes that may be damaged.
 pub fn line_feeds_of_bytes(bytes: &[u8]) -> usize
     ensures { result ≡ count_by (λ c. nat_eq c 10) (filter_map (λ x. result_ok x.1) (pieces bytes.now)) }
 {
@@ -149,7 +149,7 @@ pub fn line_feeds_of_bytes(bytes: &[u8]) -> usize
     characters.filter(|c| c.eq_char('\n')).count()
 }
 
-/// The highest scalar of the text, and 0 where it has none.
+/// The highest scalar of the text, or 0 if it is empty.
 pub fn highest(text: &str) -> u32
     ensures { result ≡ fold max 0 (chars text.now) }
 {
@@ -157,7 +157,7 @@ pub fn highest(text: &str) -> u32
         .fold(0, |most, c| most.max(c.to_char() as u32))
 }
 
-/// How many of the bytes are invalid, by `fold`.
+/// The number of invalid bytes, by `fold`.
 pub fn faults_by_fold(bytes: &[u8]) -> usize
     ensures { result ≡ fold (λ count x. cond (is_err x.1) (count + 1) count) 0 (pieces bytes.now) }
 {
@@ -167,7 +167,7 @@ pub fn faults_by_fold(bytes: &[u8]) -> usize
         .fold(0, |count, x| if x.1.is_err() { count + 1 } else { count })
 }
 
-/// The last character of the text, from its back.
+/// The last character of the text, from its end.
 pub fn last_from_back(text: &str) -> Option<Utf8Char>
     ensures { result ≡ last_or None (chars text.now) }
 {

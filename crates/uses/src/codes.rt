@@ -1,4 +1,5 @@
-//! The codes of characters, element by element: where they stand in bytes and units, and what a splitter sends.
+//! The encoded characters of bytes and units, element by element: that they are in the input, and what a
+//! splitter gives.
 ghost use Rattle.std.specs.Prelude.{◌≡◌, None, IfOk, IfSome, count_by, flat_map, length, nat_eq, nat_lt, reverse, slice_get, take};
 ghost use Rattle.std.specs.List.{last_or, list_all, list_any};
 ghost use Rattle.std.specs.Str.{chars};
@@ -39,7 +40,7 @@ pub fn first_good_code(bytes: &[u8]) -> Option<(Utf8Char, &[u8])>
     }
 }
 
-/// The last one in units.
+/// The last character of the units, before invalid units if there are any, and its own units.
 pub fn last_good_code(units: &[u16]) -> Option<(Utf16Char, &[u16])>
     ensures { IfSome result (λ x. x.1.now ≡ utf16 x.0) }
 {
@@ -49,35 +50,35 @@ pub fn last_good_code(units: &[u16]) -> Option<(Utf16Char, &[u16])>
     }
 }
 
-/// How many units the text has.
+/// The length of the text in units.
 pub fn unit_count(text: &str) -> usize
     ensures { result ≡ length (flat_map utf16 (chars text.now)) }
 {
     text.utf16chars().to_units().count()
 }
 
-/// How many spaces the text has, byte by byte.
+/// The number of spaces in the text, counted byte by byte.
 pub fn spaces(text: &str) -> usize
     ensures { result ≡ count_by (λ b. nat_eq b 32) (flat_map utf8 (chars text.now)) }
 {
     text.utf8chars().to_bytes().filter(|b| *b == 32).count()
 }
 
-/// Whether the text is ASCII alone.
+/// Returns true if the text is ASCII only.
 pub fn is_ascii(text: &str) -> bool
     ensures { result ≡ list_all (λ b. nat_lt b 128) (flat_map utf8 (chars text.now)) }
 {
     text.utf8chars().to_bytes().all(|b| b < 128)
 }
 
-/// Whether a unit of the text is 0.
+/// Returns true if a unit of the text is 0.
 pub fn has_zero(text: &str) -> bool
     ensures { result ≡ list_any (λ unit. nat_eq unit 0) (flat_map utf16 (chars text.now)) }
 {
     text.utf16chars().to_units().any(|unit| unit == 0)
 }
 
-/// The unit after so many others.
+/// The unit after `count` others.
 pub fn nth_unit(text: &str, count: usize) -> Option<u16>
     ensures { result ≡ slice_get (flat_map utf16 (chars text.now)) count }
 {
@@ -91,7 +92,7 @@ pub fn last_byte(text: &str) -> Option<u8>
     text.utf8chars().to_bytes().last()
 }
 
-/// The first bytes of the text, so many or all.
+/// The first `count` bytes of the text, or all of them.
 pub fn first_bytes<A: Allocator>(
     alloc: A,
     text: &str,

@@ -1,4 +1,4 @@
-//! What the laws say of damaged bytes.
+//! Consequences of the laws for damaged bytes.
 ghost use Rattle.std.specs.Prelude.{◌≡◌, ◌<◌, ℕ, Contains, IfSome, IsTrue, Ok, count_by, length, nat_eq, slice_index};
 ghost use Rattle.encode_unicode.specs.Code.{utf8};
 ghost use Rattle.encode_unicode.specs.Piece.{Inside, Stands};
@@ -8,7 +8,7 @@ ghost use Rattle.encode_unicode.specs.ShownLaws.{CodeShowsFirst, FaultShowsFirst
 
 use encode_unicode::{U8SliceExt, Utf8Char, laws};
 
-/// Whether a byte is ASCII, and so a piece of its own, whatever stands around it.
+/// Returns true if a byte is ASCII, and so a piece of its own, whatever surrounds it.
 pub fn is_ascii_piece(bytes: &[u8], place: usize) -> bool
     requires { place < length bytes.now }
     ensures { IsTrue result → IsOwnPiece bytes.now place (slice_index bytes.now place) }
@@ -17,7 +17,7 @@ pub fn is_ascii_piece(bytes: &[u8], place: usize) -> bool
     bytes[place] < 0x80
 }
 
-/// How many line feeds the bytes have, counted as characters.
+/// The number of line feeds in the bytes, counted as characters.
 pub fn line_feeds(bytes: &[u8]) -> usize
     ensures { result ≡ count_by (λ b. nat_eq b 10) bytes.now }
 {
@@ -26,7 +26,7 @@ pub fn line_feeds(bytes: &[u8]) -> usize
     characters.filter(|c| c.eq_char('\n')).count()
 }
 
-/// How many of an ASCII delimiter the bytes have, counted as bytes: as many as there are fields after the first.
+/// The number of ASCII delimiters in the bytes, counted as bytes: as many as there are fields after the first.
 pub fn delimiters(bytes: &[u8], delimiter: u8) -> usize
     requires { delimiter < 128 }
     ensures { result ≡ count_by (λ c. nat_eq c delimiter) (characters bytes.now) }
@@ -35,7 +35,7 @@ pub fn delimiters(bytes: &[u8], delimiter: u8) -> usize
     bytes.iter().filter(|b| **b == delimiter).count()
 }
 
-/// Whether a quote stands at the place, which is then a piece that a decoder gives.
+/// Returns true if a quote is at the offset, which is then a piece that a decoder gives.
 pub fn is_quote(bytes: &[u8], place: usize) -> bool
     ensures { IsTrue result → Contains (pieces bytes.now) (place, Ok 34, 1) }
 {
@@ -43,7 +43,7 @@ pub fn is_quote(bytes: &[u8], place: usize) -> bool
     place < bytes.len() && bytes[place] == b'"'
 }
 
-/// The place after the first comma, where a piece begins.
+/// The offset after the first comma, which is where a piece begins.
 pub fn after_comma(bytes: &[u8]) -> Option<usize>
     ensures { IfSome result (λ place. ¬ Inside utf8 bytes.now place) }
 {
@@ -52,7 +52,7 @@ pub fn after_comma(bytes: &[u8]) -> Option<usize>
     Some(comma + 1)
 }
 
-/// Whether no code begins the bytes.
+/// Returns true if no character begins the bytes.
 pub fn begins_no_code(bytes: &[u8]) -> bool
     ensures { IsTrue result → (s : ℕ) → Stands utf8 bytes.now 0 s → ⊥ }
 {
@@ -60,8 +60,8 @@ pub fn begins_no_code(bytes: &[u8]) -> bool
     Utf8Char::from_slice_start(bytes).is_err()
 }
 
-/// What bytes show, with U+FFFD for each invalid byte, can be told from their front on: there is one list of it, the
-/// first piece is shown first, and what is decided stays as more bytes come.
+/// The scalars of bytes, with U+FFFD for each invalid byte, are determined from the front on: there is one list of
+/// them, the first piece gives the first, and what is decided stays as more bytes follow.
 pub fn shown_from_the_front()
     ensures some { ShowsSome utf8 }
     ensures one { ShowsOne utf8 }

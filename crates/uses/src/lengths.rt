@@ -1,4 +1,5 @@
-//! Lengths: a code has 1 to 4 bytes, or 1 or 2 units, so small buffers do and runs along a slice end.
+//! Lengths: a character has 1 to 4 bytes, or 1 or 2 units, so small buffers are enough and loops over a slice
+//! end.
 ghost use Rattle.std.specs.Prelude.{◌≡◌, ◌≤◌, length};
 
 use encode_unicode::laws::forms_are_bounded;
@@ -11,7 +12,7 @@ pub fn last_byte(c: Utf8Char) -> u8 {
     buffer[len - 1]
 }
 
-/// The last byte of the code, as it is lent from the character.
+/// The last byte of a character, from the slice that it lends.
 pub fn last_of_view(c: Utf8Char) -> u8 {
     let code = c.as_bytes();
     code[code.len() - 1]
@@ -31,7 +32,7 @@ pub fn ascii_byte(c: Utf8Char) -> Option<u8> {
     }
 }
 
-/// How many characters stand one after the other at the front of some bytes.
+/// The number of characters at the front of some bytes, before the first invalid byte.
 pub fn characters_in_front(bytes: &[u8]) -> usize
     ensures { result ≤ length bytes.now }
 {
@@ -44,7 +45,7 @@ pub fn characters_in_front(bytes: &[u8]) -> usize
     count
 }
 
-/// How many bytes the character has in UTF-8, and how many units in UTF-16: no more, by the law.
+/// The number of bytes of the character in UTF-8, and of units in UTF-16, which the law bounds.
 pub fn sizes(c: char) -> (usize, usize)
     ensures { result.1 ≤ result.0 }
 {

@@ -1,4 +1,4 @@
-//! Callers of `encode_unicode`, proved from its contracts alone.
+//! Callers of `encode_unicode`, proved only from its contracts.
 #![tactic(auto)]
 
 ghost use Rattle.std.specs.Prelude.{◌≡◌, [], MatchOption};
@@ -28,7 +28,7 @@ pub mod texts;
 pub mod tokens;
 pub mod unchecked;
 
-/// The first character of a text, in upper case where it is an ASCII letter.
+/// The first character of a text, in upper case if it is an ASCII letter.
 pub fn initial(text: &str) -> Option<Utf8Char>
     ensures { MatchOption result (text.now ≡ []) (IsInitial text.now) }
 {

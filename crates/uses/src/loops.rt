@@ -1,4 +1,4 @@
-//! Loops that state their result: the invariant says it of what was seen so far, in one line.
+//! Loops whose contracts state the result: the invariant states it for the items so far, in one line.
 ghost use Rattle.std.specs.Prelude.{◌≡◌, IfOk, count_by, filter, is_err, map, max, nat_eq};
 ghost use Rattle.std.specs.List.{fold, list_any};
 ghost use Rattle.std.specs.Str.{chars};
@@ -7,7 +7,7 @@ ghost use Rattle.encode_unicode.specs.Pieces.{pieces, placed_chars, unit_pieces}
 use encode_unicode::{StrExt, U8SliceExt, U16SliceExt};
 use std::alloc::{AllocError, Allocator};
 
-/// How many spaces the text has.
+/// The number of spaces in the text.
 pub fn spaces(text: &str) -> usize
     ensures { result ≡ count_by (λ c. nat_eq c 32) (chars text.now) }
 {
@@ -20,7 +20,7 @@ pub fn spaces(text: &str) -> usize
     count
 }
 
-/// How many of the bytes are invalid.
+/// The number of invalid bytes.
 pub fn faults(bytes: &[u8]) -> usize
     ensures { result ≡ count_by (λ x. is_err x.1) (pieces bytes.now) }
 {
@@ -33,7 +33,7 @@ pub fn faults(bytes: &[u8]) -> usize
     count
 }
 
-/// How many lone surrogates the units have.
+/// The number of lone surrogates in the units.
 pub fn faulty_units(units: &[u16]) -> usize
     ensures { result ≡ count_by (λ x. is_err x.1) (unit_pieces units.now) }
 {
@@ -46,7 +46,7 @@ pub fn faulty_units(units: &[u16]) -> usize
     count
 }
 
-/// The highest scalar of the text, and 0 where it has none.
+/// The highest scalar of the text, or 0 if it is empty.
 pub fn highest(text: &str) -> u32
     ensures { result ≡ fold max 0 (chars text.now) }
 {
@@ -57,7 +57,7 @@ pub fn highest(text: &str) -> u32
     most
 }
 
-/// Whether the text has a tab.
+/// Returns true if the text has a tab.
 pub fn has_tab(text: &str) -> bool
     ensures { result ≡ list_any (λ c. nat_eq c 9) (chars text.now) }
 {
@@ -68,7 +68,7 @@ pub fn has_tab(text: &str) -> bool
     found
 }
 
-/// Where the commas of the text stand.
+/// The offsets of the commas of the text.
 pub fn commas<A: Allocator>(alloc: A, text: &str) -> Result<Vec<usize, A>, AllocError>
     ensures { IfOk result (λ places. places.items ≡
         map (λ x. x.0) (filter (λ x. nat_eq x.1 44) (placed_chars 0 (chars text.now)))) }

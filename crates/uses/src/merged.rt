@@ -1,4 +1,4 @@
-//! Characters from a source of bytes or units of any kind, read no further than they ask for.
+//! Characters from a source of bytes or units of any kind, which is read no further than they need.
 ghost use Rattle.std.specs.Prelude.{◌≡◌, ◌++◌, IfSome};
 ghost use Rattle.encode_unicode.specs.Code.{utf8, utf16};
 ghost use Rattle.encode_unicode.specs.Kinds.{merger_kind};
@@ -9,7 +9,7 @@ use encode_unicode::error::{Utf8Error, Utf16PairError};
 use encode_unicode::iterator::RemainingBytes;
 use encode_unicode::{U8IterExt, U16IterExt, Utf8Char, Utf16Char};
 
-/// The character whose code a source of bytes begins with, and the source after that code.
+/// The first character of a source of bytes, and the source after it.
 pub fn split_char<I: Iterator<Item = u8>>(source: I) -> Option<(Utf8Char, I)>
     requires { I.can_next source }
     ensures { WhateverIsLeft I.next_gives (λ rest. IfSome result (λ x. rest source ≡ utf8 x.0 ++ rest x.1)) }
@@ -21,7 +21,7 @@ pub fn split_char<I: Iterator<Item = u8>>(source: I) -> Option<(Utf8Char, I)>
     }
 }
 
-/// The same of units.
+/// The first character of a source of units, and the source after it.
 pub fn split_utf16_char<I: Iterator<Item = u16>>(source: I) -> Option<(Utf16Char, I)>
     requires { I.can_next source }
     ensures { WhateverIsLeft I.next_gives (λ rest.
@@ -34,8 +34,8 @@ pub fn split_utf16_char<I: Iterator<Item = u16>>(source: I) -> Option<(Utf16Char
     }
 }
 
-/// The first piece of a source of bytes, damaged or not, and all bytes after it: of an invalid byte each one
-/// that was read to judge it as well.
+/// The first piece of a source of bytes, valid or not, and all bytes after it: after an invalid byte these
+/// include the ones that were read to decide on it.
 pub fn split_piece<I: Iterator<Item = u8>>(
     source: I,
 ) -> (Option<Result<Utf8Char, Utf8Error>>, RemainingBytes<I>)

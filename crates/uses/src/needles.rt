@@ -1,11 +1,11 @@
-//! A search for ASCII text in bytes that may be damaged, as for the end of a header. What is found is text, whatever
-//! stands around it: no byte of it belongs to another character.
+//! A search for ASCII text in bytes that may be damaged, as for the end of a header. A match is text, whatever
+//! surrounds it: no byte of it belongs to another character.
 ghost use Rattle.std.specs.Prelude.{ℕ, ◌<◌, ◌≤◌, All, IfSome, IsSomeAnd};
 ghost use Rattle.uses.specs.Needles.{AreOwnPieces, StandsAt};
 
 use encode_unicode::laws;
 
-/// The first place at which the ASCII text stands.
+/// The offset of the first match of the ASCII text.
 pub fn find_ascii(bytes: &[u8], needle: &[u8]) -> Option<usize>
     requires { All (λ b. b < 128) needle.now }
     ensures found { IfSome result (λ place. StandsAt bytes.now needle.now place) }

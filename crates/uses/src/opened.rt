@@ -1,4 +1,4 @@
-//! A definition that is opened: what the code of a character is, byte by byte.
+//! A definition that is unfolded: the bytes of a character, one by one.
 ghost use Rattle.std.specs.Prelude.{◌≡◌, IfSome};
 ghost use Rattle.encode_unicode.specs.Code.{utf8};
 

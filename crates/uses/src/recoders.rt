@@ -1,10 +1,10 @@
-//! A text that goes through its units and comes back.
+//! A text that is converted to units and back.
 ghost use Rattle.std.specs.Prelude.{◌≡◌, IfOk, string_bytes};
 
 use encode_unicode::{StrExt, U16IterExt, Utf16CharIterExt};
 use std::alloc::{AllocError, Global};
 
-/// The text by way of its units, one character at a time: a splitter, and a merger over it.
+/// Converts the text to units and back, one character at a time: a merger over a splitter.
 pub fn recode(alloc: Global, text: &str) -> Result<String, AllocError>
     ensures { IfOk result (λ again. string_bytes again ≡ text.now) }
 {

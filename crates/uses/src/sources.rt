@@ -1,4 +1,4 @@
-//! Sources of any kind: closures that capture, what is lent, and what is decoded alike from a part of a list.
+//! Sources of any kind: closures that capture, borrowed sources, and parts of a list that decode alike.
 ghost use Rattle.std.specs.Prelude.{◌≡◌, IfSome};
 
 use encode_unicode::{U8IterExt, Utf8Char, Utf8CharIterExt};
@@ -11,7 +11,7 @@ pub fn first_unmasked(bytes: &[u8], mask: u8) -> Option<Utf8Char> {
     }
 }
 
-/// How many pieces some bytes have with one that is left out of them.
+/// The number of pieces of the bytes without those equal to `left_out`.
 pub fn pieces_without(bytes: &[u8], left_out: u8) -> usize {
     bytes
         .iter()
@@ -27,7 +27,7 @@ pub fn first_byte_without_faults(bytes: &[u8]) -> Option<u8> {
     shown.filter_map(|answer| answer.ok()).to_bytes().next()
 }
 
-/// The first character of what a source gives, which goes on after it.
+/// The first character of a source, which can be read on after it.
 pub fn next_char<I: Iterator<Item = u8>>(source: &mut I) -> Option<Utf8Char>
     requires { I.can_next source.old }
 {
@@ -37,7 +37,7 @@ pub fn next_char<I: Iterator<Item = u8>>(source: &mut I) -> Option<Utf8Char>
     }
 }
 
-/// The character that begins some bytes, from its own bytes alone.
+/// The character that begins some bytes, decoded from only its own bytes.
 pub fn first_by_itself(bytes: &[u8]) -> Option<(Utf8Char, Utf8Char)>
     ensures { IfSome result (λ x. x.0 ≡ x.1) }
 {

@@ -1,4 +1,4 @@
-//! Tables keyed by characters: how often each stands in a text.
+//! Tables keyed by characters: how often each is in a text.
 ghost use Rattle.std.specs.Prelude.{◌+◌, ◌<◌, ◌^◌, IfOk, OnOk, nat_eq};
 ghost use Rattle.std.specs.BTreeMap as tree;
 ghost use Rattle.std.specs.HashMap as hash;
@@ -11,7 +11,7 @@ use encode_unicode::{StrExt, Utf8Char};
 use std::alloc::{AllocError, Global};
 use std::collections::{BTreeMap, HashMap};
 
-/// How often each character stands in the text.
+/// How often each character is in the text.
 #[tactic(auto, using(crate::proofs::TableLemmas::all_counted))]
 pub fn count_characters(alloc: Global, text: &str) -> Result<BTreeMap<Utf8Char, usize>, AllocError>
     ensures { IfOk result (λ table. CountsEach (chars text.now) (tree.get nat_cmp table)) }
@@ -32,7 +32,7 @@ pub fn count_one(table: &mut BTreeMap<Utf8Char, usize>, c: Utf8Char) -> Result<(
     Ok(())
 }
 
-/// The same in a table with no order.
+/// How often each character is in the text, in a hash map.
 #[tactic(auto, using(crate::proofs::TableLemmas::all_counted))]
 pub fn hash_characters(alloc: Global, text: &str) -> Result<HashMap<Utf8Char, usize>, AllocError>
     ensures { IfOk result (λ table. CountsEach (chars text.now) (hash.get nat_eq table)) }

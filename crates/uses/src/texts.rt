@@ -1,4 +1,4 @@
-//! Texts: where a text can be cut, and what a character adds to one.
+//! Texts: whether a text can be cut, and what a character adds to one.
 ghost use Rattle.std.specs.Prelude.{◌≡◌, ◌++◌, IfOk, OnOk, flat_map, length, map, reverse, string_bytes, take};
 ghost use Rattle.std.specs.Str.{chars};
 ghost use Rattle.encode_unicode.specs.Chars.{ascii_uppercase};
@@ -16,7 +16,7 @@ pub fn after_first(text: &str) -> &str {
     }
 }
 
-/// The first character as a text, by the other form.
+/// The first character as a text, by way of UTF-16.
 pub fn first_as_text(text: &str) -> &str {
     match Utf16Char::from_str_start(text) {
         Ok((_, len)) => &text[..len],
@@ -24,14 +24,14 @@ pub fn first_as_text(text: &str) -> &str {
     }
 }
 
-/// A text with a character more.
+/// Appends a character to a text.
 pub fn push<A: Allocator>(text: &mut String<A>, c: Utf8Char) -> Result<(), AllocError>
     ensures { OnOk result (string_bytes text.new ≡ string_bytes text.old ++ utf8 c) }
 {
     text.push(c.to_char())
 }
 
-/// The same of a `char`, whose code std writes: the lemma says that it is ours.
+/// Appends a `char` to a text. std encodes it: the lemma says that its UTF-8 is ours.
 #[tactic(auto, using(encode_unicode::proofs::ForCallers::utf8_is_std))]
 pub fn push_char<A: Allocator>(text: &mut String<A>, c: char) -> Result<(), AllocError>
     ensures { OnOk result (string_bytes text.new ≡ string_bytes text.old ++ utf8 c) }
@@ -39,7 +39,7 @@ pub fn push_char<A: Allocator>(text: &mut String<A>, c: char) -> Result<(), Allo
     text.push(c)
 }
 
-/// The text itself, character by character. The law says that its codes, joined, are the text.
+/// The text itself, character by character. The law says that its encoded characters, joined, are the text.
 pub fn copied<A: Allocator>(alloc: A, text: &str) -> Result<String<A>, AllocError>
     ensures { IfOk result (λ made. string_bytes made ≡ text.now) }
 {
@@ -62,7 +62,7 @@ pub fn reversed<A: Allocator>(alloc: A, text: &str) -> Result<String<A>, AllocEr
     text.utf8chars().rev().collect_string(alloc)
 }
 
-/// The first characters of the text, so many or all.
+/// The first `count` characters of the text, or all of them.
 pub fn shortened<A: Allocator>(alloc: A, text: &str, count: usize) -> Result<String<A>, AllocError>
     ensures { IfOk result (λ made. string_bytes made ≡ flat_map utf8 (take count (chars text.now))) }
 {
@@ -89,7 +89,7 @@ pub fn add_reversed<A: Allocator>(text: &mut String<A>, more: &str) -> Result<()
     more.utf8chars().rev().extend_string(text)
 }
 
-/// The text up to so many characters, or all of it, with no memory.
+/// The text up to `count` characters, or all of it, without an allocation.
 pub fn front(text: &str, count: usize) -> &str
     ensures codes { result.now ≡ flat_map utf8 (take count (chars text.now)) }
     ensures chars { chars result.now ≡ take count (chars text.now) }
@@ -100,7 +100,7 @@ pub fn front(text: &str, count: usize) -> &str
     }
 }
 
-/// The offset of the character after so many others, or that of the end.
+/// The offset of the character after `count` others, or the length.
 pub fn offset_of(text: &str, count: usize) -> usize
     ensures { result ≡ length (flat_map utf8 (take count (chars text.now))) }
 {

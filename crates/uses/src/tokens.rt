@@ -1,4 +1,4 @@
-//! A tokeniser of bytes that may be damaged. An ASCII delimiter is found wherever it stands: no error hides it.
+//! A tokeniser of bytes that may be damaged. An ASCII delimiter is always found: no error hides it.
 ghost use Rattle.std.specs.Prelude.{◌<◌, IfOk, map};
 ghost use Rattle.uses.specs.Tokens.{AreTokensOf};
 
@@ -31,8 +31,8 @@ pub fn tokens<'a, A: Allocator>(
     Ok(tokens)
 }
 
-/// The words between spaces. A place that goes from one turn of a loop to the next is no known place of the bytes, so
-/// `get` slices there.
+/// The words between spaces. The prover does not know that an offset carried from one iteration to the next is in
+/// bounds, so `get` slices there.
 pub fn words<A: Allocator>(alloc: A, bytes: &[u8]) -> Result<Vec<&[u8], A>, AllocError> {
     let mut words = Vec::new(alloc);
     let mut start = 0;

@@ -1,10 +1,10 @@
-//! Conditions of the unchecked calls, said by tests: after the checked call, of a value's own code, and
-//! after a look at the units.
+//! Conditions of the unchecked calls, established by tests: after the checked call, for a value's own bytes
+//! or units, and after a look at the units.
 ghost use Rattle.std.specs.Prelude.{◌≡◌};
 
 use encode_unicode::{CharExt, U16UtfExt, Utf8Char, Utf16Char};
 
-/// A unit that was seen to be no surrogate, by ranges.
+/// A unit that range comparisons show to be no surrogate.
 pub fn from_unit_by_range(unit: u16) -> Option<Utf16Char> {
     if unit < 0xd800 || unit >= 0xe000 {
         Some(Utf16Char::from_tuple_unchecked((unit, None)))
@@ -13,7 +13,7 @@ pub fn from_unit_by_range(unit: u16) -> Option<Utf16Char> {
     }
 }
 
-/// The same, by the crate's own tests.
+/// A unit that the crate's own tests show to be no surrogate.
 pub fn from_unit_by_need(unit: u16) -> Option<Utf16Char> {
     match unit.utf16_needs_extra_unit() {
         Ok(false) => Some(Utf16Char::from_bmp_unchecked(unit)),

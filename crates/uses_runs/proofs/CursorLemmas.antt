@@ -1,4 +1,4 @@
--- What one step of a cursor comes to, on and back.
+-- One step of a cursor, forward and backward.
 use Rattle.std.proofs.Common.{◌≡◌, ℕ, ◌+◌, ◌-◌, ◌<◌, List, length, take, Some, None, arith, refl, ap, sym, ◌∙◌}
 use Rattle.std.specs.Prelude.{slice_range}
 use Rattle.encode_unicode.specs.Code.{utf8}
@@ -47,6 +47,6 @@ back_over_fault xs j b some none =
       record { piece = record { start = j - 1; len = 1; char = None }; is_piece = f.0; begins = refl; ends = omega arith },
     )
 
--- two steps that end at one place begin at one
+-- two steps that end at one offset begin at one
 pub same_begin : OnePieceEnds utf8 → (xs : List ℕ) (i k j : ℕ) → IsStep xs i j → IsStep xs k j → i ≡ k
 same_begin law xs i k j f g = sym f.begins ∙ ap (λ x. x.start) (law xs f.piece g.piece f.is_piece g.is_piece (f.ends ∙ sym g.ends)) ∙ g.begins

@@ -1,4 +1,4 @@
--- Pieces whose places are counted from elsewhere, and back again, and those that stay where a text is edited.
+-- Pieces whose offsets are moved by a constant, and those that stay if a text is edited.
 use Rattle.std.proofs.Common.{◌≡◌, ℕ, ◌+◌, ◌-◌, ◌<◌, ◌≤◌, arith, ap, subst, sym, ◌∙◌, length, length-take, take, ⊎_elim}
 use Rattle.std.proofs.lemmas.Bool.{cases_lt}
 use Rattle.std.proofs.lemmas.List.{take-take, take_all}
@@ -6,7 +6,7 @@ use Rattle.std.specs.Prelude.{◌↔◌, Contains, List}
 use Rattle.encode_unicode.specs.Window.{Item}
 use Rattle.cuts.specs.Tables.{StayAround, moved_item}
 
--- what stays after a change, seen from the items that stand there now
+-- the items that stay after a change, found among the items of the new text
 pub stays_after : (items others : List Item) (s e t : ℕ) → StayAround items others s e t → (x : Item) → t + 3 ≤ x.0
     → Contains others x ↔ Contains items (moved_item t e x)
 stays_after items others s e t around x le =
@@ -16,7 +16,7 @@ stays_after items others s e t around x le =
     let same = subst (λ y. Contains items (moved_item t e x) ↔ Contains others y) back both in
     (same.1, same.0)
 
--- Of a front of some list so many elements are kept as another list has in common with it.
+-- As many elements of a front are kept as another list has in common with it.
 pub kept_front : {X : Type 0} (kept now was is : List X) (n : ℕ) → kept ≡ take (length kept) was → now ≡ take n kept → take n is ≡ take n was → now ≡ take (length now) is
 kept_front kept now was is n of_kept cut same =
     let len : length now ≡ length (take n kept) = ap length cut in

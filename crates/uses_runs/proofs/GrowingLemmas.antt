@@ -16,7 +16,7 @@ use Rattle.cuts.proofs.SplitNumbers.{bytes_counted, bytes_split}
 use Rattle.cuts.proofs.SplicedPlaces.{stays_outside_before}
 use Rattle.cuts.proofs.TableRuns.{splits_in_order}
 
--- The number of a place between two pieces.
+-- The number of an offset between two pieces.
 number_at : (xs : List ℕ) (p k : ℕ) → p ≤ length xs → (Inside utf8 xs p → ⊥) → IsSplitAt (pieces xs) p k → k ≡ length (pieces (take p xs))
 number_at xs p k le out split =
     let other : IsSplitAt (pieces xs) p (length (pieces (take p xs))) = bytes_split xs p le out p (inl (omega arith)) (λ n lo hi. absurd (omega arith)) in
@@ -24,7 +24,7 @@ number_at xs p k le out split =
     let many : length (pieces (take p xs)) ≤ k = splits_in_order (pieces xs) p p (length (pieces (take p xs))) k (omega arith) other split in
     omega arith
 
--- Where bytes are added at the end, all pieces from the number of the change on are those that came.
+-- If bytes are added at the end, all pieces from the number of the change on are new.
 pub all_came : (xs ys new : List ℕ) (c : Change) → ys ≡ splice xs (length xs) (length xs) new → IsChange xs ys (length xs) (length xs) c
     → length (pieces ys) ≡ c.number + c.come.pieces
 all_came xs ys new c is change =
@@ -44,7 +44,7 @@ all_came xs ys new c is change =
     bytes_counted ys p (omega arith) out
     ∙ ap₂ (λ m n. m + n) (ap (λ zs. length (pieces zs)) front ∙ sym number) (ap (λ zs. length (pieces zs)) all ∙ sym (ap (λ (k : Counts). k.pieces) window.came))
 
--- What is shown of a front that stays.
+-- The scalars of a front that stays.
 pub shown_stay : (olds news : List Item) (first n : ℕ) → take n news ≡ take n olds → take (n - first) (drop (min first n) news) ≡ take (n - first) (drop first olds)
 shown_stay olds news first n same =
     ⊎_elim

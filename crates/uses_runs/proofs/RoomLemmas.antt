@@ -1,4 +1,4 @@
--- Bytes that are recoded into room for all that comes of them.
+-- Bytes that are transcoded into a buffer that is large enough.
 use Rattle.std.proofs.Common.{◌≡◌, ℕ, ◌+◌, ◌-◌, ◌≤◌, Bool, true, false, List, [], ◌++◌, length, take, refl, ap, sym, subst, ◌∙◌, arith, length-take}
 use Rattle.std.proofs.lemmas.List.{take_all, take-append-le}
 use Rattle.std.proofs.Math.Seq.{take-append-add}
@@ -9,7 +9,7 @@ use Rattle.cuts.specs.Recoded.{Recoding, Feeds, Finishes, IsRecoded, fresh}
 use Rattle.cuts.specs.Rooms.{FeedsInto, FinishesInto, IsFull, IsLastFull}
 use Rattle.cuts.proofs.FedParts.{fed_is_recoded}
 
--- what follows where a test is false, and is refuted where it is true
+-- a statement that follows if a test is false, and is refuted if it is true
 where_not : {P Q : Type 0} (b : Bool) → (IsTrue b → P) → (P → ⊥) → (IsFalse b → Q) → Q
 where_not true full never rest = absurd (never (full refl))
 where_not false full never rest = rest refl
@@ -19,7 +19,7 @@ joined_fronts xs ys post n m a b =
     let len : length (take n xs) ≡ n = omega (arith, length-take n xs) in
     ap (λ k. take (k + m) (take n xs ++ (ys ++ post))) (sym len) ∙ take-append-add (take n xs) (ys ++ post) m ∙ ap (λ zs. take n xs ++ zs) (take-append-le m ys post b)
 
--- one part into the room, and then the end into what is left of it
+-- one part into the buffer, and then the end into the rest of it
 pub in_room : FeedsInRoom → RoomIsLeft → FinishesInRoom → {from to : Form} {r s t : Recoding} {bytes old mid old2 new2 : List ℕ} (post : List ℕ) {read wrote more : ℕ} (full last : Bool)
     → r ≡ fresh from to → FeedsInto r bytes old mid read wrote s → (IsTrue full → IsFull s bytes read (length old - wrote))
     → (IsFalse full → read ≡ length bytes) → FinishesInto s old2 new2 more t → (IsTrue last → IsLastFull t (length old2 - more))

@@ -83,7 +83,7 @@ none_counted xs none (x ∷ items) h =
     no_error (Ok s) h = refl
     no_error (Err k) h = absurd (h refl)
 
--- what stands before the first fault is text
+-- what precedes the first fault is text
 pub text_before : PiecesAreTheRun → TextHasNoFault → (xs : List ℕ) (n : ℕ) → IsFirstFault utf8 xs n → IsUtf8 (take n xs)
 text_before law text xs n first =
     let items = pieces (take n xs) in

@@ -1,4 +1,4 @@
--- What is said of each list that a source may have, at the list that it has.
+-- Statements on each list that a source may have, at the list that it has.
 use Rattle.std.proofs.Common.{◌≡◌, ℕ, List, Option, Ok, Err, Result, reverse, ap, subst, ◌∙◌, arith}
 use Rattle.std.proofs.lemmas.List.{take_all}
 use Rattle.std.specs.Iterator.Adapters.{rev_source}
@@ -16,7 +16,7 @@ pub at_list : {S C E : Type 0} {steps : S → Option ℕ → S → Type 0} (P : 
 at_list P rest listed s xs (Ok all) is h = subst (λ ys. P ys all) is (h rest listed)
 at_list P rest listed s xs (Err e) is h = tt
 
--- a splitter that is unasked, over the characters of a whole text from the back
+-- a splitter before its first call, over the characters of a whole text from the end
 pub units_turned : (text : List ℕ) (s : Splitting (Rev Window)) (r : Rev Window) (w : Window) → s ≡ unbegun r → rev_source r ≡ w → w ≡ whole_window text
     → unsent utf16 (λ u. reverse (chars_left (rev_source u))) s ≡ flat_map utf16 (reverse (chars text))
 units_turned text s r w e f h = ap (unsent utf16 (λ u. reverse (chars_left (rev_source u)))) e ∙ ap (λ v. flat_map utf16 (reverse (chars_left v))) (f ∙ h) ∙ ap (λ xs. flat_map utf16 (reverse (chars xs))) (take_all _ text (omega arith))

@@ -1,4 +1,4 @@
--- Strings of JSON, piece by piece in place of byte by byte.
+-- Strings of JSON, piece by piece instead of byte by byte.
 use Rattle.std.proofs.Common.{◌≡◌, ℕ, zero, suc, ◌+◌, ◌-◌, ◌<◌, ◌≤◌, List, ◌∷◌, length, get_or, drop, true, false, Some, nat_eq, ⊎_elim, arith, refl, ap, sym, ◌∙◌}
 use Rattle.std.proofs.lemmas.Bool.{cases_lt}
 use Rattle.std.proofs.lemmas.Grind.{common_steps}
@@ -21,7 +21,7 @@ one_high b p bytes high =
     let slash : nat_eq b 0x5C ≡ false = grind (arith, common_steps) in
     rw (quote, slash) refl
 
--- bytes that are no ASCII are passed over
+-- bytes that are not ASCII are skipped
 skip_high : (xs : List ℕ) (n p : ℕ) → p + n ≤ length xs → ((q : ℕ) → p ≤ q → q < p + n → 128 ≤ get_or xs q 0)
     → string_end false p (drop p xs) ≡ string_end false (p + n) (drop (p + n) xs)
 skip_high xs zero p fits high = let e : p ≡ p + zero = omega arith in ap (λ k. string_end false k (drop k xs)) e
@@ -30,7 +30,7 @@ skip_high xs (suc n) p fits high =
     ap (string_end false p) (drop_more xs p 0 (omega arith)) ∙ one_high (get_or xs p 0) p (drop (p + 1) xs) (high p (omega arith) (omega arith))
     ∙ skip_high xs n (p + 1) (omega arith) (λ q lo hi. high q (omega arith) (omega arith)) ∙ ap (λ k. string_end false k (drop k xs)) more
 
--- a piece of the bytes at the front of the window, and where the window is after it
+-- a piece of the bytes at the front of the window, and the window after it
 pub record Passes (xs : List ℕ) (w v : Window) (n : ℕ) : Type 0 where
   pub some : 0 < n
   pub within : w.front + n ≤ length xs

@@ -1,4 +1,4 @@
--- Edits that are taken back, and a part of a text that is copied bit by bit.
+-- Edits that are undone, and a part of a text that is copied chunk by chunk.
 use Rattle.std.proofs.Common.{◌≡◌, ℕ, ◌+◌, ◌-◌, ◌≤◌, List, [], ◌∷◌, ◌++◌, length, take, drop, reverse, arith, refl, ap, ap₂, sym, ◌∙◌, append_assoc, length-append}
 use Rattle.std.proofs.lemmas.Grind.{common_steps}
 use Rattle.std.proofs.lemmas.List.{drop-drop, drop_at, length-take-le, reverse-append, take_at, take-take}
@@ -8,7 +8,7 @@ use Rattle.std.specs.List.{splice}
 use Rattle.std.specs.Prelude.{slice_range}
 use Rattle.uses_runs.specs.Undo.{CanBeMade, Replacement, replaced, texts}
 
--- the way back of the bytes `new` that stand at s in place of those up to e
+-- the replacement that undoes one which put the bytes `new` at s in place of those up to e
 abbrev pub way_back : List ℕ → ℕ → ℕ → List ℕ → Replacement
 way_back xs s e new = record { start = s; end = s + length new; bytes = slice_range xs s e }
 
@@ -27,7 +27,7 @@ undone xs new s e lo hi =
 newest_first : (rs more : List Replacement) (r : Replacement) → more ≡ rs ++ r ∷ [] → reverse more ≡ r ∷ reverse rs
 newest_first rs more r is = ap reverse is ∙ reverse-append rs (r ∷ [])
 
--- What an edit of xs that made ys does to the ways back.
+-- The effect of an edit of xs, which made ys, on the replacements that undo.
 module _ (xs ys new : List ℕ) (s e : ℕ) (rs more : List Replacement) (lo : s ≤ e) (hi : e ≤ length xs) (edited : ys ≡ splice xs s e new) (is : more ≡ rs ++ way_back xs s e new ∷ []) where
   pub edited_pasts : texts ys (reverse more) ≡ xs ∷ texts xs (reverse rs)
   edited_pasts =

@@ -1,4 +1,4 @@
--- A place in some bytes that may be damaged, between two of their pieces.
+-- An offset in some bytes that may be damaged, between two of their pieces.
 use Rattle.std.specs.Prelude.{◌≡◌, ℕ, List}
 use Rattle.encode_unicode.specs.Code.{utf8}
 use Rattle.encode_unicode.specs.Piece.{Piece, IsPiece, end_of}

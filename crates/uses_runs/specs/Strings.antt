@@ -1,7 +1,7 @@
 -- Strings of JSON.
 use Rattle.std.specs.Prelude.{ℕ, ◌+◌, Bool, true, false, List, [], ◌∷◌, Option, Some, None, nat_eq, if◌then◌else◌}
 
--- the place of the first quote that no backslash before it escapes, in bytes of which the first stands at the place p
+-- the offset of the first quote that no backslash escapes, in bytes of which the first is at the offset p
 abbrev pub string_end : Bool → ℕ → List ℕ → Option ℕ
 string_end escaped p [] = None
 string_end true p (b ∷ bytes) = string_end false (p + 1) bytes

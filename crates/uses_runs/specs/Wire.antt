@@ -3,7 +3,7 @@ use Rattle.std.specs.Prelude.{◌≡◌, ℕ, ◌+◌, ◌*◌, ◌≤◌, List,
 use Rattle.cuts.specs.Recoded.{IsRecoded}
 use Rattle.cuts.specs.declared.Form.TheVariants.{Utf8, Utf16Le}
 
--- where the record ends that begins the bytes
+-- the offset of the end of the record that begins the bytes
 abbrev pub record_end : List ℕ → ℕ
 record_end xs = 2 + 2 * (slice_index xs 0 + 256 * slice_index xs 1)
 

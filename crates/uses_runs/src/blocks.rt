@@ -1,4 +1,4 @@
-//! How many characters of one block of Unicode the bytes of any source have, as who guesses the script of a text asks.
+//! The number of characters of one Unicode block in the bytes of any source, as needed to guess the script of a text.
 ghost use Rattle.std.specs.Prelude.{◌≡◌, IfOk, count_by};
 ghost use Rattle.std.specs.Iterator.{IsFinite};
 ghost use Rattle.encode_unicode.specs.Sources.{WhateverIsLeft};
@@ -9,7 +9,7 @@ use encode_unicode::Utf8Char;
 use encode_unicode::error::Utf8Error;
 use std::alloc::{AllocError, Allocator};
 
-/// How many characters lie from the first to the last of the block. Invalid bytes do not count.
+/// The number of characters from the first to the last of the block. Invalid bytes do not count.
 pub fn count_block<A: Allocator, I: Iterator<Item = u8>>(
     alloc: A,
     source: I,
@@ -24,7 +24,7 @@ pub fn count_block<A: Allocator, I: Iterator<Item = u8>>(
     Ok(count_answers(&answers, first, last))
 }
 
-// The same of answers.
+// The number of results that are characters of the block.
 fn count_answers(answers: &[Result<Utf8Char, Utf8Error>], first: char, last: char) -> usize
     ensures { result ≡ count_by (is_in_block first last) answers.now }
 {
@@ -32,7 +32,7 @@ fn count_answers(answers: &[Result<Utf8Char, Utf8Error>], first: char, last: cha
     in_block.count()
 }
 
-// Whether the answer is a character of the block.
+// Returns true if the result is a character of the block.
 fn lies_in(answer: &Result<Utf8Char, Utf8Error>, first: char, last: char) -> bool
     ensures { result ≡ is_in_block first last answer.now }
 {

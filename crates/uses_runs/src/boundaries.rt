@@ -1,10 +1,10 @@
-//! Character boundaries near any byte, by `cuts::boundaries`: for a viewer, a search that shows what stands around a hit,
-//! and a log whose lines are cut to a length.
+//! Character boundaries near any byte, by `cuts::boundaries`: for a viewer, a search that shows the context of a
+//! match, and a log whose lines are cut to a length.
 ghost use Rattle.std.specs.Prelude.{◌<◌, ◌≤◌, length};
 
 use cuts::boundaries::{ceil, floor, following, previous, truncated};
 
-/// What stands around a place: so many bytes on each side, and as many more as end at boundaries.
+/// The context of an offset: `reach` bytes on each side, extended to boundaries.
 pub fn around(bytes: &[u8], place: usize, reach: usize) -> &[u8]
     requires { place ≤ length bytes.now }
 {
@@ -20,7 +20,7 @@ pub fn piece_of(bytes: &[u8], place: usize) -> &[u8]
     &bytes[previous(bytes, place + 1)..following(bytes, place)]
 }
 
-/// The first row of so many bytes at most, and the rows after it.
+/// The first row, of at most `width` bytes, and the bytes after it.
 pub fn first_row(bytes: &[u8], width: usize) -> (&[u8], &[u8])
     ensures { length result.0.now ≤ width }
 {
@@ -28,7 +28,7 @@ pub fn first_row(bytes: &[u8], width: usize) -> (&[u8], &[u8])
     (row, &bytes[row.len()..])
 }
 
-/// The bytes before a cursor and those after it, without the piece that the backspace key takes away.
+/// The bytes before a cursor and those after it, without the piece that the backspace key removes.
 pub fn without_previous(bytes: &[u8], cursor: usize) -> (&[u8], &[u8])
     requires { cursor ≤ length bytes.now }
 {

@@ -1,4 +1,4 @@
-//! How much room is enough, by the laws of how many pieces there are and of how long a recoded text is.
+//! How much capacity is enough, by the laws on the number of pieces and on the length of transcoded text.
 ghost use Rattle.std.specs.Prelude.{◌≡◌, ◌*◌, ◌≤◌, IfOk, length, take};
 ghost use Rattle.cuts.specs.Bounds.{HasRoom};
 ghost use Rattle.cuts.specs.Recoded.{IsRecoded};
@@ -10,7 +10,7 @@ use encode_unicode::U8SliceExt;
 use encode_unicode::laws::runs_are_bounded;
 use std::alloc::{AllocError, Allocator};
 
-/// How many pieces the bytes have. A table with a place for each byte has one for each piece.
+/// The number of pieces in the bytes. A table with an entry for each byte has one for each piece.
 pub fn count_pieces(bytes: &[u8]) -> usize
     ensures count { result ≡ length (pieces bytes.now) }
     ensures most { result ≤ length bytes.now }
@@ -20,8 +20,8 @@ pub fn count_pieces(bytes: &[u8]) -> usize
     bytes.utf8char_indices().count()
 }
 
-/// The bytes as text, with U+FFFD for each invalid one, in memory that is asked for before the first byte is read. A
-/// program that limits what it reads so limits what it answers.
+/// The bytes as text, with U+FFFD for each invalid one, in memory that is allocated before the first byte is read.
+/// So a program that limits its input limits its output.
 pub fn lossy_text<A: Allocator>(alloc: A, bytes: &[u8]) -> Result<Vec<u8, A>, AllocError>
     ensures text { IfOk result (λ out. IsRecoded Form.Utf8 Form.Utf8 bytes.now out.items) }
     ensures most { IfOk result (λ out. length out.items ≤ 3 * length bytes.now) }
@@ -34,7 +34,8 @@ pub fn lossy_text<A: Allocator>(alloc: A, bytes: &[u8]) -> Result<Vec<u8, A>, Al
     Ok(out)
 }
 
-/// The bytes in another form, in a vector that has room for all of it before the first byte is read.
+/// The bytes in another encoding, in a vector whose capacity for all of it is allocated before the first byte
+/// is read.
 pub fn recoded<A: Allocator>(
     alloc: A,
     from: Form,
@@ -50,7 +51,7 @@ pub fn recoded<A: Allocator>(
     Ok(room)
 }
 
-/// Recodes the bytes into room for all of it, and answers how much is written.
+/// Transcodes the bytes into a buffer that can hold all of it, and returns how much is written.
 pub fn recode_whole(from: Form, to: Form, bytes: &[u8], room: &mut [u8]) -> usize
     requires { HasRoom from to bytes.now (length room.old) }
     ensures { IsRecoded from to bytes.now (take result room.new) }
@@ -62,7 +63,7 @@ pub fn recode_whole(from: Form, to: Form, bytes: &[u8], room: &mut [u8]) -> usiz
     fed.written + ended.written
 }
 
-/// The bytes in another form, which are at most three times as many.
+/// The bytes in another encoding, which are at most three times as many.
 pub fn recoded_briefly<A: Allocator>(
     alloc: A,
     from: Form,

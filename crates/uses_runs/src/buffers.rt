@@ -1,4 +1,4 @@
-//! An editor's text: an edit, what the status line shows after it, and a view's way through the bytes.
+//! An editor's text: an edit, the status line after it, and a view that steps through the bytes.
 ghost use Rattle.std.specs.List.{splice};
 ghost use Rattle.std.specs.Prelude.{◌≡◌, ◌+◌, ◌≤◌, ◌<◌, length, take, slice_index, Contains, IfOk, IfSome, OnErr, OnOk};
 ghost use Rattle.encode_unicode.specs.Pieces.{pieces};
@@ -9,8 +9,8 @@ ghost use Rattle.cuts.specs.TextLookups.{IsLineStart};
 use cuts::{Change, Counts, Item, TextBuffer};
 use std::alloc::{AllocError, Allocator};
 
-/// Replaces a part of a text, and tells what the text has then: for a status line with the number of
-/// lines, characters and errors.
+/// Replaces a part of a text, and returns the new counts: for a status line with the number of lines,
+/// characters and errors.
 pub fn replace_and_count<A: Allocator + Copy>(
     text: &mut TextBuffer<A>,
     start: usize,
@@ -26,7 +26,7 @@ pub fn replace_and_count<A: Allocator + Copy>(
     Ok(text.counts())
 }
 
-/// Adds bytes at the end: as a viewer of a log that grows does.
+/// Appends bytes, as a viewer of a growing log does.
 pub fn append<A: Allocator + Copy>(
     text: &mut TextBuffer<A>,
     new: &[u8],
@@ -47,8 +47,8 @@ pub fn byte_at<A: Allocator + Copy>(text: &TextBuffer<A>, offset: usize) -> u8
     bytes[0]
 }
 
-/// Where a view goes that is asked for a line: to where the line begins, or to the end if there are too
-/// few lines.
+/// The offset that a view shows for a line number: the beginning of the line, or the end if there are too few
+/// lines.
 pub fn go_to_line<A: Allocator + Copy>(text: &TextBuffer<A>, line: usize) -> usize
     ensures within { result ≤ length text.now }
     ensures line { line ≤ line_feed_count text.now → IsLineStart text.now line result }
@@ -59,7 +59,7 @@ pub fn go_to_line<A: Allocator + Copy>(text: &TextBuffer<A>, line: usize) -> usi
     }
 }
 
-/// The next error from an offset on, with what is wrong: for a key that goes from error to error.
+/// The next error from an offset on, with its kind: for a key that moves from error to error.
 pub fn next_error<A: Allocator + Copy>(text: &TextBuffer<A>, offset: usize) -> Option<Item>
     ensures { IfSome result (λ x. Contains (pieces text.now) x × (offset < x.0 + x.2)) }
 {
@@ -67,8 +67,8 @@ pub fn next_error<A: Allocator + Copy>(text: &TextBuffer<A>, offset: usize) -> O
     text.piece_at(place)
 }
 
-/// Edits a text of which a view keeps the first pieces, and lets go of those that may have changed: the
-/// others need not be decoded again.
+/// Edits a text of which a view keeps the first pieces, and drops those that may have changed: the others
+/// need not be decoded again.
 pub fn edit_and_keep<A: Allocator + Copy>(
     text: &mut TextBuffer<A>,
     kept: &mut Vec<Item, A>,

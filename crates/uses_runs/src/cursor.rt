@@ -1,11 +1,11 @@
-//! A cursor in bytes that may be damaged: a place between two pieces, which steps both ways.
+//! A cursor in bytes that may be damaged: an offset between two pieces, which steps both ways.
 ghost use Rattle.std.specs.Prelude.{◌≡◌, ◌<◌, length};
 ghost use Rattle.cuts.specs.PieceBoundaries.{IsBetween};
 ghost use Rattle.uses_runs.specs.Cursor.{IsStep};
 
 use encode_unicode::{Utf8Char, laws};
 
-/// The place in front of all pieces.
+/// The offset in front of all pieces.
 pub fn front(src: &[u8]) -> usize
     ensures between { IsBetween src.now result }
     ensures zero { result ≡ 0 }
@@ -14,7 +14,7 @@ pub fn front(src: &[u8]) -> usize
     0
 }
 
-/// The place after all pieces.
+/// The offset after all pieces.
 pub fn back(src: &[u8]) -> usize
     ensures between { IsBetween src.now result }
     ensures len { result ≡ length src.now }
@@ -22,7 +22,7 @@ pub fn back(src: &[u8]) -> usize
     src.len()
 }
 
-/// The place one piece further on, where there is a piece.
+/// The offset one piece further, if there is a piece.
 pub fn step_on(src: &[u8], place: usize) -> usize
     requires between { IsBetween src.now place }
     requires more { place < length src.now }
@@ -36,7 +36,7 @@ pub fn step_on(src: &[u8], place: usize) -> usize
     }
 }
 
-/// The place one piece before, where there is a piece.
+/// The offset one piece before, if there is a piece.
 pub fn step_back(src: &[u8], place: usize) -> usize
     requires between { IsBetween src.now place }
     requires more { 0 < place }
@@ -49,7 +49,7 @@ pub fn step_back(src: &[u8], place: usize) -> usize
     }
 }
 
-/// One piece on and back again, which is the place from which it began, whatever the bytes are.
+/// One piece forward and back again, which is the offset from which it began, whatever the bytes are.
 pub fn on_and_back(src: &[u8], place: usize) -> usize
     requires between { IsBetween src.now place }
     requires more { place < length src.now }

@@ -7,17 +7,17 @@ use cuts::{Item, PieceTable};
 use encode_unicode::Steps;
 use std::alloc::{AllocError, Allocator};
 
-/// Where the pieces begin that an edit may have changed.
+/// The range of offsets at which pieces begin that an edit may have changed.
 #[derive(Clone, Copy, Debug, PartialEq, Eq, Drop)]
 pub struct Changed {
-    /// The first place that may have changed.
+    /// The first offset that may have changed.
     pub from: usize,
-    /// The place after the last.
+    /// The offset after the last that may have changed.
     pub until: usize,
 }
 
-/// Replaces a part of the bytes, and says which pieces may have changed. Those before are the ones that stood
-/// there; those after are old ones too, at other places.
+/// Replaces a part of the bytes, and returns which pieces may have changed. Those before it are unchanged;
+/// those after it are old ones too, at other offsets.
 pub fn edit<A: Allocator + Copy>(
     table: &mut PieceTable<A>,
     start: usize,
@@ -64,7 +64,7 @@ pub fn piece_bytes<A: Allocator + Copy>(table: &PieceTable<A>, number: usize) ->
     Some(&table.bytes()[*place..*place + *len])
 }
 
-/// The piece that has the byte at this place.
+/// The piece that has the byte at this offset.
 pub fn piece_at<A: Allocator + Copy>(table: &PieceTable<A>, place: usize) -> Option<Item>
     ensures { IfSome result (λ x. (x.0 ≤ place) × (place < x.0 + x.2)) }
 {
@@ -72,7 +72,7 @@ pub fn piece_at<A: Allocator + Copy>(table: &PieceTable<A>, place: usize) -> Opt
     pieces.find(|x| x.0 <= place && place < x.0 + x.2)
 }
 
-/// Puts other bytes in place of the first invalid one, and says whether there was one.
+/// Replaces the first invalid byte by other bytes, and returns whether there was one.
 pub fn mend_first<A: Allocator + Copy>(
     table: &mut PieceTable<A>,
     new: &[u8],
@@ -86,7 +86,7 @@ pub fn mend_first<A: Allocator + Copy>(
     }
 }
 
-/// A table of the bytes in which a question mark stands for the first invalid one.
+/// A table of the bytes in which a question mark replaces the first invalid one.
 pub fn mended<A: Allocator + Copy>(alloc: A, bytes: &[u8]) -> Result<PieceTable<A>, AllocError> {
     let mut table = PieceTable::new(alloc, bytes)?;
     mend_first(&mut table, b"?")?;

@@ -1,19 +1,19 @@
-//! Runs over equal bytes are equal, as `==` answers.
+//! Runs over equal bytes are equal, as `==` compares them.
 ghost use Rattle.std.specs.Prelude.{◌≡◌, IfOk, IsTrue};
 
 use cuts::{laws, merge_utf8};
 use encode_unicode::U8SliceExt;
 use std::alloc::{AllocError, Allocator};
 
-/// Whether two vectors are equal, as those of equal elements are.
+/// Returns true if two vectors are equal, which is so if their elements are.
 pub fn are_equal<T: Eq, A: Allocator>(first: &Vec<T, A>, second: &Vec<T, A>) -> bool
     ensures { first.now.items ≡ second.now.items → IsTrue result }
 {
     first == second
 }
 
-/// Whether mergers over the bytes answer alike, as they do over equal ones. Who keeps what a run gave can look
-/// it up by the bytes.
+/// Returns true if mergers over the bytes return the same, as they do over equal bytes. So results can be
+/// cached by the bytes.
 pub fn merge_alike<A: Allocator + Copy>(
     alloc: A,
     bytes: &[u8],
@@ -27,7 +27,7 @@ pub fn merge_alike<A: Allocator + Copy>(
     Ok(are_equal(&first, &second))
 }
 
-/// Whether decoders of the bytes do, with places and lengths.
+/// Returns true if decoders of the bytes return the same, with offsets and lengths.
 pub fn decode_alike<A: Allocator + Copy>(
     alloc: A,
     bytes: &[u8],

@@ -1,4 +1,4 @@
-//! Where the first fault is, how many there are, and whether there is none: by chains over a decoder, and by laws and a call
+//! The first fault, the number of faults, and whether there is none: by chains over a decoder, and by laws and a call
 //! of `cuts`.
 ghost use Rattle.std.specs.Prelude.{◌≡◌, ◌↔◌, IsTrue, count_by, is_err, take};
 ghost use Rattle.std.specs.List.{find};
@@ -11,7 +11,7 @@ use cuts::{laws, valid_up_to};
 use encode_unicode::error::Utf8Error;
 use encode_unicode::{U8IterExt, U8SliceExt, Utf8Char};
 
-/// How many of the bytes are invalid, which is the same from either end.
+/// The number of invalid bytes, which is the same from either end.
 pub fn fault_count(bytes: &[u8]) -> usize
     ensures { result ≡ count_by (λ x. is_err x.1) (pieces bytes.now) }
 {
@@ -30,7 +30,7 @@ pub fn first_fault(bytes: &[u8]) -> Option<(usize, Result<Utf8Char, Utf8Error>, 
     bytes.utf8char_indices().find(|x| x.1.is_err())
 }
 
-/// How many bytes stand before the first invalid one, which are text.
+/// The length of the text before the first invalid byte.
 pub fn first_fault_place(bytes: &[u8]) -> usize
     ensures first { IsFirstFault utf8 bytes.now result }
     ensures text { IsUtf8 (take result bytes.now) }
@@ -43,7 +43,7 @@ pub fn first_fault_place(bytes: &[u8]) -> usize
     }
 }
 
-/// Whether the bytes are UTF-8.
+/// Returns true if the bytes are UTF-8.
 pub fn is_text(bytes: &[u8]) -> bool
     ensures { IsTrue result ↔ IsUtf8 bytes.now }
 {
@@ -52,7 +52,7 @@ pub fn is_text(bytes: &[u8]) -> bool
     fault_count(bytes) == 0
 }
 
-/// The same, by the pieces themselves.
+/// Returns true if the bytes are UTF-8, by the pieces themselves.
 pub fn has_characters_alone(bytes: &[u8]) -> bool
     ensures { IsTrue result ↔ IsUtf8 bytes.now }
 {
@@ -60,7 +60,7 @@ pub fn has_characters_alone(bytes: &[u8]) -> bool
     bytes.utf8char_indices().all(|item| item.1.is_ok())
 }
 
-/// The same, by a merger.
+/// Returns true if the bytes are UTF-8, by a merger.
 pub fn is_merged_text(bytes: &[u8]) -> bool
     ensures { IsTrue result ↔ IsUtf8 bytes.now }
 {
@@ -68,7 +68,7 @@ pub fn is_merged_text(bytes: &[u8]) -> bool
     bytes.iter().copied().to_utf8chars().all(|r| r.is_ok())
 }
 
-/// The same, by how far the bytes are well-formed.
+/// Returns true if the bytes are UTF-8, by the length of the well-formed front.
 pub fn is_well_formed(bytes: &[u8]) -> bool
     ensures { IsTrue result ↔ IsUtf8 bytes.now }
 {

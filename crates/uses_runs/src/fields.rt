@@ -8,14 +8,14 @@ ghost use Rattle.cuts.specs.Splits.{LiesBetween, lines_by, split_by};
 use cuts::{Span, fault_count, lines, split_ascii};
 use std::alloc::{AllocError, Allocator};
 
-/// How many lines the bytes have.
+/// The number of lines in the bytes.
 pub fn line_count(bytes: &[u8]) -> usize
     ensures { result ≡ length (lines_by bytes.now) }
 {
     lines(bytes).count()
 }
 
-/// How many fields a row of CSV without quotes has.
+/// The number of fields in a row of CSV without quotes.
 pub fn field_count(row: &[u8]) -> usize
     ensures { result ≡ length (split_by 44 row.now) }
 {
@@ -40,7 +40,7 @@ pub fn first_field(row: &[u8]) -> Option<Span<'_>>
     split_ascii(row, b',').next()
 }
 
-/// How many words stand between spaces.
+/// The number of words between spaces.
 pub fn word_count(line: &[u8]) -> usize
     ensures { result ≡ count_by (λ x. not (nat_eq (length x.bytes) 0)) (split_by 32 line.now) }
 {
@@ -49,7 +49,7 @@ pub fn word_count(line: &[u8]) -> usize
         .count()
 }
 
-/// How many bytes the longest line has, and 0 where there is none.
+/// The length of the longest line in bytes, and 0 if there is none.
 pub fn longest_line(bytes: &[u8]) -> usize
     ensures { result ≡ fold (λ most x. max most (length x.bytes)) 0 (lines_by bytes.now) }
 {
@@ -73,7 +73,7 @@ pub fn first_damaged_line(bytes: &[u8]) -> Option<Span<'_>>
     lines(bytes).find(|line| fault_count(line.as_bytes()) != 0)
 }
 
-/// The field at that place of a row.
+/// The field of a row with this number.
 pub fn field(row: &[u8], number: usize) -> Option<Span<'_>>
     ensures lies { IfSome result (LiesBetween row.now) }
     ensures there { result ≡ slice_get (split_by 44 row.now) number }

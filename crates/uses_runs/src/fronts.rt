@@ -9,12 +9,13 @@ pub fn split_at_fault(bytes: &[u8]) -> (&[u8], &[u8]) {
     (&bytes[..len], &bytes[len..])
 }
 
-/// The same of units.
+/// The units before the first invalid one, and those from it on.
 pub fn split_at_faulty_unit(units: &[u16]) -> (&[u16], &[u16]) {
     units.split_at(units_valid_up_to(units))
 }
 
-/// How many bytes of UTF-16 are valid: those before the first lone surrogate, or before an odd last byte.
+/// The length of the valid UTF-16 at the front, in bytes: it ends before the first lone surrogate, or before
+/// an odd last byte.
 pub fn good_wire_len(bytes: &[u8]) -> usize
     ensures { result ≤ length bytes.now }
 {

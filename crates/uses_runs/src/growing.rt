@@ -1,4 +1,4 @@
-//! A viewer of a file that grows: which of the pieces that it shows stay where bytes come at the end.
+//! A viewer of a file that grows: which of its pieces stay when bytes are appended.
 ghost use Rattle.std.specs.Prelude.{◌≡◌, ◌+◌, ◌-◌, ◌++◌, length, drop, min, take, IfOk, OnErr, OnOk};
 ghost use Rattle.encode_unicode.specs.Pieces.{pieces};
 ghost use Rattle.cuts.specs.Changes.{IsChange};
@@ -14,7 +14,7 @@ pub struct View {
 }
 
 impl View {
-    /// A view of so many pieces at the end, or of all if there are fewer.
+    /// A view of the last `count` pieces, or of all if there are fewer.
     pub fn of_last<A: Allocator + Copy>(text: &TextBuffer<A>, count: usize) -> View
         ensures { result.first ≡ length (pieces text.now) - count }
     {
@@ -23,12 +23,11 @@ impl View {
         }
     }
 
-    /// Adds bytes at the end of the text. Of the pieces shown, those before the number of the change
-    /// stay. Those to draw begin there, and are as many as came: up to the end. If the change begins
-    /// before the view, then the view begins with it.
+    /// Appends bytes to the text. Of the pieces shown, those before the number of the change stay. Those to
+    /// draw begin there, up to the end, as many as the change added. If the change begins before the view,
+    /// then the view begins with it.
     ///
-    /// The error is that memory was refused, or that a `usize` cannot count the bytes. All is then as
-    /// it was.
+    /// Fails if an allocation fails, or if a `usize` cannot count the bytes. Everything is then as it was.
     ///
     /// Cost: that of `TextBuffer::insert`.
     pub fn append<A: Allocator + Copy>(

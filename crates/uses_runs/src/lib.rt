@@ -1,4 +1,4 @@
-//! Callers of `cuts`, over whole runs, proved from its contracts and those of `encode_unicode` alone.
+//! Callers of `cuts`, over whole runs, proved only from its contracts and those of `encode_unicode`.
 #![tactic(auto)]
 
 pub mod blocks;

@@ -1,4 +1,4 @@
-//! Runs over sources whose list is known, and over any: what comes of them is said of that list.
+//! Runs over sources whose list is known, and over any: contracts state the result for that list.
 ghost use Rattle.std.specs.Prelude.{◌++◌, IfOk, drop, flat_map, reverse};
 ghost use Rattle.std.specs.Iterator.{IsFinite};
 ghost use Rattle.std.specs.Str.{chars};
@@ -13,7 +13,7 @@ use encode_unicode::error::{Utf8Error, Utf16PairError};
 use encode_unicode::{StrExt, Utf8Char, Utf16Char, Utf16CharIterExt};
 use std::alloc::{AllocError, Allocator};
 
-/// The pieces of two slices, one after the other, as of a buffer that wraps.
+/// The pieces of two slices, one after the other, as of a ring buffer.
 pub fn pieces_of_both<A: Allocator>(
     alloc: A,
     first: &[u8],
@@ -34,7 +34,7 @@ pub fn pieces_turned<A: Allocator>(
     merge_utf8(alloc, bytes.iter().rev().copied())
 }
 
-/// The pieces of what follows the first bytes, so many.
+/// The pieces of what follows the first `count` bytes.
 pub fn pieces_after<A: Allocator>(
     alloc: A,
     bytes: &[u8],
@@ -45,7 +45,7 @@ pub fn pieces_after<A: Allocator>(
     merge_utf8(alloc, bytes.iter().copied().skip(count))
 }
 
-/// The pieces of a vector, which is taken apart.
+/// The pieces of a vector, which is consumed.
 pub fn pieces_taken<A: Allocator, B: Allocator>(
     alloc: A,
     bytes: Vec<u8, B>,
@@ -55,7 +55,7 @@ pub fn pieces_taken<A: Allocator, B: Allocator>(
     merge_utf8(alloc, bytes.into_iter())
 }
 
-/// The characters of a text, last first, by way of their units.
+/// The characters of a text in reverse order, by way of their units.
 pub fn turned_by_units<A: Allocator>(
     alloc: A,
     text: &str,
@@ -66,7 +66,7 @@ pub fn turned_by_units<A: Allocator>(
     merge_utf16(alloc, text.utf16chars().rev().to_units())
 }
 
-/// What a source of bytes holds, piece by piece: characters alone exactly where its bytes are UTF-8.
+/// The pieces of a source of bytes: all are characters if and only if its bytes are UTF-8.
 pub fn pieces_of_bytes<A: Allocator, I: Iterator<Item = u8>>(
     alloc: A,
     source: I,
@@ -79,7 +79,7 @@ pub fn pieces_of_bytes<A: Allocator, I: Iterator<Item = u8>>(
     merge_utf8(alloc, source)
 }
 
-/// The same of units.
+/// The pieces of a source of units: all are characters if and only if its units are UTF-16.
 pub fn pieces_of_units<A: Allocator, I: Iterator<Item = u16>>(
     alloc: A,
     source: I,

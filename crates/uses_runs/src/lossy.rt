@@ -1,11 +1,11 @@
-//! Recoding with one U+FFFD for each maximal subpart.
+//! Transcoding with one U+FFFD for each maximal subpart.
 ghost use Rattle.std.specs.Prelude.{◌≡◌, [], ◌++◌, IfOk, IsFalse, IsTrue, take};
 ghost use Rattle.cuts.specs.LossyBytes.{KeepsLossy, lossy_outcome};
 
 use cuts::Recoder;
 use std::alloc::{AllocError, Allocator};
 
-/// Feeds what one packet has room for, and answers how many bytes of the part that are.
+/// Fills one packet from the part, and returns how many bytes of the part that took.
 pub fn feed_lossy_packet<A: Allocator>(
     recoder: &mut Recoder,
     part: &[u8],
@@ -20,7 +20,7 @@ pub fn feed_lossy_packet<A: Allocator>(
     Ok(progress.read)
 }
 
-/// Feeds all of a part by way of a packet, as often as it fills, and appends what it holds each time.
+/// Feeds all of a part by way of a packet, and appends its contents each time it is full.
 pub fn feed_lossy_by_packets<A: Allocator>(
     recoder: &mut Recoder,
     part: &[u8],
@@ -36,7 +36,7 @@ pub fn feed_lossy_by_packets<A: Allocator>(
     Ok(())
 }
 
-/// Sends what still comes after the last part, and answers whether that is all.
+/// Writes what remains after the last part, and returns whether that is all.
 pub fn send_lossy_end<A: Allocator>(
     recoder: &mut Recoder,
     sent: &mut Vec<u8, A>,

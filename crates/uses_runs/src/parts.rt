@@ -1,4 +1,4 @@
-//! Text that comes in parts, as from a socket.
+//! Text that arrives in parts, as from a socket.
 ghost use Rattle.std.specs.Prelude.{◌≡◌, ◌+◌, ◌-◌, ◌^◌, min, ◌<◌, ◌≤◌, ◌++◌, [], length, IfOk, IsTrue, IsFalse, OnOk, flat_map, drop, take};
 ghost use Rattle.cuts.specs.Recoded.{IsRecoded};
 ghost use Rattle.cuts.specs.Undecided.{IsUndecided};
@@ -9,8 +9,8 @@ ghost use Rattle.uses_runs.specs.Parts.{GrowsByTheMost};
 use cuts::{Form, Recoder, laws, shard_end};
 use std::alloc::{AllocError, Allocator};
 
-/// The bytes in another form of text, recoded in parts of so many bytes, which end where they end: inside of a
-/// character, or of a unit. What comes of them does not depend on it.
+/// Transcodes text in parts of `size` bytes, which may end inside a character or a unit. The output does not
+/// depend on where they end.
 pub fn recode_in_parts<A: Allocator>(
     alloc: A,
     from: Form,
@@ -34,7 +34,7 @@ pub fn recode_in_parts<A: Allocator>(
     Ok(out)
 }
 
-/// The same of parts that are there already, as a server keeps them while a request comes.
+/// Transcodes parts that are already in memory, as a server collects them while a request arrives.
 pub fn recode_parts<A: Allocator>(
     alloc: A,
     from: Form,
@@ -52,7 +52,7 @@ pub fn recode_parts<A: Allocator>(
     Ok(joined)
 }
 
-/// The same of two parts.
+/// Transcodes two parts.
 pub fn recode_two<A: Allocator>(
     alloc: A,
     from: Form,
@@ -70,7 +70,8 @@ pub fn recode_two<A: Allocator>(
     Ok(made)
 }
 
-/// How many invalid bytes of two parts became U+FFFD: those of both together, wherever they were cut.
+/// The number of invalid bytes in two parts that became U+FFFD: as many as in the joined parts, wherever they
+/// were cut.
 pub fn count_two<A: Allocator>(
     alloc: A,
     from: Form,
@@ -86,7 +87,7 @@ pub fn count_two<A: Allocator>(
     Ok(recoder.replaced_at_end())
 }
 
-/// The same of a ring of bytes, which begins at a place and goes on at the front.
+/// Transcodes a ring buffer, which begins at an offset and continues at the front.
 pub fn recode_ring<A: Allocator>(
     alloc: A,
     from: Form,
@@ -100,7 +101,7 @@ pub fn recode_ring<A: Allocator>(
     recode_two(alloc, from, to, &ring[start..], &ring[..start])
 }
 
-/// Appends the bytes in another form of text, in one part.
+/// Appends the bytes in another encoding of text, in one part.
 pub fn append_recoded<A: Allocator>(
     out: &mut Vec<u8, A>,
     from: Form,
@@ -115,7 +116,8 @@ pub fn append_recoded<A: Allocator>(
     Ok(())
 }
 
-/// The same in two shards, the first of which ends at this place or just before it.
+/// Appends the bytes in another encoding of text, in two shards, the first of which ends at this offset or
+/// just before it.
 pub fn append_shards<A: Allocator>(
     out: &mut Vec<u8, A>,
     from: Form,
@@ -130,8 +132,9 @@ pub fn append_shards<A: Allocator>(
     append_recoded(out, from, to, &bytes[end..])
 }
 
-/// Feeds a line of UTF-8, and answers whether the recoder then waits for more. It does so only where the line ends inside a
-/// character, which what follows decides. No recoder that is right whatever follows has put out more by then.
+/// Feeds a line of UTF-8, and returns whether the recoder then waits for more. It does so only if the line ends
+/// inside a character, which the following bytes decide. No recoder that is right whatever follows has written more
+/// by then.
 pub fn feed_line<A: Allocator>(
     recoder: &mut Recoder,
     line: &[u8],

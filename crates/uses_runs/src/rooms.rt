@@ -1,11 +1,11 @@
-//! Recoding by way of a room of a fixed size, as for a socket that sends packets.
+//! Transcoding by way of a buffer of a fixed size, as for a socket that sends packets.
 ghost use Rattle.std.specs.Prelude.{◌≡◌, [], IfOk, IsTrue, take};
 ghost use Rattle.cuts.specs.RecodedBytes.{KeepsOutcome, outcome};
 
 use cuts::Recoder;
 use std::alloc::{AllocError, Allocator};
 
-/// Feeds all of a part by way of a packet, as often as it fills, and appends what it holds each time.
+/// Feeds all of a part by way of a packet, and appends its contents each time it is full.
 pub fn feed_by_packets<A: Allocator>(
     recoder: &mut Recoder,
     part: &[u8],
@@ -21,7 +21,7 @@ pub fn feed_by_packets<A: Allocator>(
     Ok(())
 }
 
-/// How many calls with room for one character it takes to feed a part.
+/// The number of calls, with capacity for one character each, that it takes to feed a part.
 pub fn count_calls(recoder: &mut Recoder, part: &[u8]) -> usize {
     let mut room = [0; 4];
     let mut place = 0;
@@ -33,7 +33,7 @@ pub fn count_calls(recoder: &mut Recoder, part: &[u8]) -> usize {
     calls
 }
 
-/// Feeds what one packet has room for, and answers how many bytes of the part that are.
+/// Fills one packet from the part, and returns how many bytes of the part that took.
 pub fn feed_packet<A: Allocator>(
     recoder: &mut Recoder,
     part: &[u8],
@@ -48,7 +48,7 @@ pub fn feed_packet<A: Allocator>(
     Ok(progress.read)
 }
 
-/// Sends what still comes after the last part, and answers whether that is all.
+/// Writes what remains after the last part, and returns whether that is all.
 pub fn send_end<A: Allocator>(
     recoder: &mut Recoder,
     sent: &mut Vec<u8, A>,

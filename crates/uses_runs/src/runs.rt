@@ -3,7 +3,7 @@ ghost use Rattle.uses_runs.specs.Counts.{CountsFaults};
 
 use encode_unicode::U8SliceExt;
 
-/// How many pieces of the bytes are errors.
+/// The number of pieces of the bytes that are errors.
 pub fn count_faults(bytes: &[u8]) -> u64
     ensures { CountsFaults bytes.now result }
 {

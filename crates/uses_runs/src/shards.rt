@@ -1,11 +1,12 @@
-//! Shards of bytes, looked at apart, as by threads or machines: what comes of them, put together.
+//! Shards of bytes, processed separately, as by threads or machines: their results, combined.
 ghost use Rattle.std.specs.Prelude.{◌≡◌, ◌+◌, length};
 ghost use Rattle.encode_unicode.specs.Pieces.{pieces};
 ghost use Rattle.cuts.specs.ForwardRuns.{faulty_item_count};
 
 use cuts::{Form, char_count, fault_count, laws, shard_end};
 
-/// How many invalid bytes two shards have, each counted by itself. The first ends at this place or just before it.
+/// The number of invalid bytes in each of two shards, counted separately. The first ends at this offset or
+/// just before it.
 pub fn faults_in_shards(bytes: &[u8], at: usize) -> (usize, usize)
     ensures { result.0 + result.1 ≡ faulty_item_count (pieces bytes.now) }
 {
@@ -14,7 +15,7 @@ pub fn faults_in_shards(bytes: &[u8], at: usize) -> (usize, usize)
     (fault_count(&bytes[..end]), fault_count(&bytes[end..]))
 }
 
-/// How many pieces they have.
+/// The number of pieces in each of two shards.
 pub fn pieces_in_shards(bytes: &[u8], at: usize) -> (usize, usize)
     ensures { result.0 + result.1 ≡ length (pieces bytes.now) }
 {

@@ -1,5 +1,5 @@
-//! Bytes that may be damaged, as a text: all of them, with U+FFFD for each faulty byte, as a terminal shows them; and
-//! the text before the first fault, as a reader takes it that stops there.
+//! Bytes that may be damaged, as a text: all of them, with U+FFFD for each invalid byte, as a terminal shows them;
+//! and the text before the first fault, for a reader that stops there.
 ghost use Rattle.std.specs.Prelude.{◌≡◌, ℕ, IfOk, flat_map, map, string_bytes, take};
 ghost use Rattle.encode_unicode.specs.Code.{utf8};
 ghost use Rattle.encode_unicode.specs.Pieces.{pieces};
@@ -13,7 +13,7 @@ use encode_unicode::{U8SliceExt, Utf8Char, Utf8CharIterExt};
 use std::alloc::{AllocError, Allocator};
 use std::str;
 
-/// The bytes as a text.
+/// The bytes as a text, with U+FFFD for each invalid byte.
 pub fn lossy<A: Allocator>(alloc: A, bytes: &[u8]) -> Result<String<A>, AllocError>
     ensures { IfOk result (λ text. IsRecoded Utf8 Utf8 bytes.now (string_bytes text)) }
 {
@@ -21,7 +21,7 @@ pub fn lossy<A: Allocator>(alloc: A, bytes: &[u8]) -> Result<String<A>, AllocErr
     shown_pieces(alloc, bytes)
 }
 
-// The same, said of what the decoder gives.
+// The bytes as a text, with the contract stated for the decoder's items.
 fn shown_pieces<A: Allocator>(alloc: A, bytes: &[u8]) -> Result<String<A>, AllocError>
     ensures { IfOk result (λ text. string_bytes text ≡ flat_map utf8 (map shown_item (pieces bytes.now))) }
 {
@@ -30,7 +30,7 @@ fn shown_pieces<A: Allocator>(alloc: A, bytes: &[u8]) -> Result<String<A>, Alloc
     shown.collect_string(alloc)
 }
 
-/// The text before the first invalid byte, which is all where there is none.
+/// The text before the first invalid byte, which is all if there is none.
 pub fn valid_front(bytes: &[u8]) -> &str
     ensures { (place : ℕ) × IsFirstFault utf8 bytes.now place × (result.now ≡ take place bytes.now) }
 {

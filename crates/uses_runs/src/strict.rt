@@ -1,4 +1,4 @@
-//! Strict recoding by way of a room of a fixed size.
+//! Strict transcoding by way of a buffer of a fixed size.
 ghost use Rattle.std.specs.Prelude.{IfSome};
 ghost use Rattle.cuts.specs.WellFormed.{IsFirstFault, IsFirstFaultOf};
 ghost use Rattle.encode_unicode.specs.Code.{utf8};
@@ -6,9 +6,8 @@ ghost use Rattle.encode_unicode.specs.Code.{utf8};
 use cuts::{FaultKind, Form, Outcome, Recoder};
 use std::alloc::{AllocError, Allocator};
 
-/// Feeds a part by way of a packet, and appends what it holds each time, to the first invalid byte:
-/// where that is among all bytes that were read, of which `total` were read before, and why it is
-/// invalid.
+/// Feeds a part by way of a packet, and appends its contents each time, up to the first invalid byte. Returns
+/// that byte's offset among all bytes that were read, of which `total` were read before, and its kind.
 pub fn feed_strictly<A: Allocator>(
     recoder: &mut Recoder,
     part: &[u8],
@@ -29,8 +28,8 @@ pub fn feed_strictly<A: Allocator>(
     Ok(None)
 }
 
-/// Ends the input, and appends what the held bytes become: where the first invalid byte among them is,
-/// of an input of which `total` bytes were read, and why it is invalid.
+/// Ends the input, and appends the transcoded carried-over bytes. Returns the offset of the first invalid
+/// byte among them, in an input of `total` bytes, and its kind.
 pub fn finish_strictly<A: Allocator>(
     recoder: &mut Recoder,
     total: u64,
@@ -45,7 +44,8 @@ pub fn finish_strictly<A: Allocator>(
     }
 }
 
-/// The offset of the first invalid byte that a strict call tells, as a validator says it; `None` where it tells none.
+/// The offset of the first invalid byte that a strict call reports, as a validator gives it; `None` if it reports
+/// none.
 pub fn told_fault(from: Form, bytes: &[u8], room: &mut [u8]) -> Option<usize>
     ensures { IfSome result (λ place. IsFirstFaultOf from bytes.now place) }
 {
@@ -57,7 +57,7 @@ pub fn told_fault(from: Form, bytes: &[u8], room: &mut [u8]) -> Option<usize>
     }
 }
 
-/// The offset of the first invalid byte, or the length where there is none; `None` where the room is too small.
+/// The offset of the first invalid byte, or the length if there is none; `None` if the buffer is too small.
 pub fn valid_len(bytes: &[u8], room: &mut [u8]) -> Option<usize>
     ensures { IfSome result (λ place. IsFirstFault utf8 bytes.now place) }
 {

@@ -1,11 +1,11 @@
-//! Strings of JSON in bytes that may be damaged. No error hides a quote or a backslash, so they are found wherever they
-//! stand, and what a damaged string holds goes no further than its closing quote.
+//! Strings of JSON in bytes that may be damaged. No error hides a quote or a backslash, so they are always found, and
+//! damage inside a string does not extend past its closing quote.
 ghost use Rattle.std.specs.Prelude.{◌≡◌, false};
 ghost use Rattle.uses_runs.specs.Strings.{string_end};
 
 use encode_unicode::{U8SliceExt, laws};
 
-/// The place of the quote that closes a string, in the bytes after the quote that opens it.
+/// The offset of the quote that closes a string, in the bytes after the quote that opens it.
 pub fn closing_quote(bytes: &[u8]) -> Option<usize>
     ensures { result ≡ string_end false 0 bytes.now }
 {

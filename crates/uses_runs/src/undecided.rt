@@ -1,10 +1,10 @@
-//! What a reader of blocks keeps back, beside what a decoder holds of the block.
+//! The bytes of a block that a reader carries over, compared with those that a decoder carries over.
 ghost use Rattle.std.specs.Prelude.{IsTrue};
 
 use cuts::{Decoder, Form, LocatedPiece, undecided_len};
 
-/// Whether a decoder that was fed a block, with room for its pieces, holds as many bytes as are
-/// undecided: always.
+/// Returns true if a decoder that was fed a block, with capacity for its pieces, carries over as many bytes
+/// as are undecided: always.
 pub fn holds_what_is_undecided(form: Form, block: &[u8], room: &mut [LocatedPiece]) -> bool
     ensures { IsTrue result }
 {

@@ -1,4 +1,4 @@
-//! An editor's text with undo: each edit can be taken back, the last one first.
+//! An editor's text with undo: edits are undone in reverse order.
 ghost use Rattle.std.specs.List.{splice};
 ghost use Rattle.std.specs.Prelude.{◌≡◌, ◌≤◌, [], ◌∷◌, length, slice_range, IfOk, IfSome, MatchOption, OnErr, OnOk, Ok, None};
 ghost use Rattle.cuts.specs.Changes.{IsChange};
@@ -8,8 +8,8 @@ use cuts::{Change, TextBuffer};
 use std::alloc::{AllocError, Allocator};
 use std::marker::Model;
 
-/// A text that is edited, and what it was before each edit. Contracts see the text, and the texts
-/// that `undo` goes back to.
+/// A text that is edited, and its contents before each edit. Contracts see the text, and the texts that
+/// `undo` restores.
 #[derive(Drop)]
 pub struct UndoBuffer<A: Allocator + Copy> {
     text: TextBuffer<A>,
@@ -27,7 +27,7 @@ impl<A: Allocator + Copy> Model for UndoBuffer<A> {
     ghost invariant = { λ t. CanBeMade t.text (reverse t.ways_back.items) };
 }
 
-// What takes an edit back: the bytes that it took away, and where those stand that it put there.
+// The replacement that undoes an edit: the removed bytes, and the offsets of those that replaced them.
 #[derive(Drop)]
 struct WayBack<A: Allocator> {
     start: usize,
@@ -44,7 +44,7 @@ impl<A: Allocator> Model for WayBack<A> {
 }
 
 impl<A: Allocator + Copy> UndoBuffer<A> {
-    /// A text of a copy of the bytes, with no edit to take back. The error is that memory was refused.
+    /// A text of a copy of the bytes, with no edit to undo. The error is that an allocation failed.
     pub fn of(alloc: A, bytes: &[u8]) -> Result<UndoBuffer<A>, AllocError>
         ensures text { IfOk result (λ made. made.text ≡ bytes.now) }
         ensures pasts { IfOk result (λ made. made.pasts ≡ []) }
@@ -62,15 +62,15 @@ impl<A: Allocator + Copy> UndoBuffer<A> {
         &self.text
     }
 
-    /// Replaces the bytes from `start` up to `end`, `end` not included, by `new`. The answer is that of
-    /// `TextBuffer::replace`.
+    /// Replaces the bytes from `start` up to `end`, `end` not included, by `new`. Returns the change, as
+    /// `TextBuffer::replace` does.
     ///
-    /// The error is that memory was refused, or that a `usize` cannot count the bytes. The text, and
-    /// what `undo` does, are then as they were.
+    /// Fails if an allocation fails, or if a `usize` cannot count the bytes. The text, and the effect of
+    /// `undo`, are then as they were.
     ///
     /// Condition: `start` is at most `end`, and `end` at most the length.
     ///
-    /// Cost: that of `TextBuffer::replace` and of `part`; keeps a copy of the bytes that go.
+    /// Cost: that of `TextBuffer::replace` and of `part`; keeps a copy of the removed bytes.
     pub fn replace(&mut self, start: usize, end: usize, new: &[u8]) -> Result<Change, AllocError>
         requires ordered { start ≤ end }
         requires within { end ≤ length self.old.text }
@@ -92,7 +92,7 @@ impl<A: Allocator + Copy> UndoBuffer<A> {
         Ok(change)
     }
 
-    /// Inserts the bytes at this offset. Answer, errors and cost are as those of `replace`.
+    /// Inserts the bytes at this offset. Result, errors and cost are as for `replace`.
     ///
     /// Condition: the offset is at most the length.
     pub fn insert(&mut self, offset: usize, new: &[u8]) -> Result<Change, AllocError>
@@ -105,8 +105,8 @@ impl<A: Allocator + Copy> UndoBuffer<A> {
         self.replace(offset, offset, new)
     }
 
-    /// Removes the bytes from `start` up to `end`, `end` not included. Answer, errors and cost are as
-    /// those of `replace`.
+    /// Removes the bytes from `start` up to `end`, `end` not included. Result, errors and cost are as for
+    /// `replace`.
     ///
     /// Condition: `start` is at most `end`, and `end` at most the length.
     pub fn remove(&mut self, start: usize, end: usize) -> Result<Change, AllocError>
@@ -120,10 +120,10 @@ impl<A: Allocator + Copy> UndoBuffer<A> {
         self.replace(start, end, &[])
     }
 
-    /// Takes the last edit back that is not taken back yet. The answer is the change of the text, and
-    /// `None` if there is no edit to take back.
+    /// Undoes the last edit that is not undone yet. Returns the change of the text, or `None` if there is no
+    /// edit to undo.
     ///
-    /// The error is that memory was refused. All is then as it was, and `undo` can be tried again.
+    /// Fails if an allocation fails. Everything is then as it was, and `undo` can be called again.
     ///
     /// Cost: that of `TextBuffer::replace`.
     pub fn undo(&mut self) -> Result<Option<Change>, AllocError>
@@ -143,8 +143,8 @@ impl<A: Allocator + Copy> UndoBuffer<A> {
     }
 }
 
-/// A copy of the bytes of a text from `start` up to `end`, `end` not included. The error is that
-/// memory was refused.
+/// A copy of the bytes of a text from `start` up to `end`, `end` not included. The error is that an
+/// allocation failed.
 ///
 /// Condition: `start` is at most `end`, and `end` at most the length.
 ///

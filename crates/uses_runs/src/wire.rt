@@ -1,5 +1,5 @@
 //! Records as a registry or a file system keeps them: the length of a text in units, two bytes, and then the text in
-//! UTF-16, low byte first. The text may be damaged; its length says where it ends.
+//! UTF-16LE. The text may be damaged; its length determines its end.
 ghost use Rattle.std.specs.Prelude.{◌<◌, IfOk, MatchOption, length};
 ghost use Rattle.uses_runs.specs.Wire.{IsTextRecord, record_end};
 
@@ -7,8 +7,8 @@ use crate::parts::recode_in_parts;
 use cuts::Form;
 use std::alloc::{AllocError, Allocator};
 
-/// The text of the first record, as UTF-8 with U+FFFD for each lone surrogate, and the bytes after the record; `None` where the
-/// bytes end before the record does.
+/// The text of the first record, as UTF-8 with U+FFFD for each lone surrogate, and the bytes after the record;
+/// `None` if the bytes end before the record does.
 pub fn first_text<'a, A: Allocator>(
     alloc: A,
     bytes: &'a [u8],

@@ -22,7 +22,7 @@ continues b h = grind (arith, common_steps)
 continues_not : (b : ℕ) → is_continuation b ≡ false → 0x80 ≤ b → b < 0xC0 → ⊥
 continues_not b h p q = grind (arith, common_steps)
 
--- a code that ends the bytes has one byte more than the scan has seen continue
+-- a code that ends the bytes has one byte more than the continuation bytes that the scan has read
 end_len_of_scan : (w : List ℕ) (t s n : ℕ) → EndsInContinuationBytes w t → EndsWith utf8 w s n → n ≡ t + 1
 end_len_of_scan w t s n scan h =
     let some = utf8_is_code.some s h.0.scalar in
@@ -44,17 +44,17 @@ end_len_of_scan w t s n scan h =
     (cases_lt (t + 1) n))
     (cases_lt n (t + 1))
 
--- the last n bytes are n, where there are so many
+-- the last n bytes are n bytes, if there are at least n
 length-last_bytes : (w : List ℕ) (n : ℕ) → n ≤ length w → length (last_bytes n w) ≡ n
 length-last_bytes w n le = grind (arith, common_steps)
 
--- where the last n bytes are one code, it ends the bytes
+-- if the last n bytes are one code, it ends the bytes
 pub end_found : (w : List ℕ) (s n : ℕ) → n ≤ length w → IsWholeCode (last_bytes n w) (Some s) → EndsWith utf8 w s n
 end_found w s n le h =
     let len = length-last_bytes w n le in
     ((stands_in_whole utf8 w (length w - n) (length w) 0 (length w - n) s (omega arith) (omega arith) (omega arith) h.0).0, sym len ∙ h.1)
 
--- where those that the scan points at are none, no code does
+-- if the bytes that the scan has read are no code, none ends the bytes
 pub end_missed : (w : List ℕ) (t : ℕ) → EndsInContinuationBytes w t → IsWholeCode (last_bytes (t + 1) w) None → NoCodeEnds utf8 w
 end_missed w t scan none s n h =
     let len : n ≡ t + 1 = end_len_of_scan w t s n scan h in
@@ -62,7 +62,7 @@ end_missed w t scan none s n h =
     let place : length w - (t + 1) + 0 ≡ length w - n = omega arith in
     none s (stands_in_part utf8 w (length w - (t + 1)) (length w) 0 (length w - n) s place (omega arith) h.0 (omega arith), part ∙ sym len ∙ h.1)
 
--- and where the scan has met the front of the bytes, no code does either
+-- if the scan has reached the front of the bytes, no code ends them either
 pub end_missed-all : (w : List ℕ) (t : ℕ) → EndsInContinuationBytes w t → length w ≤ t → NoCodeEnds utf8 w
 end_missed-all w t scan all s n h =
     let len : n ≡ t + 1 = end_len_of_scan w t s n scan h in
@@ -71,7 +71,7 @@ end_missed-all w t scan all s n h =
 pub end_missed-empty : (w : List ℕ) → length w ≡ 0 → NoCodeEnds utf8 w
 end_missed-empty w e = no_code_ends-empty utf8 utf8_is_code w e
 
--- What is wrong then.
+-- The fault if no code ends the bytes.
 
 pub end_fault-empty : (w : List ℕ) → length w ≡ 0 → end_fault w ≡ TooFewBytes
 end_fault-empty w e = rw e refl
@@ -79,7 +79,7 @@ end_fault-empty w e = rw e refl
 pub end_fault-some : (w : List ℕ) → 0 < length w → end_fault w ≡ back_kind (last_of w)
 end_fault-some w some = let not_empty : eqb (length w) 0 ≡ false = grind (arith, common_steps) in rw not_empty refl
 
--- All of the bytes are no code where a fault, or a code of another length, begins them.
+-- All of the bytes are no code if a fault, or a code of another length, begins them.
 
 pub no_whole_by_fault : (x : List ℕ) (k : Utf8ErrorKind) → fault_kind x ≡ Some k → IsWholeCode x None
 no_whole_by_fault x k e s h = no_code_where_fault x k s e h.0
@@ -109,7 +109,7 @@ last_four_decide w (Err k) h = (
         (λ (none : length w ≤ 0). let zero : eqb (length w) 0 ≡ true = grind (arith, common_steps) in rw (empty, zero) refl)
         (cases_lt 0 (length w))
 
--- The answer as a function.
+-- The code that ends the bytes, as a function.
 
 one_code_cases : (x : List ℕ) → is_one_code x ≡ true → (fault_kind x ≡ None) × (asked_by x ≡ length x)
 one_code_cases x h = by_kind (fault_kind x) refl
@@ -118,7 +118,7 @@ one_code_cases x h = by_kind (fault_kind x) refl
     by_kind None e = (e, grind (arith, common_steps))
     by_kind (Some k) e = absurd (grind (arith, common_steps))
 
--- the last bytes, where they are one code, end the bytes
+-- the last bytes, if they are one code, end the bytes
 one_code_ends_with : (w : List ℕ) (n : ℕ) → is_one_code (last_bytes n w) ≡ true → EndsWith utf8 w (value (last_bytes n w)) (length (last_bytes n w))
 one_code_ends_with w n h =
     let one = one_code_cases (last_bytes n w) h in
@@ -128,7 +128,7 @@ one_code_ends_with w n h =
     let whole = stands_in_whole utf8 w (length w - n) (length w) 0 (length w - length (last_bytes n w)) (value (last_bytes n w)) (omega arith) (omega arith) (omega arith) code.0 in
     (whole.0, size)
 
--- and what ends the bytes is one code
+-- what ends the bytes is one code
 ends_with_one_code : (w : List ℕ) (s n : ℕ) → EndsWith utf8 w s n → (is_one_code (last_bytes n w) ≡ true) × (value (last_bytes n w) ≡ s)
 ends_with_one_code w s n h =
     let n_is = h.1 in
@@ -139,7 +139,7 @@ ends_with_one_code w s n h =
     let asks : asked_by (last_bytes n w) ≡ length (last_bytes n w) = (code_where_no_fault (last_bytes n w) none).1 ∙ ap (λ c. length (utf8 c)) char ∙ sym n_is ∙ sym len in
     (rw (none, asks) (grind (arith, common_steps)), char)
 
--- fewer bytes are none, nor is any number where no code ends them
+-- no smaller number of last bytes is a code, and no number is if no code ends them
 not_shorter : (w : List ℕ) (s n m : ℕ) → EndsWith utf8 w s n → m < n → is_one_code (last_bytes m w) ≡ false
 not_shorter w s n m h lt =
     ⊎_elim

@@ -1,4 +1,4 @@
--- Parts of a cut, and what becomes of them where some elements of the list change.
+-- Parts of a cut, and how they change if some elements of the list change.
 use Rattle.std.proofs.Common.{◌≡◌, ℕ, ◌+◌, ◌-◌, ◌<◌, ◌≤◌, List, length, get_or, take, drop, map, arith, ap, subst, ◌∙◌, ⊎_elim, Some, None, Option, length-take, length-drop}
 use Rattle.std.proofs.lemmas.Bool.{cases_lt}
 use Rattle.std.proofs.lemmas.List.{get_or-take, get_or-drop, get_or-map, length-map}
@@ -17,7 +17,7 @@ piece_ends_outside code c xs p n None h i =
     let ends = i.ends in
     h.2 (record { from = i.from; char = i.char; stands = i.stands; begins = omega (arith, h.1); ends = omega (arith, h.1) })
 
--- The k pieces before a place, and those from it on.
+-- The k pieces before an offset, and those from it on.
 pub record IsParted (m k : ℕ) (ps : List Piece) : Type 0 where
   pub within : k ≤ length ps
   pub before : AllWithin (λ x. x.start < m) ps 0 k
@@ -65,7 +65,7 @@ cut_from_place code xs i m j k ps le p a =
 
 -- Other ends of a cut.
 
--- one further in front, where no piece begins in between
+-- an offset further in front, if no piece begins in between
 pub cut_from_before : (code : ℕ → List ℕ) (xs : List ℕ) (i k j : ℕ) (ps : List Piece) → i ≤ k → ((x : Piece) → IsPiece code xs x → i ≤ x.start → x.start < k → ⊥)
     → IsCutBetween code xs k j ps → IsCutBetween code xs i j ps
 cut_from_before code xs i k j ps le none a = record {
@@ -74,7 +74,7 @@ cut_from_before code xs i k j ps le none a = record {
   in_order = a.in_order;
 }
 
--- one before which its pieces begin, where none begins in between
+-- an offset before which its pieces begin, if none begins in between
 pub cut_up_to : (code : ℕ → List ℕ) (xs : List ℕ) (i k j : ℕ) (ps : List Piece) → All (λ x. x.start < j) ps → ((x : Piece) → IsPiece code xs x → k ≤ x.start → x.start < j → ⊥)
     → IsCutBetween code xs i k ps → IsCutBetween code xs i j ps
 cut_up_to code xs i k j ps before none a = record {
@@ -83,7 +83,7 @@ cut_up_to code xs i k j ps before none a = record {
   in_order = a.in_order;
 }
 
--- the end of the list in place of one after it
+-- the end of the list for an offset after it
 pub cut_to_end : (code : ℕ → List ℕ) → IsCode code → (xs : List ℕ) (i j : ℕ) (ps : List Piece) → length xs ≤ j → IsCutBetween code xs i j ps → IsCutBetween code xs i (length xs) ps
 cut_to_end code c xs i j ps le a =
     cut_up_to code xs i j (length xs) ps
@@ -100,7 +100,7 @@ cut_stays code xs ys i j ps same a = record {
   in_order = a.in_order;
 }
 
--- a piece whose place is counted from b and was counted from a
+-- a piece whose offset is moved from a to b
 abbrev pub moved : ℕ → ℕ → Piece → Piece
 moved a b x = record x { start = b + (x.start - a) }
 

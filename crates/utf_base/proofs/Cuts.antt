@@ -1,4 +1,4 @@
--- From one answer on a window to the pieces of the whole list, and the cut that the pieces make.
+-- From one result on a window to the pieces of the whole list, and the cut that the pieces make.
 use Rattle.std.proofs.Common.{mul-suc, ◌*◌, ◌≡◌, ℕ, zero, suc, ◌+◌, ◌-◌, ◌<◌, ◌≤◌, ◌⊎◌, inl, inr, List, [], ◌∷◌, ◌++◌, length, get_or, arith, refl, ap, ap₂, sym, ◌∙◌, subst, ⊎_elim, Some, None, Option, lit<, length-append}
 use Rattle.std.proofs.lemmas.Bool.{cases_lt}
 use Rattle.std.proofs.lemmas.List.{get_or_append_left, get_or-append_right}
@@ -17,14 +17,14 @@ char_at code p s = record { start = p; len = length (code s); char = Some s }
 abbrev pub fault_at : ℕ → Piece
 fault_at p = record { start = p; len = 1; char = None }
 
--- A code that begins a window is a piece of the list, and no code lies over its end.
+-- A code that begins a window is a piece of the list, and no code covers its end.
 pub front_char : (code : ℕ → List ℕ) → IsCode code → (xs : List ℕ) (i j s : ℕ) → i ≤ j → j ≤ length xs → Stands code (slice_range xs i j) 0 s
     → IsPiece code xs (char_at code i s) × (i + length (code s) ≤ j) × (Inside code xs (i + length (code s)) → ⊥)
 front_char code c xs i j s lo le h =
     let w = stands_in_whole code xs i j 0 i s (omega arith) lo le h in
     ((w.0, refl), w.1, outside_after code c xs i s w.0)
 
--- Where no code begins a window whose ends lie inside no standing code, its first element is a fault of the list.
+-- If no code begins a window whose ends lie inside no standing code, its first element is a fault of the list.
 pub front_fault : (code : ℕ → List ℕ) (xs : List ℕ) (i j : ℕ) → (Inside code xs i → ⊥) → (Inside code xs j → ⊥) → i < j → j ≤ length xs
     → ((s : ℕ) → Stands code (slice_range xs i j) 0 s → ⊥) → IsPiece code xs (fault_at i) × (Inside code xs (i + 1) → ⊥)
 front_fault code xs i j lo hi lt le none =
@@ -42,14 +42,14 @@ front_fault code xs i j lo hi lt le none =
       λ v. covered (record { from = v.from; char = v.char; stands = v.stands; begins = omega arith; ends = omega arith }),
     )
 
--- A code that ends a window is a piece of the list, and no code lies over its front.
+-- A code that ends a window is a piece of the list, and no code covers its front.
 pub back_char : (code : ℕ → List ℕ) → IsCode code → (xs : List ℕ) (i j s n : ℕ) → i ≤ j → j ≤ length xs → EndsWith code (slice_range xs i j) s n
     → IsPiece code xs (char_at code (j - n) s) × (n ≡ length (code s)) × (i + n ≤ j) × (Inside code xs (j - n) → ⊥)
 back_char code c xs i j s n lo le h =
     let w = ends_in_whole code xs i j s n lo le h in
     ((w.0, refl), w.1, w.2, λ v. not_inside code c xs (j - n) s w.0 v)
 
--- Where no code ends a window whose ends lie inside no standing code, its last element is a fault of the list.
+-- If no code ends a window whose ends lie inside no standing code, its last element is a fault of the list.
 pub back_fault : (code : ℕ → List ℕ) (xs : List ℕ) (i j : ℕ) → (Inside code xs i → ⊥) → (Inside code xs j → ⊥) → i < j → j ≤ length xs
     → NoCodeEnds code (slice_range xs i j) → IsPiece code xs (fault_at (j - 1)) × (Inside code xs (j - 1) → ⊥)
 back_fault code xs i j lo hi lt le none =
@@ -94,7 +94,7 @@ one_piece_begins code c xs x y h g e =
     let r = same_parts code c xs x.start x.len y.start y.len x.char y.char h g e in
     ap (λ n. make x.start n x.char) r.0 ∙ ap (λ p. make p y.len x.char) e ∙ ap (λ a. make y.start y.len a) r.1
 
--- a piece has an element, and ends in the list
+-- a piece has at least one element, and ends in the list
 pub piece_some : (code : ℕ → List ℕ) → IsCode code → (xs : List ℕ) (p n : ℕ) (a : Option ℕ) → IsPieceAt code xs p n a
     → (0 < n) × (p + n ≤ length xs)
 piece_some code c xs p n (Some s) h = let some = c.some s h.0.scalar in let w = h.0.within in (omega arith, omega arith)
@@ -122,7 +122,7 @@ one_piece_ends code c xs x y h g e =
 pub cut_none : (code : ℕ → List ℕ) (xs : List ℕ) (i : ℕ) → IsCutBetween code xs i i []
 cut_none code xs i = record { pieces = λ k d h. absurd (omega arith); all = λ x h lo hi. absurd (omega arith); in_order = λ i j d h g. absurd (omega arith) }
 
--- a piece is the cut of its places
+-- a piece is the cut of its offsets
 pub cut_one : (code : ℕ → List ℕ) → IsCode code → (xs : List ℕ) (x : Piece) → IsPiece code xs x → IsCutBetween code xs x.start (end_of x) (x ∷ [])
 cut_one code c xs x h =
     let some = piece_some code c xs x.start x.len x.char h in
@@ -165,7 +165,7 @@ cut_append code xs i j k ps qs lo hi a b = record {
       (cases_lt n (length ps));
 }
 
--- one piece more after a cut
+-- one more piece after a cut
 pub cut_push : (code : ℕ → List ℕ) → IsCode code → (xs : List ℕ) (i : ℕ) (ps : List Piece) (x : Piece) → i ≤ x.start → IsPiece code xs x
     → IsCutBetween code xs i x.start ps → IsCutBetween code xs i (end_of x) (ps ++ x ∷ [])
 cut_push code c xs i ps x le h a = cut_append code xs i x.start (end_of x) ps (x ∷ []) le (omega arith) a (cut_one code c xs x h)
@@ -198,7 +198,7 @@ cut_least code xs i j x y ps a h lo hi =
     (λ r. let l = a.in_order 0 (suc r.0) y (omega arith) (omega arith) in let f : (get_or ps r.0 y).start ≡ y.start = ap (λ z. z.start) r.2 in omega arith)
     (Contains-tail x y ps (a.all y h lo hi))
 
--- there is at most one cut between two places
+-- there is at most one cut between two offsets
 pub cut_unique : (code : ℕ → List ℕ) → IsCode code → (xs : List ℕ) (i j : ℕ) (ps qs : List Piece)
     → IsCutBetween code xs i j ps → IsCutBetween code xs i j qs → ps ≡ qs
 cut_unique code c xs i j [] [] a b = refl
@@ -221,7 +221,7 @@ cut_is_unique code c xs ps qs a b = cut_unique code c xs 0 (length xs) ps qs a b
 abbrev pub Finds : (ℕ → List ℕ) → Type 0
 Finds code = (w : List ℕ) → ((s : ℕ) × Stands code w 0 s) ⊎ ((s : ℕ) → Stands code w 0 s → ⊥)
 
--- A piece begins at each place that lies inside no standing code, and ends at another such place.
+-- A piece begins at each offset that lies inside no standing code, and ends at another such offset.
 pub record Begins (code : ℕ → List ℕ) (xs : List ℕ) (i : ℕ) : Type 0 where
   pub first : Piece
   pub is_piece : IsPiece code xs first
@@ -239,7 +239,7 @@ piece_begins code c find xs i b lt =
     record { first = fault_at i; is_piece = f.0; start = refl; outside = f.1 })
     (find (slice_range xs i (length xs)))
 
--- the cut from a place to the end, whose pieces follow each other
+-- the cut from an offset to the end, whose pieces follow each other
 pub record CutFrom (code : ℕ → List ℕ) (xs : List ℕ) (i : ℕ) : Type 0 where
   pub pieces : List Piece
   pub cut : IsCutBetween code xs i (length xs) pieces
@@ -281,7 +281,7 @@ piece_short : (code : ℕ → List ℕ) (m : ℕ) → ((s : ℕ) → length (cod
 piece_short code m short some xs p n (Some s) h = let le = short s in omega (arith, h.1)
 piece_short code m short some xs p n None h = omega (arith, h.1)
 
--- how many pieces follow each other from i to j, where no code is longer than m
+-- bounds of the number of pieces that follow each other from i to j, if no code is longer than m
 record CountBounds (m i j count : ℕ) : Type 0 where
   pub ordered : i ≤ j
   pub most : i + count ≤ j

@@ -1,4 +1,5 @@
--- What a decoding answers is the function of its elements that `Decoded` defines, so the code of a scalar decodes to it.
+-- The result of a decoding is the function of its elements that `Decoded` defines, so the code of a scalar
+-- decodes to it.
 use Rattle.std.proofs.Common.{◌≡◌, ℕ, ◌≤◌, ⊎_elim, List, [], ◌∷◌, length, get_or, Option, Some, None, Result, Ok, Err, arith, refl, ap, sym, ◌∙◌, true}
 use Rattle.std.proofs.lemmas.Grind.{common_steps}
 use Rattle.std.specs.Prelude.{unwrap_or, if◌then◌else◌, IfOk, MatchResult}
@@ -47,7 +48,7 @@ decoded_bytes_code w s h = sym (answer_of_array w (Ok s) h)
 
 -- Units.
 
--- what units tell whose front is the code of a scalar
+-- the results for units that begin with the code of a scalar
 record UnitsTell (w : List ℕ) (s : ℕ) : Type 0 where
   char : unit_value w ≡ s
   len : units_asked (get_or w 0 0) ≡ length (utf16 s)
@@ -127,7 +128,7 @@ answer_of_tuple u second (Err k) h = rw h refl
 pub decoded_tuple_code : (u : ℕ) (second : Option ℕ) (s : ℕ) → IsScalar s → units_of_pair u second ≡ utf16 s → decoded_tuple u second ≡ Ok s
 decoded_tuple_code u second s h e = sym (answer_of_tuple u second (Ok s) (h, e))
 
--- the units of a scalar are a code, and 0 for a second that is not there
+-- the units of a scalar are a code, followed by 0 if there is no second
 pub padded_tuple : (u : ℕ) (second : Option ℕ) (s : ℕ) → IsScalar s → units_of_pair u second ≡ utf16 s → is_padded_units u (unwrap_or second 0) ≡ true
 padded_tuple u None s h e =
     ⊎_elim
@@ -161,7 +162,7 @@ answer_of_number n (Ok c) h =
         grind (arith, common_steps)
 answer_of_number n (Err k) h = rw h refl
 
--- As the methods of characters say it.
+-- The results, as the methods of characters state them.
 
 pub gives_first : {E : Type 0} (known r : Result (ℕ × ℕ) E) → r ≡ known → GivesFirst as_scalar known r
 gives_first known (Ok x) e = sym e
@@ -184,7 +185,7 @@ pub units_of_tuple : (u : ℕ) (second : Option ℕ) (r : Result ℕ Utf16TupleE
 units_of_tuple u second (Ok s) h = padded_tuple u second s h.0 h.1
 units_of_tuple u second (Err k) h = tt
 
--- where the checked call succeeds, the unchecked one gives the same
+-- if the checked call succeeds, the unchecked one returns the same
 
 pub unchecked_two : (w : List ℕ) (s : ℕ)
     → s ≡ (if is_surrogate (get_or w 0 0) then pair_value (get_or w 0 0) (get_or w 1 0) else get_or w 0 0)
@@ -200,7 +201,7 @@ unchecked_tuple u second s e = by_fault (tuple_fault u second) (tuple_value u se
     by_fault None v s e = e
     by_fault (Some k) v s e = tt
 
--- the list is one code where it decodes as a whole
+-- the list is one code if it decodes as a whole
 
 pub one_code_of_whole : (w : List ℕ) → DecodesWhole w → IsOneCode utf8 w
 unfolding decoded

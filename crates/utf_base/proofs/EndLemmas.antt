@@ -1,4 +1,4 @@
--- The backward kind: what the last byte of some bytes tells that no code ends.
+-- The backward kind: determined by the last byte of some bytes that no code ends.
 use Rattle.std.proofs.Common.{◌≡◌, ℕ, ◌-◌, ◌<◌, ◌≤◌, ⊎_elim, List, [], ◌∷◌, length, arith, refl, true, Some}
 use Rattle.std.proofs.lemmas.Grind.{common_steps}
 use Rattle.std.proofs.lemmas.Bool.{cases_lt}
@@ -15,11 +15,11 @@ pub back_kind-continuation : (b : ℕ) → 0x80 ≤ b → b < 0xC0 → back_kind
 unfolding back_kind
 back_kind-continuation b low high = let c : is_continuation b ≡ true = grind (arith, common_steps) in rw c refl
 
--- a byte below 0x80 is a code, so it ends what it is the last of
+-- a byte below 0x80 is a code, so it ends the bytes that it is the last of
 pub ascii_ends : (w : List ℕ) → 0 < length w → last_of w < 0x80 → EndsWith utf8 w (last_of w) 1
 ascii_ends w some low = let a = ascii_stands_alone w (length w - 1) (omega arith) low in (a.0, a.1)
 
--- what is wrong with a byte by itself
+-- the fault of a single byte
 pub alone : (b : ℕ) → 0x80 ≤ b → fault_kind (b ∷ []) ≡ Some (back_kind b)
 unfolding fault_kind back_kind asked
 alone b low = grind (arith, common_steps)

@@ -1,4 +1,4 @@
--- The code that ends a list: at most one, and where it stands in a list of which that one is a part.
+-- The code that ends a list: there is at most one, and it is in each list of which that one is a part.
 use Rattle.std.proofs.Common.{◌≡◌, ℕ, ◌+◌, ◌-◌, ◌≤◌, List, length, arith, refl, ap, sym, ◌∙◌}
 use Rattle.std.proofs.lemmas.Grind.{common_steps}
 use Rattle.std.specs.Prelude.{slice_range}
@@ -9,17 +9,17 @@ use Rattle.utf_base.specs.Front.{BeginsWith, IsFrontLen}
 use Rattle.utf_base.specs.Piece.{Stands}
 use Rattle.utf_base.proofs.Standing.{codes_never_overlap, stands_in_part, stands_in_whole}
 
--- a code that ends where the list does ends the list
+-- a code whose end is the end of the list ends the list
 pub ends_with : (code : ℕ → List ℕ) (xs : List ℕ) (p s : ℕ) → Stands code xs p s → p + length (code s) ≡ length xs → EndsWith code xs s (length (code s))
 ends_with code xs p s h e =
     let place : p ≡ length xs - length (code s) = omega arith in
     (rw place at h, refl)
 
--- the place at which the code that ends a list stands
+-- the offset of the code that ends a list
 pub ends_at : (code : ℕ → List ℕ) (xs : List ℕ) (s n : ℕ) → EndsWith code xs s n → length xs - n + length (code s) ≡ length xs
 ends_at code xs s n h = let within = h.0.within in let len = h.1 in omega arith
 
--- a code ends a list exactly where it begins the last elements, as many as it has
+-- a code ends a list if and only if it begins the last elements, as many as it has
 
 pub ends_by_last : (code : ℕ → List ℕ) (xs : List ℕ) (s n : ℕ) → BeginsWith code (slice_range xs (length xs - n) (length xs)) s n → EndsWith code xs s n
 ends_by_last code xs s n h =
@@ -46,7 +46,7 @@ one_code_ends code c xs s t n m h g =
     let same : s ≡ t = (codes_never_overlap code c xs (length xs - n) (length xs - m) s t h.0 g.0).0 same_place in
     (same, h.1 ∙ ap (λ x. length (code x)) same ∙ sym g.1)
 
--- A code ends a part of a list exactly where it stands in the list and ends at the part's end.
+-- A code ends a part of a list if and only if it is in the list and ends at the part's end.
 
 pub ends_in_part : (code : ℕ → List ℕ) (xs : List ℕ) (i j p s : ℕ) → i ≤ p → j ≤ length xs → Stands code xs p s → p + length (code s) ≡ j
     → EndsWith code (slice_range xs i j) s (length (code s))
@@ -62,7 +62,7 @@ ends_in_whole code xs i j s n lo le h =
     let w = stands_in_whole code xs i j (length (slice_range xs i j) - n) (j - n) s (omega arith) lo le h.0 in
     (w.0, h.1, omega arith)
 
--- The lengths of codes, where none is longer than m.
+-- The lengths of codes, if none is longer than m.
 
 pub front_len : (code : ℕ → List ℕ) (m : ℕ) → IsCode code → ((s : ℕ) → length (code s) ≤ m) → (w : List ℕ) (s n : ℕ) → BeginsWith code w s n → IsFrontLen m w n
 front_len code m c short w s n h =

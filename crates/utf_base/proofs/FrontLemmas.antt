@@ -1,4 +1,4 @@
--- The code at the front of some bytes: it stands there exactly where no case of a fault applies.
+-- The code at the front of some bytes: it is there if and only if no case of a fault applies.
 use Rattle.std.proofs.Common.{◌≡◌, ℕ, zero, suc, ◌+◌, ◌-◌, ◌*◌, ◌/◌, ◌%◌, ◌<◌, ◌≤◌, ◌⊎◌, inl, inr, List, [], ◌∷◌, length, get_or, take, arith, refl, ap, sym, ◌∙◌, ⊎_elim, Some, None, Option, true, false, eqb, ltb, leb, ◌&&◌, lit<}
 use Rattle.std.proofs.lemmas.Grind.{common_steps}
 use Rattle.std.proofs.lemmas.Bool.{cases_lt}
@@ -52,7 +52,7 @@ front_3 w h = grind (arith, common_steps)
 front_4 : (w : List ℕ) → 4 ≤ length w → take 4 w ≡ get_or w 0 0 ∷ get_or w 1 0 ∷ get_or w 2 0 ∷ get_or w 3 0 ∷ []
 front_4 w h = grind (arith, common_steps)
 
--- What a first byte asks for, class by class.
+-- The number of bytes that a first byte asks for, class by class.
 
 pub asked-1 : (b : ℕ) → b < 0x80 → asked b ≡ 1
 unfolding asked
@@ -70,13 +70,13 @@ pub asked-4 : (b : ℕ) → 0xF0 ≤ b → b < 0xF5 → asked b ≡ 4
 unfolding asked
 asked-4 b h g = grind (arith, common_steps)
 
--- nothing is asked for by a continuation byte, or by one that no code has
+-- a continuation byte, or a byte that no code has, asks for nothing
 pub asked-0 : (b : ℕ) → (0x80 ≤ b) × (b < 0xC2) ⊎ (0xF5 ≤ b) → asked b ≡ 0
 unfolding asked
 asked-0 b (inl h) = grind (arith, common_steps)
 asked-0 b (inr h) = grind (arith, common_steps)
 
--- the class of a first byte, by what it asks for
+-- the class of a first byte, by the number of bytes that it asks for
 pub asked_cases : (b : ℕ) → 0 < asked b
     → ((b < 0x80) × (asked b ≡ 1)) ⊎ (((0xC2 ≤ b) × (b < 0xE0) × (asked b ≡ 2)) ⊎ (((0xE0 ≤ b) × (b < 0xF0) × (asked b ≡ 3)) ⊎ ((0xF0 ≤ b) × (b < 0xF5) × (asked b ≡ 4))))
 unfolding asked
@@ -120,7 +120,7 @@ pub least_value-4 : least_value 4 ≡ 0x1_0000
 unfolding least_value
 least_value-4 = refl
 
--- What it means that no case of a fault applies, as facts on numbers.
+-- No case of a fault applies, stated as facts on numbers.
 pub record Decodes (w : List ℕ) : Type 0 where
   pub some : 0 < length w
   pub asks : 0 < asked_by w
@@ -129,7 +129,7 @@ pub record Decodes (w : List ℕ) : Type 0 where
   pub least : least_value (asked_by w) ≤ value w
   pub scalar : IsScalar (value w)
 
--- each byte that is asked for continues, where there is no fault
+-- each byte that is asked for continues, if there is no fault
 follows : (w : List ℕ) (k : ℕ) → fault_kind w ≡ None → 0 < k → k < asked_by w → (0x80 ≤ get_or w k 0) × (get_or w k 0 < 0xC0)
 unfolding fault_kind
 follows w zero h some lt = absurd (omega arith)
@@ -166,7 +166,7 @@ none_from_decodes w h =
     let low : ltb 0x10_FFFF (value w) ≡ false = grind (arith, common_steps) in
     rw (not_empty, first, occurs, enough, one, two, three, long, gap, low) refl
 
--- The value's code is the front of the bytes, so it stands there.
+-- The value's code is the front of the bytes, so it is there.
 
 code_from_decodes : (w : List ℕ) → Decodes w → utf8 (value w) ≡ take (asked_by w) w
 code_from_decodes w h =
@@ -262,7 +262,7 @@ decodes_from_stands w s h =
       sum,
     )
 
--- Both ways, for those above.
+-- Both directions: no fault if and only if a code begins the bytes.
 
 pub code_where_no_fault : (w : List ℕ) → fault_kind w ≡ None → Stands utf8 w 0 (value w) × (asked_by w ≡ length (utf8 (value w)))
 code_where_no_fault w h = stands_from_decodes w (decodes_from_none w h)

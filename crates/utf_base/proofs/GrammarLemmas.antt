@@ -11,7 +11,7 @@ use Rattle.utf_base.specs.WellFormedBytes.{TableRow, ascii, two_bytes, after_e0,
 use Rattle.utf_base.proofs.FrontLemmas.{code_of_2, code_of_3, code_of_4}
 use Rattle.utf_base.proofs.Utf8Code.{utf8-1, utf8-2, utf8-3, utf8-4}
 
--- Some bytes of some ranges are so many, one of each.
+-- Bytes of a list of ranges are as many as the ranges, one of each.
 
 record One (r : Range) (w : List ℕ) : Type 0 where
   pub b : ℕ

@@ -49,7 +49,7 @@ joined_of_chars (char ∷ chars) all =
 pub joined_of_grammar : (w : List ℕ) → IsUtf8Octets w → (scalars : List ℕ) × IsJoined utf8 w scalars
 joined_of_grammar w h = let x = joined_of_chars h.chars h.each in (x.scalars, (x.all, h.joined ∙ x.equal))
 
--- std's word for text says the same of the same scalars.
+-- std's definition of text agrees, for the same scalars.
 
 for_std : (scalars : List ℕ) → All IsScalar scalars → all_scalars scalars ≡ true
 for_std [] all = refl

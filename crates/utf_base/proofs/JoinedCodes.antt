@@ -14,7 +14,7 @@ use Rattle.utf_base.proofs.Cuts.{Finds, char_at, cut_append, cut_is_unique, cut_
 length_after : (xs ys : List ℕ) (i : ℕ) → drop i xs ≡ ys → length xs - i ≡ length ys
 length_after xs ys i e = rw (← e) (grind (arith, common_steps))
 
--- a code that begins what is after the place i
+-- a code that begins what is after the offset i
 record BeginsAt (code : ℕ → List ℕ) (xs : List ℕ) (i s : ℕ) (rest : List ℕ) : Type 0 where
   pub stands : Stands code xs i s
   pub following : drop (i + length (code s)) xs ≡ rest

@@ -13,7 +13,8 @@ pub some_utf16 : (s : ℕ) → 0 < length (utf16 s)
 unfolding utf16
 some_utf16 s = grind (arith, common_steps)
 
--- they are at least as many elements as there are scalars, and at most m times as many, where no code is longer than m
+-- joined codes have at least as many elements as there are scalars, and at most m times as many, if no code
+-- is longer than m
 pub joined_bounds : (code : ℕ → List ℕ) (m : ℕ) → ((s : ℕ) → 0 < length (code s)) → ((s : ℕ) → length (code s) ≤ m) → (ss : List ℕ)
     → (length ss ≤ length (flat_map code ss)) × (length (flat_map code ss) ≤ m * length ss)
 joined_bounds code m some short [] = (omega arith, omega arith)

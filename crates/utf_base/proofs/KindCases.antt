@@ -20,7 +20,7 @@ kind-continuation w some low high =
     let first : is_continuation (get_or w 0 0) ≡ true = grind (arith, common_steps) in
     rw (not_empty, first) refl
 
--- a first byte that no code has, and none of a continuation
+-- a first byte that no code has, or a continuation byte
 pub kind-never : (w : List ℕ) → 0 < length w → asked_by w ≡ 0 → is_continuation (get_or w 0 0) ≡ false → fault_kind w ≡ Some NonUtf8Byte
 unfolding fault_kind
 kind-never w some none first =
@@ -43,7 +43,7 @@ Asks-3 w some low high = record { some = some; first = grind (arith, common_step
 pub Asks-4 : (w : List ℕ) → 0 < length w → 0xF0 ≤ get_or w 0 0 → get_or w 0 0 < 0xF5 → Asks w 4
 Asks-4 w some low high = record { some = some; first = grind (arith, common_steps); asks = asked-4 (get_or w 0 0) low high; positive = omega arith }
 
--- so it is no fault by itself
+-- a first byte that asks for others is no fault without the bytes after it
 kind-begun : (w : List ℕ) (n : ℕ) → Asks w n
     → fault_kind w ≡ (if ltb (length w) n then Some TooFewBytes else if not (all_continue w) then Some InterruptedSequence else value_fault w)
 unfolding fault_kind
@@ -78,7 +78,7 @@ pub Sums-4 : (w : List ℕ) (v : ℕ) → Asks w 4 → 4 ≤ length w
     → v ≡ (get_or w 0 0 - 0xF0) * 262144 + payload w 1 * 4096 + payload w 2 * 64 + payload w 3 → Sums w 4 v
 Sums-4 w v a enough e sum = record { asks = a; enough = enough; follow = rw (a.asks, e) refl; sum = value-4 w a.asks ∙ sym sum }
 
--- then the value alone decides
+-- if all bytes are there and continue, only the value decides
 kind-value : (w : List ℕ) (n v : ℕ) → Sums w n v → fault_kind w
     ≡ (if ltb v (least_value n) then Some OverlongEncoding
     else if leb 0xD800 v && ltb v 0xE000 then Some Utf16ReservedCodepoint

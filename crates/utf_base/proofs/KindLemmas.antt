@@ -29,7 +29,7 @@ value-front : (w : List ℕ) → value (take 4 w) ≡ value w
 unfolding value
 value-front w = rw (get_or-take 4 w 0 0 (lit< tt), get_or-take 4 w 1 0 (lit< tt), get_or-take 4 w 2 0 (lit< tt), get_or-take 4 w 3 0 (lit< tt)) refl
 
--- whether there are fewer than k elements, where k is at most 4, is seen of the first four
+-- whether there are fewer than k elements, with k at most 4, is determined by the first four
 short-front : (n k m : ℕ) → k ≤ 4 → (n < 4 → m ≡ n) → (4 ≤ n → m ≡ 4) → ltb m k ≡ ltb n k
 short-front n k m h p q = grind (arith, common_steps)
 

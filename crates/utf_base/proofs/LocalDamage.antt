@@ -1,4 +1,5 @@
--- Damage stays local: a code that lies over a place far enough from a change lies in a part that did not change.
+-- Damage stays local: a code that covers an offset far enough from a change lies in a part that did not
+-- change.
 use Rattle.std.proofs.Common.{◌≡◌, ℕ, zero, suc, ◌+◌, ◌-◌, ◌<◌, ◌≤◌, List, [], ◌∷◌, ◌++◌, length, get_or, take, drop, arith, refl, ap, sym, ◌∙◌, append_assoc, length-append, Some, None, Option, lit<}
 use Rattle.std.proofs.lemmas.Grind.{common_steps}
 use Rattle.std.proofs.lemmas.List.{take_at, take_rest, drop_at, drop-drop, drop-append-le, take-append-le}
@@ -17,7 +18,7 @@ use Rattle.utf_base.proofs.UnitLemmas.{two_units_decide}
 use Rattle.utf_base.proofs.Utf8Code.{utf8_is_code, length_utf8}
 use Rattle.utf_base.proofs.Utf16Code.{utf16_is_code, length_utf16}
 
--- Two lists with a part in common: the places from i to j of xs hold what those from k to l of ys hold.
+-- Two lists with a part in common: the offsets from i to j of xs hold what those from k to l of ys hold.
 record SamePart (xs : List ℕ) (i j : ℕ) (ys : List ℕ) (k l : ℕ) : Type 0 where
   pub first_in_order : i ≤ j
   pub first_within : j ≤ length xs
@@ -35,18 +36,18 @@ SamePart-sym xs i j ys k l same = same_part _ same.second_in_order same.second_w
 length-range : (xs : List ℕ) (i j : ℕ) → j ≤ length xs → length (slice_range xs i j) ≡ j - i
 length-range xs i j h = grind (arith, common_steps)
 
--- each code that stands in xs over the place q lies between the places i and j
+-- each code that is in xs over the offset q lies between the offsets i and j
 abbrev LieBetween : (ℕ → List ℕ) → List ℕ → ℕ → ℕ → ℕ → Type 0
 LieBetween code xs i j q = (from s : ℕ) → Stands code xs from s → from ≤ q → q < from + length (code s) → (i ≤ from) × (from + length (code s) ≤ j)
 
--- what stands in the part of one stands in that of the other
+-- a code in the part of one list is in the part of the other
 stands_over : (code : ℕ → List ℕ) (xs : List ℕ) (i j : ℕ) (ys : List ℕ) (k l p q r s : ℕ) → SamePart xs i j ys k l → i + p ≡ q → k + p ≡ r → Stands code xs q s
     → q + length (code s) ≤ j → Stands code ys r s
 stands_over code xs i j ys k l p q r s same e f h fits =
     let part = stands_in_part code xs i j p q s e same.first_within h fits in
     (stands_in_whole code ys k l p r s f same.second_in_order same.second_within (rw same.equal at part)).0
 
--- so a piece of one is a piece of the other
+-- a piece in the part of one list is a piece of the other
 piece_over : (code : ℕ → List ℕ) → IsCode code → (xs : List ℕ) (i j : ℕ) (ys : List ℕ) (k l p q r n : ℕ) (char : Option ℕ) → SamePart xs i j ys k l → i + p ≡ q → k + p ≡ r
     → LieBetween code xs i j q → LieBetween code ys k l r → (q < length xs → q < j) → IsPieceAt code xs q n char → IsPieceAt code ys r n char
 piece_over code c xs i j ys k l p q r n (Some s) same e f of_x of_y lt h =
@@ -90,7 +91,7 @@ same_rest front old new rest =
     let long : (mid : List ℕ) → length front + length mid ≤ length (front ++ mid ++ rest) = λ mid. omega (arith, length-append (front ++ mid) rest, length-append front mid) in
     same_part rest (long old) (omega arith) (long new) (omega arith) (part old) (part new)
 
--- what is left from a place of the front on begins with elements of it
+-- the rest from an offset of the front on begins with elements of the front
 front_of_left : (m : ℕ) (front mid rest : List ℕ) (p : ℕ) → p + m ≤ length front → take m (drop p (front ++ mid ++ rest)) ≡ take m (drop p front)
 front_of_left m front mid rest p h =
     let lo : p ≤ length front = omega arith in
@@ -102,9 +103,9 @@ left_of_rest front mid rest p =
     sym (drop-drop p (length front + length mid) (front ++ mid ++ rest))
     ∙ ap (λ xs. drop p xs) (drop_at (front ++ mid) rest (length front + length mid) (length-append front mid))
 
--- The law, where no code has more than m elements.
+-- The law, if no code has more than m elements.
 
--- and the first m elements decide the kind
+-- what a change leaves of the front, if the first m elements decide the kind
 front_stays : {E : Type 0} (code : ℕ → List ℕ) → IsCode code → (kind : List ℕ → Option E) (m : ℕ) → 0 < m → ((s : ℕ) → length (code s) ≤ m)
     → ((w : List ℕ) → kind (take m w) ≡ kind w) → FrontStays code kind m
 front_stays code c kind m some short decides front old new rest p h =
@@ -138,9 +139,9 @@ utf16_damage_is_local = record {
   rest = rest_stays utf16 utf16_is_code unit_fault_kind 2 length_utf16;
 }
 
--- Two changes of bytes that reach as far as they can.
+-- Two changes of bytes whose effects extend as far as the bounds allow.
 
--- U+10000, of which the last byte becomes another
+-- U+10000, with its last byte replaced
 first_of_four : Stands utf8 (0xF0 ∷ 0x90 ∷ 0x80 ∷ 0x80 ∷ []) 0 0x1_0000
 unfolding utf8
 first_of_four = record { scalar = record { below = omega arith; no_surrogate = λ h. omega arith }; within = lit< tt; equal = refl }
@@ -153,7 +154,7 @@ front_is_reached h =
     let last : ◌≡◌ {A = ℕ} 0x58 0x80 = ap (λ xs. get_or xs 3 0) stands.equal in
     omega arith
 
--- its last three bytes, before which its first one comes to stand
+-- the last three bytes of U+10000, with its first one put before them
 abbrev last_three : List ℕ
 last_three = 0x90 ∷ 0x80 ∷ 0x80 ∷ []
 

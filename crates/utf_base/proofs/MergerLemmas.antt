@@ -1,4 +1,4 @@
--- The merger's kind beside the forward kind.
+-- The merger's kind, compared with the forward kind.
 use Rattle.std.proofs.Common.{◌≡◌, ℕ, ◌+◌, ap, leb, ◌<◌, ◌≤◌, List, length, get_or, take, arith, refl, sym, ◌∙◌, Some, None, true, false, eqb, ltb, lit<, length-take, length-append, [], ◌∷◌, ◌++◌, ⊎_elim}
 use Rattle.std.proofs.lemmas.Grind.{common_steps}
 use Rattle.std.proofs.lemmas.List.{get_or-take, get_or_append_left}
@@ -23,7 +23,7 @@ pub broken_kind : (w : List ℕ) → is_broken w ≡ true → merger_kind w ≡ 
 unfolding merger_kind
 broken_kind w e = rw e refl
 
--- A first byte that has a byte after it that breaks its code asks for more than itself.
+-- A first byte followed by a byte that breaks its code asks for more than itself.
 
 broken_asks : (w : List ℕ) → is_broken w ≡ true → 2 ≤ asked_by w
 broken_asks w e = grind (arith, common_steps)
@@ -36,7 +36,7 @@ broken_few w few e =
     let asks = broken_asks w e in
     kind-few w (asked_by w) (record { some = broken_some w e; first = asked-no_continuation (get_or w 0 0) (omega arith); asks = refl; positive = omega arith }) few
 
--- where all bytes are there that the first asks for, one that breaks the code is a later byte that does not continue it
+-- if all bytes are there that the first asks for, one that breaks the code is a later byte that does not continue it
 broken_continuation_byte : (w : List ℕ) → asked_by w ≤ length w → is_broken w ≡ true → all_continue w ≡ false
 broken_continuation_byte w enough e = grind (arith, common_steps)
 
@@ -59,7 +59,7 @@ few_bytes w few = let most = asked_le (get_or w 0 0) in omega arith
 pub kinds_differ : KindsDiffer
 kinds_differ = record { enough = enough_kind; unbroken = unbroken_kind; decoder = broken_few; merger = λ w few e. broken_kind w e; few = few_bytes }
 
--- no code begins the bytes where one breaks it
+-- no code begins the bytes if one breaks it
 code_unbroken : (w : List ℕ) → fault_kind w ≡ None → is_broken w ≡ false
 code_unbroken w none =
     ⊎_elim
@@ -80,7 +80,7 @@ merger_none_where_code w s h = let none = no_fault_where_code w s h in unbroken_
 pub merger_code_or_one_fault : MergerCodeOrOneFault
 merger_code_or_one_fault = record { code = λ w e. (code_where_no_fault w (merger_none w e)).0; fault = merger_none_where_code }
 
--- whether a byte breaks the code is seen of the first four
+-- whether a byte breaks the code is determined by the first four
 break-front : (n k m : ℕ) → k < 4 → (n < 4 → m ≡ n) → (4 ≤ n → m ≡ 4) → ltb k m ≡ ltb k n
 break-front n k m h p q = grind (arith, common_steps)
 
@@ -123,7 +123,7 @@ value_front w later asks enough =
     value-4 (w ++ later) (a ∙ n) ∙ rw (e0, at_front w later 1 (omega arith), at_front w later 2 (omega arith), at_front w later 3 (omega arith)) refl ∙ sym (value-4 w n))))
     (asked_cases (get_or w 0 0) asks)
 
--- the forward kind, where all bytes that the first asks for are there
+-- the forward kind, if all bytes that the first asks for are there
 pub fault_front : (w later : List ℕ) → 0 < length w → asked_by w ≤ length w → fault_kind (w ++ later) ≡ fault_kind w
 unfolding fault_kind
 fault_front w later some enough =
@@ -142,7 +142,7 @@ fault_front w later some enough =
     by_continuation_bytes : (w later : List ℕ) → 0 < length w → asked_by w ≤ length w → all_continue (w ++ later) ≡ all_continue w
     by_continuation_bytes w later some enough = rw (continues_front w later 1 some enough, continues_front w later 2 some enough, continues_front w later 3 some enough) refl
 
--- the merger's kind, where all bytes that the first asks for are there, is the forward kind of these
+-- the merger's kind, if all bytes that the first asks for are there, is the forward kind of these
 pub kind_of_front : (w later : List ℕ) → 0 < length w → asked_by w ≤ length w → merger_kind (w ++ later) ≡ fault_kind w
 kind_of_front w later some enough =
     let both = length-append w later in
@@ -156,7 +156,7 @@ kind_of_few w some few e = unbroken_kind w e ∙ kind-few w (asked_by w) (record
 pub few-1 : (a : ℕ) → 1 < asked a → merger_kind (a ∷ []) ≡ Some TooFewBytes
 few-1 a asks = kind_of_few (a ∷ []) (lit< tt) asks refl
 
--- the code that stands at the front of no more bytes than the first asks for is all of them
+-- the code that is at the front of no more bytes than the first asks for is all of them
 pub whole_code : (w : List ℕ) (s : ℕ) → Stands utf8 w 0 s → asked_by w ≤ length w → (1 < length w → asked_by w ≡ length w) → w ≡ utf8 s
 whole_code w s h enough exact =
     let len : asked_by w ≡ length (utf8 s) = (code_where_no_fault w (no_fault_where_code w s h)).1 ∙ ap (λ x. length (utf8 x)) (decodes_from_stands w s h).1 in

@@ -15,7 +15,7 @@ use Rattle.utf_base.proofs.Cuts.{Finds}
 use Rattle.utf_base.proofs.Rests.{shown_of_moved, stands_in_list, stands_in_rest}
 use Rattle.utf_base.proofs.Standing.{same_char}
 
--- What is a part in what is left of a list is one in the list.
+-- A part of the rest of a list is a part of the list.
 
 same_range : (xs : List ℕ) (n p m : ℕ) → slice_range (drop n xs) p (p + m) ≡ slice_range xs (n + p) (n + p + m)
 same_range xs n p m =
@@ -35,7 +35,7 @@ subpart_in_list code xs n p m le h =
       longest = λ k fits f. h.longest k (omega (arith, length-drop n xs)) (subst (λ w. IsFrontOfCode code w) (sym (same_range xs n p k)) f);
     }
 
-part_in_list : (code : ℕ → List ℕ) (xs : List ℕ) (n p m : ℕ) (a : Option ℕ) → n ≤ length xs → IsPart code (drop n xs) p m a → IsPart code xs (n + p) m a
+pub part_in_list : (code : ℕ → List ℕ) (xs : List ℕ) (n p m : ℕ) (a : Option ℕ) → n ≤ length xs → IsPart code (drop n xs) p m a → IsPart code xs (n + p) m a
 part_in_list code xs n p m (Some s) le h = (stands_in_list code xs n p (n + p) s refl le h.0, h.1)
 part_in_list code xs n p m None le h = subpart_in_list code xs n p m le h
 
@@ -54,7 +54,7 @@ moved_follow n i j (x ∷ parts) f =
     let end : n + (x.start - 0) + x.len ≡ n + (x.start + x.len) = omega arith in
     (start, rw end (moved_follow n (end_of x) j parts f.1))
 
--- A part at the front, and what the rest shows.
+-- A part at the front, and the scalars of the rest.
 pub part_shows_first : (code : ℕ → List ℕ) (xs : List ℕ) (n : ℕ) (a : Option ℕ) (ss : List ℕ) → n ≤ length xs → IsPart code xs 0 n a → ShowsParts code (drop n xs) ss
     → ShowsParts code xs (unwrap_or a 0xFFFD ∷ ss)
 part_shows_first code xs n a ss le h (parts, inside, e) =
@@ -81,7 +81,7 @@ one_subpart code xs p m n h i =
     let some = i.some in
     ⊎_elim (λ (more : 1 < m). i.longest m h.within (h.front more)) (λ (one : m ≤ 1). omega arith) (cases_lt 1 m)
 
-one_part : (code : ℕ → List ℕ) → IsCode code → (xs : List ℕ) (p m n : ℕ) (a b : Option ℕ) → IsPart code xs p m a → IsPart code xs p n b → (m ≡ n) × (a ≡ b)
+pub one_part : (code : ℕ → List ℕ) → IsCode code → (xs : List ℕ) (p m n : ℕ) (a b : Option ℕ) → IsPart code xs p m a → IsPart code xs p n b → (m ≡ n) × (a ≡ b)
 one_part code c xs p m n (Some s) (Some t) h i =
     let same : s ≡ t = same_char code c xs p s t h.0 i.0 in
     (h.1 ∙ ap (λ u. length (code u)) same ∙ sym i.1, ap Some same)
@@ -89,7 +89,7 @@ one_part code c xs p m n (Some s) None h i = absurd (i.offset.none s h.0)
 one_part code c xs p m n None (Some t) h i = absurd (h.offset.none t i.0)
 one_part code c xs p m n None None h i = let le = one_subpart code xs p m n h i in let ge = one_subpart code xs p n m i h in (omega arith, refl)
 
-some_part : (code : ℕ → List ℕ) → IsCode code → (xs : List ℕ) (p n : ℕ) (a : Option ℕ) → IsPart code xs p n a → (0 < n) × (p + n ≤ length xs)
+pub some_part : (code : ℕ → List ℕ) → IsCode code → (xs : List ℕ) (p n : ℕ) (a : Option ℕ) → IsPart code xs p n a → (0 < n) × (p + n ≤ length xs)
 some_part code c xs p n (Some s) h = let some = c.some s h.0.scalar in let within = h.0.within in (omega (arith, h.1), omega (arith, h.1))
 some_part code c xs p n None h = (h.some, h.within)
 
@@ -120,7 +120,7 @@ one_list code c xs i (x ∷ ps) (y ∷ qs) a f b g =
 pub parts_show_one : (code : ℕ → List ℕ) → IsCode code → (xs ss ts : List ℕ) → ShowsParts code xs ss → ShowsParts code xs ts → ss ≡ ts
 parts_show_one code c xs ss ts (ps, a, e) (qs, b, f) = e ∙ ap (map shown) (one_list code c xs 0 ps qs a.each a.follow b.each b.follow) ∙ sym f
 
--- Whether some elements are the front of a code, which is asked of each scalar.
+-- Whether some elements are the front of a code, which is tested for each scalar.
 
 below : (P : ℕ → Type 0) → ((k : ℕ) → P k ⊎ (P k → ⊥)) → (n : ℕ) → ((k : ℕ) × P k) ⊎ ((k : ℕ) → k < n → P k → ⊥)
 below P decide zero = inr (λ k lt h. absurd (omega arith))
@@ -158,7 +158,7 @@ is_scalar s =
     (λ (above : 0x11_0000 ≤ s). inr (λ h. let lt = h.below in omega arith))
     (cases_lt s 0x11_0000)
 
--- the code of this scalar begins so
+-- the code of this scalar begins with these elements
 record Fronts (code : ℕ → List ℕ) (w : List ℕ) (s : ℕ) : Type 0 where
   pub scalar : IsScalar s
   pub within : length w ≤ length (code s)
@@ -183,7 +183,7 @@ is_front code w =
     (λ (none : (s : ℕ) → s < 0x11_0000 → Fronts code w s → ⊥). inr (λ f. none f.char f.scalar.below (record { scalar = f.scalar; within = f.within; front = f.front })))
     (below (Fronts code w) (fronts code w) 0x11_0000)
 
--- So there is a maximal subpart where no code begins.
+-- There is a maximal subpart if no code begins.
 
 -- the largest number up to n that has the property, or 1
 record Largest (P : ℕ → Type 0) (n m : ℕ) : Type 0 where
@@ -218,7 +218,7 @@ some_subpart code xs p h =
     let within = l.1.within in
     (l.0, record { offset = h; some = l.1.some; within = omega arith; front = l.1.has; longest = λ k fits f. l.1.most k (omega arith) f })
 
--- And so there is a list of parts.
+-- Each list has a list of parts.
 
 record PartsFrom (code : ℕ → List ℕ) (xs : List ℕ) (i : ℕ) : Type 0 where
   pub parts : List Piece

@@ -1,4 +1,4 @@
--- Where codes stand: at one place one code at most, and none begins inside another.
+-- The offsets of codes: at most one code is at an offset, and none begins inside another.
 use Rattle.std.proofs.Common.{◌≡◌, ℕ, ◌+◌, ◌-◌, ◌<◌, ◌≤◌, List, [], ◌++◌, length, get_or, drop, arith, refl, ap, sym, ◌∙◌, ⊎_elim, length-append}
 use Rattle.std.proofs.lemmas.Grind.{common_steps}
 use Rattle.std.proofs.lemmas.List.{get_or-drop, get_or-take, drop-take, drop-drop, take-take, take_at, append-nil}
@@ -27,7 +27,7 @@ not_inside code c xs p s h i =
     let inner = Stands-at code xs i.from i.char (p - i.from) p (omega arith) i.stands (omega arith) in
     c.apart i.char s (p - i.from) i.stands.scalar h.scalar (omega arith) (omega arith) (sym inner ∙ first)
 
--- at most one code stands at a place
+-- at most one code is at an offset
 pub same_char : (code : ℕ → List ℕ) → IsCode code → (xs : List ℕ) (p s t : ℕ) → Stands code xs p s → Stands code xs p t → s ≡ t
 same_char code c xs p s t h g =
     let of_s = Stands-at code xs p s 0 p (omega arith) h (c.some s h.scalar) in
@@ -54,11 +54,11 @@ outside_after code c xs p s h i =
     let same : p ≡ i.from → length (code s) ≡ length (code i.char) = λ e. ap (λ n. length (code n)) ((codes_never_overlap code c xs p i.from s i.char h i.stands).0 e) in
     grind arith
 
--- no code lies over the end of a list
+-- no code covers the end of a list
 pub outside_end : (code : ℕ → List ℕ) (xs : List ℕ) → Inside code xs (length xs) → ⊥
 outside_end code xs i = let within = i.stands.within in let ends = i.ends in omega arith
 
--- none lies over its front
+-- no code covers the front of a list
 pub outside_front : (code : ℕ → List ℕ) (xs : List ℕ) → Inside code xs 0 → ⊥
 outside_front code xs i = let begins = i.begins in omega arith
 
@@ -71,7 +71,7 @@ range_of_range xs i j p n h =
     let le : n ≤ j - i - p = omega arith in
     rw (of_part, of_whole, m, drop-take, drop-drop) (take-take n (j - i - p) (drop (i + p) xs) le)
 
--- what stands in a list stands in a part of it that holds it whole
+-- a code in a list is in a part of it that holds all of the code
 pub stands_in_part : (code : ℕ → List ℕ) (xs : List ℕ) (i j p q s : ℕ) → i + p ≡ q → j ≤ length xs → Stands code xs q s → q + length (code s) ≤ j
     → Stands code (slice_range xs i j) p s
 stands_in_part code xs i j p q s e le h fits = record {
@@ -80,7 +80,7 @@ stands_in_part code xs i j p q s e le h fits = record {
   equal = range_of_range xs i j p (length (code s)) (omega arith) ∙ ap (λ k. slice_range xs k (k + length (code s))) e ∙ h.equal;
 }
 
--- what stands in a part of a list stands in the list, and ends in the part
+-- a code in a part of a list is in the list, and ends in the part
 pub stands_in_whole : (code : ℕ → List ℕ) (xs : List ℕ) (i j p q s : ℕ) → i + p ≡ q → i ≤ j → j ≤ length xs → Stands code (slice_range xs i j) p s
     → Stands code xs q s × (q + length (code s) ≤ j)
 stands_in_whole code xs i j p q s e lo le h =
@@ -94,7 +94,7 @@ stands_in_whole code xs i j p q s e lo le h =
       omega arith,
     )
 
--- a code stands at the front of what begins with it
+-- a code is at the front of a list that begins with it
 pub stands_first : (code : ℕ → List ℕ) (xs ys : List ℕ) (s : ℕ) → IsScalar s → xs ≡ code s ++ ys → Stands code xs 0 s
 stands_first code xs ys s h e =
     let span : 0 + length (code s) - 0 ≡ length (code s) = omega arith in
@@ -104,6 +104,6 @@ stands_first code xs ys s h e =
       equal = rw e (rw span (take_at (code s) ys _ refl));
     }
 
--- and at the front of itself
+-- a code is at the front of itself
 pub stands_alone : (code : ℕ → List ℕ) (xs : List ℕ) → (h : IsOneCode code xs) → Stands code xs 0 h.0
 stands_alone code xs h = stands_first code xs [] h.0 h.1 (h.2 ∙ sym (append-nil (code h.0)))

@@ -15,7 +15,7 @@ pub utf8_is_std : (s : ℕ) → encode_utf8 s ≡ utf8 s
 unfolding utf8 encode_utf8
 utf8_is_std s = refl
 
--- of a list of scalars, too
+-- the codes of a list of scalars are std's too
 pub encodes_are_codes : (cs : List ℕ) → encode_utf8_all cs ≡ flat_map utf8 cs
 encodes_are_codes [] = refl
 encodes_are_codes (c ∷ cs) = rw (encodes_are_codes cs, utf8_is_std c) refl

@@ -13,13 +13,13 @@ use Rattle.utf_base.proofs.Standing.{Stands-at, outside_after, outside_end, outs
 -- No code begins within a maximal subpart.
 
 -- an element of the front of a code is that element of the code
-element_of_front : (w ys : List ℕ) (k : ℕ) → k < length w → take (length w) ys ≡ w → get_or w k 0 ≡ get_or ys k 0
+pub element_of_front : (w ys : List ℕ) (k : ℕ) → k < length w → take (length w) ys ≡ w → get_or w k 0 ≡ get_or ys k 0
 element_of_front w ys k lt e = grind (arith, common_steps)
 
-element_of_range : (xs : List ℕ) (p m k : ℕ) → k < m → p + m ≤ length xs → get_or (slice_range xs p (p + m)) k 0 ≡ get_or xs (p + k) 0
+pub element_of_range : (xs : List ℕ) (p m k : ℕ) → k < m → p + m ≤ length xs → get_or (slice_range xs p (p + m)) k 0 ≡ get_or xs (p + k) 0
 element_of_range xs p m k lt le = grind (arith, common_steps)
 
-length_of_range : (xs : List ℕ) (p m : ℕ) → p + m ≤ length xs → length (slice_range xs p (p + m)) ≡ m
+pub length_of_range : (xs : List ℕ) (p m : ℕ) → p + m ≤ length xs → length (slice_range xs p (p + m)) ≡ m
 length_of_range xs p m le = grind (arith, common_steps)
 
 none_within : (code : ℕ → List ℕ) → IsCode code → (xs : List ℕ) (p m k s : ℕ) → IsMaximalSubpart code xs p m → k < m → Stands code xs (p + k) s → ⊥
@@ -34,7 +34,7 @@ none_within code c xs p m (suc k) s h lt stands =
     let first_is = Stands-at code xs (p + suc k) s 0 (p + suc k) (omega arith) stands (c.some s stands.scalar) in
     c.apart f.char s (suc k) f.scalar stands.scalar (omega arith) (omega arith) (sym of_code ∙ of_list ∙ first_is)
 
--- A place at which no code begins, and over which none lies, is a fault.
+-- An offset at which no code begins, and that none covers, is a fault.
 
 fault_here : (code : ℕ → List ℕ) (xs : List ℕ) (i : ℕ) → (Inside code xs i → ⊥) → i < length xs → ((s : ℕ) → Stands code xs i s → ⊥)
     → IsPiece code xs (fault_at i) × (Inside code xs (i + 1) → ⊥)
@@ -42,7 +42,7 @@ fault_here code xs i outside lt none =
     front_fault code xs i (length xs) outside (outside_end code xs) lt (omega arith)
     (λ s h. none s (stands_in_whole code xs i (length xs) 0 i s (omega arith) (omega arith) (omega arith) h).0)
 
--- a part of the list has its cut, and no code lies over its end
+-- a part of the list has its cut, and no code covers its end
 record Cuts (code : ℕ → List ℕ) (xs : List ℕ) (i j : ℕ) (ps : List Piece) : Type 0 where
   pub cut : IsCutBetween code xs i j ps
   pub outside : Inside code xs j → ⊥

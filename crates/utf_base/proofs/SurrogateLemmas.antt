@@ -1,4 +1,4 @@
--- The steps of RFC 2781 make the units of a scalar, and find it again.
+-- The steps of RFC 2781 make the units of a scalar, and recover it.
 use Rattle.std.proofs.Common.{◌≡◌, ℕ, ◌+◌, ◌-◌, ◌/◌, ◌%◌, ◌<◌, ◌≤◌, ⊎_elim, List, [], ◌∷◌, length, ap, sym, ◌∙◌, arith, Some, None}
 use Rattle.std.proofs.lemmas.Grind.{common_steps}
 use Rattle.std.proofs.lemmas.Bool.{cases_lt}
@@ -43,7 +43,8 @@ once s units e =
 pub units_are_encoded : UnitsAreEncoded
 units_are_encoded = record { code = encoded; once = once }
 
--- The steps backward find a fault exactly where a slice of units has one, and else the scalar of its first code.
+-- The decoding steps find a fault if and only if a slice of units has one, and otherwise the scalar of its
+-- first code.
 
 value_of_decoded : (w : List ℕ) (s : ℕ) → 0 < length w → decoded_by_steps w ≡ Some s → (slice_fault w ≡ None) × (unit_value w ≡ s)
 unfolding decoded_by_steps slice_fault unit_value

@@ -27,7 +27,7 @@ classes = refl
 pub class_at : (b d : ℕ) → b < 256 → get_or CLASSES b d ≡ class b
 class_at b d lt = ap (λ xs. get_or xs b d) classes ∙ values-at class 0 256 b b [] d (omega arith) lt
 
--- The whole table of steps, computed row by row. The last four places of a row have no class.
+-- The whole table of steps, computed row by row. The last four entries of a row have no class.
 abbrev unused : List State
 unused = Interrupted ∷ Interrupted ∷ Interrupted ∷ Interrupted ∷ []
 
@@ -38,7 +38,7 @@ row_at _ r d = search rules
 pub step_at : (state : State) → is_running state ≡ true → (c : ℕ) → c < 12 → (d : List State) (e : State) → get_or (get_or STEPS (row state) d) c e ≡ next_state state c
 step_at state running c lt d e = ap (λ xs. get_or xs c e) (row_at state running d) ∙ values-at (next_state state) 0 12 c c unused e (omega arith) lt
 
--- In which range a first byte lies, by the state after it.
+-- The range of a first byte, by the state after it.
 abbrev pub Begins : ℕ → State → Type 0
 Begins b Done = b < 0x80
 Begins b Unexpected = (0x80 ≤ b) × (b < 0xC0)

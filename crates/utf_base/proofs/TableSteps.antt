@@ -1,4 +1,5 @@
--- A walk over the table tells the kind of the bytes: step by step, what is known of them by the state that is reached.
+-- A walk over the table determines the kind of the bytes: what each state that is reached implies for them, step by
+-- step.
 use Rattle.std.proofs.Common.{◌≡◌, ℕ, zero, suc, ◌+◌, ◌-◌, ◌*◌, ◌<◌, ◌≤◌, ◌⊎◌, inl, inr, ⊎_elim, List, [], ◌∷◌, length, get_or, arith, refl, subst, sym, ◌∙◌, ◌==◌, if◌then◌else◌, ap, Some, None, Bool, true, false, lit<}
 use Rattle.std.proofs.lemmas.Grind.{common_steps}
 use Rattle.std.proofs.lemmas.Bool.{cases_lt}
@@ -17,11 +18,11 @@ use Rattle.utf_base.proofs.TableLemmas.{Begins, begins}
 abbrev Continues : List ℕ → ℕ → Type 0
 Continues w j = (0x80 ≤ get_or w j 0) × (get_or w j 0 < 0xC0)
 
--- those in front of k are, but for the first
+-- the bytes before k are continuation bytes, except for the first
 abbrev ContinueTo : List ℕ → ℕ → Type 0
 ContinueTo w k = (j : ℕ) → 0 < j → j < k → Continues w j
 
--- What the value is, by the kind that it leads to.
+-- The range of the value, by the kind that it leads to.
 
 abbrev IsGood : List ℕ → Type 0
 IsGood w = (least_value (asked_by w) ≤ value w) × IsScalar (value w)
@@ -35,7 +36,7 @@ IsReserved w = (least_value (asked_by w) ≤ value w) × (0xD800 ≤ value w) ×
 abbrev IsTooHigh : List ℕ → Type 0
 IsTooHigh w = (least_value (asked_by w) ≤ value w) × (0x11_0000 ≤ value w)
 
--- what a running state tells of the value, or of the byte in front of it where the next one decides
+-- what a running state implies for the value, or for the previous byte if the next one decides
 abbrev Leads : List ℕ → State → Type 0
 Leads w AfterE0 = get_or w 0 0 ≡ 0xE0
 Leads w AfterEd = get_or w 0 0 ≡ 0xED
@@ -55,7 +56,7 @@ pub record Runs (w : List ℕ) (k : ℕ) (state : State) : Type 0 where
   pub before : ContinueTo w k
   pub leads : Leads w state
 
--- k bytes led to the state; an end tells the kind
+-- k bytes led to the state; an end state determines the kind
 abbrev pub Reached : List ℕ → ℕ → State → Type 0
 Reached w k Start = k ≡ 0
 Reached w k Done = merger_kind w ≡ None
@@ -67,7 +68,7 @@ Reached w k Reserved = merger_kind w ≡ fault_of Reserved
 Reached w k TooHigh = merger_kind w ≡ fault_of TooHigh
 Reached w k running = Runs w k running
 
--- A byte that does not continue breaks the code, whatever else follows.
+-- A byte that does not continue breaks the code, whatever follows.
 
 breaks : (w : List ℕ) (k : ℕ) → 0 < k → k < asked_by w → k < length w → is_continuation (get_or w k 0) ≡ false → is_broken w ≡ true
 breaks w zero some asks there e = absurd (omega arith)
@@ -91,7 +92,7 @@ runs_on w k state next r here less leads =
     let asks = r.asks in
     record { some = omega arith; asks = omega arith; before = continued_to w k r.before here; leads = leads }
 
--- The last one: all that the first byte asks for are there, and the value decides.
+-- The last byte: all bytes that the first asks for are there, and the value decides.
 
 follows : (w : List ℕ) (k : ℕ) → ContinueTo w (asked_by w) → 0 < k → continues_at w k ≡ true
 follows w k all some =
@@ -132,7 +133,7 @@ reserved w e h = enough_kind w e.enough ∙ kind-surrogate w _ _ e.sums h.0 h.1 
 too_high : (w : List ℕ) → Ends w → IsTooHigh w → merger_kind w ≡ Some TooHighCodepoint
 too_high w e h = enough_kind w e.enough ∙ kind-too_high w _ _ e.sums h.0 h.1
 
--- Where a byte lies, and the state after it, where it is not the first.
+-- The range of a byte, and the state after it, if it is not the first.
 
 outside : (one two three : State) (b : ℕ) → (b < 0x80) ⊎ (0xC0 ≤ b) → continued one two three (class b) ≡ Interrupted
 unfolding class
@@ -164,7 +165,8 @@ by_continuation_byte P one two three b out low middle high =
     (λ (l3 : 0xC0 ≤ b). rw (outside one two three b (inr l3)) (out (inr l3)))
     (cases_lt b 0xC0)) (cases_lt b 0xA0)) (cases_lt b 0x90)) (cases_lt b 0x80)
 
--- the same where a byte below 0xa0 leads to one state and the others to another, and where 0x90 parts them
+-- the state after a byte, if bytes below 0xa0 lead to one state and the others to another, or if 0x90
+-- separates them
 at_a0 : (P : State → Type 0) (low high : State) (b : ℕ) → ((b < 0x80) ⊎ (0xC0 ≤ b) → P Interrupted) → ((0x80 ≤ b) × (b < 0xC0) → b < 0xA0 → P low)
     → ((0x80 ≤ b) × (b < 0xC0) → 0xA0 ≤ b → P high) → P (continued low low high (class b))
 at_a0 P low high b out below above =
@@ -185,7 +187,8 @@ two_are_good w low high all =
     let least = least_value-below_3 (asked_by w) (omega arith) in
     (omega arith, record { below = omega arith; no_surrogate = λ h. absurd (omega arith) })
 
--- what three bytes that continue tell, and four: their value, by the second byte, which is at k, and the least one of so many
+-- what three continuation bytes imply, and four: their value, by the second byte, which is at k, and the least value
+-- of that length
 record OfThree (w : List ℕ) (k : ℕ) : Type 0 where
   sum : value w ≡ (get_or w 0 0 - 0xE0) * 4096 + (get_or w k 0 - 0x80) * 64 + (get_or w 2 0 - 0x80)
   second : Continues w k
@@ -303,7 +306,7 @@ pub reached : (w : List ℕ) (k : ℕ) → k ≤ length w → Reached w k (state
 reached w zero le = refl
 reached w (suc k) le = next w k (state_after w k) (omega arith) (reached w k (omega arith))
 
--- The first end that is reached tells the kind.
+-- The first end state that is reached determines the kind.
 
 end_tells : (w : List ℕ) (k : ℕ) (state : State) → is_running state ≡ false → Reached w k state → merger_kind w ≡ fault_of state
 end_tells w k Start e r = cc
@@ -312,7 +315,7 @@ end_tells w k _ e r = cc
 pub kind_at_end : (w : List ℕ) (k : ℕ) → k ≤ length w → is_running (state_after w k) ≡ false → merger_kind w ≡ fault_of (state_after w k)
 kind_at_end w k le e = end_tells w k (state_after w k) e (reached w k le)
 
--- All bytes together tell it in any state: a running one asks for more.
+-- All bytes together determine the kind in any state: a running one asks for more.
 
 unbroken : (w : List ℕ) → ContinueTo w (length w) → is_broken w ≡ false
 unbroken w all = rw (no_break w 1 (lit< tt) all, no_break w 2 (lit< tt) all, no_break w 3 (lit< tt) all) refl
@@ -341,7 +344,7 @@ all_tell w _ r = too_few w _ (lit< tt) r
 pub kind_of_all : (w : List ℕ) → merger_kind w ≡ fault_of (state_after w (length w))
 kind_of_all w = all_tell w _ (reached w (length w) (omega arith))
 
--- the forward kind, where all bytes are there that the first asks for
+-- the forward kind, if all bytes are there that the first asks for
 pub fault_at_end : (w : List ℕ) (k : ℕ) (state : State) → k ≤ length w → asked_by w ≤ length w → state_after w k ≡ state → is_running state ≡ false → fault_kind w ≡ fault_of state
 fault_at_end w k state le enough e end = sym (enough_kind w enough) ∙ kind_at_end w k le (ap is_running e ∙ end) ∙ ap fault_of e
 
@@ -357,7 +360,7 @@ runs_after w k Reserved some e r = cc
 runs_after w k TooHigh some e r = cc
 runs_after w k _ some e r = (r, lit< tt, refl)
 
--- So the first asks for more than these.
+-- The first byte asks for more than the bytes that led to a running state.
 pub asks_on : (w : List ℕ) (k : ℕ) (state : State) → 0 < k → k ≤ length w → state ≡ state_after w k → is_running state ≡ true → (k < asked_by w) × (asked_by w ≡ k + missing state)
 asks_on w k state some le at runs =
     let r = runs_after w k (state_after w k) some (sym (ap is_running at) ∙ runs) (reached w k le) in
@@ -381,7 +384,8 @@ asks_no_other b end at stops =
 pub stepped : (w : List ℕ) (k c : ℕ) (state next : State) → next ≡ next_state state c → c ≡ class (get_or w k 0) → state ≡ state_after w k → next ≡ state_after w (suc k)
 stepped w k c state next h e f = h ∙ ap (next_state state) e ∙ ap (λ (x : State). next_state x (class (get_or w k 0))) f
 
--- What a walk needs from step to step: a state that asks for a byte is running, and each byte that continues is one less.
+-- The invariant of a walk: a state that asks for a byte is running, and each byte that continues leaves one less to
+-- ask for.
 
 pub asks_runs : (state : State) → 0 < missing state → is_running state ≡ true
 asks_runs Start more = absurd (omega arith)
@@ -425,7 +429,8 @@ last_ends OneMoreReserved c e = by_continued (λ next. is_running next ≡ false
 last_ends OneMoreTooHigh c e = by_continued (λ next. is_running next ≡ false) TooHigh TooHigh TooHigh c refl refl refl refl
 last_ends _ c e = absurd (omega arith)
 
--- an end that a running state leads to, and not that of a code, is a fault of more than the first byte
+-- an end state after a running state, other than that of a code, is a fault that the first byte does not
+-- decide
 pub faults_later : (state : State) (c : ℕ) → 0 < missing state → is_running (next_state state c) ≡ false → (next_state state c ≡ Done → ⊥) → is_later_fault (next_state state c) ≡ true
 unfolding next_state
 faults_later Start c more = absurd (omega arith)
@@ -477,7 +482,7 @@ first-3 b low high = let asks = begun_asks (next_state Start (class b)) low (ome
 pub first-4 : (b : ℕ) → 0xF0 ≤ b → b < 0xF5 → missing (next_state Start (class b)) ≡ 3
 first-4 b low high = let asks = begun_asks (next_state Start (class b)) (omega arith) high (begins b) in omega (arith, asked-4 b low high)
 
--- the other way round: a first byte that leads to an end, and not that of a code, begins none
+-- a first byte that leads to an end state other than that of a code begins no code
 pub faults_first : (b : ℕ) (end : State) → end ≡ next_state Start (class b) → is_running end ≡ false → (end ≡ Done → ⊥) → is_first_fault end ≡ true
 faults_first b end e stops other = by_begins b end (subst (λ (s : State). Begins b s) (sym e) (begins b)) stops other
   where

@@ -1,4 +1,5 @@
--- The code that ends some units, a unit that is no surrogate or a pair, and what the last unit tells where none does.
+-- The code that ends some units, a unit that is no surrogate or a pair, and what the last unit implies if
+-- none does.
 use Rattle.std.proofs.Common.{◌≡◌, ℕ, ◌+◌, ◌-◌, ◌<◌, ◌≤◌, ◌⊎◌, inl, inr, ⊎_elim, List, [], ◌∷◌, length, get_or, arith, refl, ap, sym, ◌∙◌, true, false, Bool, Some, None, Result, Ok, Err, Option, eqb}
 use Rattle.std.proofs.lemmas.Grind.{common_steps}
 use Rattle.std.proofs.lemmas.Bool.{cases_Bool, cases_lt}
@@ -26,18 +27,18 @@ at_last w n k le lt = grind (arith, common_steps)
 count_last : (w : List ℕ) (n : ℕ) → n ≤ length w → length (slice_range w (length w - n) (length w)) ≡ n
 count_last w n le = grind (arith, common_steps)
 
--- the last unit alone
+-- the last unit
 last_alone : (w : List ℕ) → 1 ≤ length w → get_or (slice_range w (length w - 1) (length w)) 0 0 ≡ last_of w
 last_alone w some = at_last w 1 0 some (omega arith) ∙ ap (λ i. get_or w i 0) (omega arith)
 
--- the last two
+-- the last two units
 first_of_two : (w : List ℕ) → 2 ≤ length w → get_or (slice_range w (length w - 2) (length w)) 0 0 ≡ second_last_of w
 first_of_two w two = at_last w 2 0 two (omega arith) ∙ ap (λ i. get_or w i 0) (omega arith)
 
 second_of_two : (w : List ℕ) → 2 ≤ length w → get_or (slice_range w (length w - 2) (length w)) 1 0 ≡ last_of w
 second_of_two w two = at_last w 2 1 two (omega arith) ∙ ap (λ i. get_or w i 0) (omega arith)
 
--- Where a code ends units.
+-- Units that a code ends.
 
 pub ends_with_unit : (w : List ℕ) → 0 < length w → last_of w < 0x1_0000 → is_surrogate (last_of w) ≡ false → EndsWith utf16 w (last_of w) 1
 ends_with_unit w some fits plain =
@@ -56,7 +57,7 @@ ends_with_pair w two leading trailing =
     let begins = begins_with_pair (slice_range w (length w - 2) (length w)) (omega arith) (rw first leading) (rw second trailing) in
     ends_by_last utf16 w (pair_value (second_last_of w) (last_of w)) 2 (rw (first, second) at begins)
 
--- And nowhere else.
+-- No code ends units in another way.
 
 record EndsAsUnit (w : List ℕ) (s n : ℕ) : Type 0 where
   pub unit : last_of w ≡ s
@@ -109,7 +110,7 @@ no_units_end w surrogate alone s n h =
 pub no_units_end_empty : (w : List ℕ) → length w ≡ 0 → NoCodeEnds utf16 w
 no_units_end_empty w e = no_code_ends-empty utf16 utf16_is_code w e
 
--- What tests tell of units that no code ends.
+-- The results of tests for units that no code ends.
 
 surrogate_where_none : (w : List ℕ) → 0 < length w → last_of w < 0x1_0000 → NoCodeEnds utf16 w → is_surrogate (last_of w) ≡ true
 surrogate_where_none w some fits none = ⊎_elim (λ e. e) (λ e. absurd (none _ _ (ends_with_unit w some fits e))) (cases_Bool (is_surrogate (last_of w)))
@@ -126,7 +127,7 @@ no_pair_where_none w none = ⊎_elim (λ e. absurd (none _ _ (ends_with_pair w (
     trails : ends_in_pair w ≡ true → is_trailing_surrogate (last_of w) ≡ true
     trails e = grind (arith, common_steps)
 
--- The answer as a function.
+-- The code that ends the units, as a function.
 
 pub unit_end_code : (w : List ℕ) (s n : ℕ) → EndsWith utf16 w s n → unit_end w ≡ Some (s, n)
 unfolding unit_end

@@ -39,7 +39,7 @@ pub fault_of_empty : (w : List ℕ) → length w ≡ 0 → slice_fault w ≡ Som
 unfolding slice_fault
 fault_of_empty w e = rw e refl
 
--- no unit is so large
+-- no unit is that large
 no_large_unit : (w : List ℕ) (s : ℕ) → 0x1_0000 ≤ get_or w 0 0 → Stands utf16 w 0 s → ⊥
 no_large_unit w s large h =
     ⊎_elim
@@ -75,7 +75,7 @@ no_fault_where_units w s h =
 abbrev IsPair : List ℕ → Type 0
 IsPair w = (2 ≤ length w) × (is_leading_surrogate (get_or w 0 0) ≡ true) × (is_trailing_surrogate (get_or w 1 0) ≡ true)
 
--- a plain unit begins them, a pair does, or they have a fault
+-- a unit that is no surrogate begins the units, a pair does, or they have a fault
 abbrev FrontOfUnits : List ℕ → Type 0
 FrontOfUnits w = (is_surrogate (get_or w 0 0) ≡ false) ⊎ (IsPair w ⊎ ((k : Utf16SliceError) × (slice_fault w ≡ Some k)))
 

@@ -1,4 +1,4 @@
--- What the code of a scalar in UTF-16 is, and which units begin one.
+-- The code of a scalar in UTF-16, and the units that begin one.
 use Rattle.std.proofs.Common.{refl, ◌≡◌, ℕ, ◌+◌, ◌-◌, ◌/◌, ◌%◌, ◌<◌, ◌≤◌, ◌⊎◌, inl, inr, ⊎_elim, List, [], ◌∷◌, length, get_or, arith, ap, ap₂, sym, ◌∙◌, lit<, true, false}
 use Rattle.std.proofs.lemmas.Grind.{common_steps}
 use Rattle.std.proofs.lemmas.Bool.{cases_lt}
@@ -23,11 +23,11 @@ unfolding utf16
 length_utf16 s = grind (arith, common_steps)
 
 -- a unit after the first is a trailing surrogate
-utf16-trailing_surrogate : (s k : ℕ) → IsScalar s → 0 < k → k < length (utf16 s) → (0xDC00 ≤ get_or (utf16 s) k 0) × (get_or (utf16 s) k 0 < 0xE000)
+pub utf16-trailing_surrogate : (s k : ℕ) → IsScalar s → 0 < k → k < length (utf16 s) → (0xDC00 ≤ get_or (utf16 s) k 0) × (get_or (utf16 s) k 0 < 0xE000)
 unfolding utf16
 utf16-trailing_surrogate s k h p q = grind (arith, common_steps)
 
--- the first is none
+-- the first unit is not
 utf16-first : (s : ℕ) → IsScalar s → (get_or (utf16 s) 0 0 < 0xDC00) ⊎ (0xE000 ≤ get_or (utf16 s) 0 0)
 unfolding utf16
 utf16-first s h = grind (arith, common_steps)
@@ -36,7 +36,7 @@ pub utf16_is_code : IsCode utf16
 unfolding utf16
 utf16_is_code = record { some = λ s h. grind (arith, common_steps); apart = λ s t k h g p q e. grind (arith, common_steps, utf16-trailing_surrogate s k h p q, utf16-first t g); sized = λ s t h g e. grind (arith, common_steps); injective = λ s t h g e. grind (arith, common_steps) }
 
--- A unit that is no surrogate stands for itself.
+-- A unit that is no surrogate represents itself.
 
 pub scalar_unit : (u : ℕ) → u < 0x1_0000 → is_surrogate u ≡ false → IsScalar u
 scalar_unit u fits none = record { below = omega arith; no_surrogate = λ g. grind (arith, common_steps) }
@@ -82,7 +82,7 @@ begins_with_pair w two leading trailing =
       sym len,
     )
 
--- What it means that a code stands at the front of units.
+-- A code at the front of units: one unit, or a pair.
 pub record StandsAsUnit (w : List ℕ) (s : ℕ) : Type 0 where
   pub unit : get_or w 0 0 ≡ s
   pub plain : is_surrogate (get_or w 0 0) ≡ false
@@ -114,7 +114,7 @@ stands_cases w s h =
     inr (record { two = omega arith; leading = rw e0 (grind (arith, common_steps)); trailing = rw e1 (grind (arith, common_steps)) }))
     (cases_lt s 0x1_0000)
 
--- the units of a scalar, as they are handed in one by one
+-- the units of a scalar, as arguments one by one
 pub unit_is_code : (u : ℕ) → u < 0x1_0000 → is_surrogate u ≡ false → IsScalar u × (u ∷ [] ≡ utf16 u)
 unit_is_code u fits none = (scalar_unit u fits none, sym (utf16-1 u fits))
 

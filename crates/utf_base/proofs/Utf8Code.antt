@@ -1,4 +1,4 @@
--- What the code of a scalar in UTF-8 is, length by length.
+-- The code of a scalar in UTF-8, length by length.
 use Rattle.std.proofs.Common.{◌≡◌, ℕ, ◌+◌, ◌/◌, ◌%◌, ◌<◌, ◌≤◌, ◌⊎◌, [], ◌∷◌, length, get_or, arith}
 use Rattle.std.proofs.lemmas.Grind.{common_steps}
 use Rattle.utf_base.specs.Scalar.{IsScalar}
@@ -29,7 +29,7 @@ pub utf8-continuation_byte : (s k : ℕ) → IsScalar s → 0 < k → k < length
 unfolding utf8
 utf8-continuation_byte s k h p q = grind (arith, common_steps)
 
--- the first byte is none
+-- the first byte is not
 pub utf8-first : (s : ℕ) → IsScalar s → (get_or (utf8 s) 0 0 < 0x80) ⊎ (0xC2 ≤ get_or (utf8 s) 0 0)
 unfolding utf8
 utf8-first s h = grind (arith, common_steps)

@@ -1,4 +1,5 @@
--- A walk gives each piece once: what it answers from the front and what from the back are two cuts, with the window between.
+-- A walk gives each piece once: its results from the front and from the end are two cuts, with the window
+-- between.
 use Rattle.std.proofs.Common.{◌≡◌, ◌≢◌, ℕ, zero, suc, ◌+◌, ◌<◌, ◌≤◌, List, [], ◌∷◌, ◌++◌, length, arith, ap, sym, subst, ◌∙◌, Option, Some, None, append_assoc}
 use Rattle.std.proofs.lemmas.List.Elements.{All-append}
 use Rattle.std.proofs.lemmas.List.Kept.{AllPairs-cons}
@@ -70,7 +71,7 @@ module _ {E : Type 0} where
       gathers_back e.code c xs i j k l (piece_of x) (answered answers) w.0.piece w.0.ends (gathers e c xs i x.0 word answers k l w.1)
   gathers e c xs i j _ _ k l w = absurd w
 
-  -- the pieces that a walk answers are within its first window
+  -- the pieces that a walk returns are within its first window
   all_within : (e : Encoding E) → IsCode e.code → (xs : List ℕ) (i j : ℕ) (word : List Side) (answers : List (Option (Placed E))) (k l : ℕ)
       → IsOpen e.code xs i j → Walks e xs i j word answers k l → All (λ p. IsPiece e.code xs p × (i ≤ p.start) × (p.start < j)) (answered answers)
   all_within e c xs i j word answers k l o w =
@@ -101,7 +102,7 @@ module _ {E : Type 0} where
       (each_once e c xs i x.0 word answers k l rest w.1)
   each_once e c xs i j _ _ k l o w = absurd w
 
-  -- where there was no piece the window is empty, and stays so
+  -- if there was no piece the window is empty, and stays so
 
   empty_stays : (e : Encoding E) (xs : List ℕ) (i j : ℕ) (word : List Side) (answers : List (Option (Placed E))) (k l : ℕ)
       → i ≡ j → Walks e xs i j word answers k l → k ≡ l

@@ -1,4 +1,4 @@
--- Each word has a walk: in each window a piece begins, and one ends, and has its answer.
+-- Each word has a walk: in each window a piece begins, and one ends, and has its result.
 use Rattle.std.proofs.Common.{◌≡◌, ℕ, suc, ◌+◌, ◌<◌, ◌≤◌, ⊎_elim, List, [], ◌∷◌, length, arith, refl, Option, Some, None, Ok, Err}
 use Rattle.std.proofs.lemmas.Bool.{cases_lt}
 use Rattle.std.specs.Prelude.{slice_range, All}
@@ -10,7 +10,7 @@ use Rattle.utf_base.proofs.Cuts.{Finds, piece_begins, cut_exists, cuts_follow}
 use Rattle.utf_base.proofs.Standing.{stands_in_whole}
 use Rattle.utf_base.proofs.Walks.{IsOpen, open_whole, open_front, open_back, piece_over}
 
--- A piece ends at each place that lies inside no standing code.
+-- A piece ends at each offset that lies inside no standing code.
 
 piece_at_end : (code : ℕ → List ℕ) (xs : List ℕ) (ps : List Piece) (i m j : ℕ) → All (IsPiece code xs) ps → Follow i ps m → i < j → j ≤ m
     → (x : Piece) × IsPiece code xs x × (x.start < j) × (j ≤ end_of x)
@@ -56,7 +56,7 @@ module _ {E : Type 0} where
     pub back : ℕ
     pub walks : Walks e xs i j word answers front back
 
-  -- one letter in front of a word that has a walk from wherever it begins
+  -- one letter before a word that has a walk from any window
   one_letter : (e : Encoding E) → IsCode e.code → Finds e.code → (xs : List ℕ) → HasKinds e xs → (s : Side) (word : List Side)
       → ((k l : ℕ) → IsOpen e.code xs k l → HasWalk e xs k l word) → (i j : ℕ) → IsOpen e.code xs i j → i < j → HasWalk e xs i j (s ∷ word)
   one_letter e c find xs judge from_front word rest i j o lt =

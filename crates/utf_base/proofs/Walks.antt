@@ -1,4 +1,4 @@
--- The windows of walks: their ends stay outside of codes, and they decide each answer.
+-- The windows of walks: their ends stay outside of codes, and they decide each result.
 use Rattle.std.proofs.Common.{◌≡◌, ℕ, zero, suc, ◌+◌, ◌<◌, ◌≤◌, ⊎_elim, List, [], ◌∷◌, ◌++◌, length, take, arith, refl, ap, ap₂, sym, ◌∙◌, Option, Some, None, Result, Ok, Err}
 use Rattle.std.proofs.lemmas.Bool.{cases_lt}
 use Rattle.std.specs.Prelude.{slice_range, IfErr}
@@ -11,7 +11,7 @@ use Rattle.utf_base.proofs.Cuts.{one_piece_begins, one_piece_ends}
 use Rattle.utf_base.proofs.CutChanges.{piece_ends_outside}
 use Rattle.utf_base.proofs.Standing.{not_inside, outside_end, outside_front}
 
--- A piece begins and ends outside of every code, and lies over no other such place.
+-- A piece begins and ends outside of every code, and covers no other such offset.
 
 piece_front : (code : ℕ → List ℕ) → IsCode code → (xs : List ℕ) (p n : ℕ) (a : Option ℕ) → IsPieceAt code xs p n a → Inside code xs p → ⊥
 piece_front code c xs p n (Some s) h v = not_inside code c xs p s h.0 v
@@ -35,7 +35,7 @@ pub open_whole : (code : ℕ → List ℕ) (xs : List ℕ) → IsOpen code xs 0 
 open_whole code xs = record { ordered = omega arith; within = omega arith; front = outside_front code xs; back = outside_end code xs }
 
 module _ {E : Type 0} where
-  -- One answer takes its piece off such a window and leaves one.
+  -- One result removes its piece from such a window and leaves another such window.
 
   pub open_front : (e : Encoding E) → IsCode e.code → (xs : List ℕ) (i j : ℕ) (x : Placed E) → IsOpen e.code xs i j → AnswersFront e xs i j x
       → IsOpen e.code xs (x.0 + x.2) j
@@ -105,7 +105,7 @@ module _ {E : Type 0} where
   Walks-append e xs i j (from_back ∷ word) (Some x ∷ answers) k l more others m n w v = (w.0, Walks-append e xs i x.0 word answers k l more others m n w.1 v)
   Walks-append e xs i j _ _ k l more others m n w v = absurd w
 
-  -- The window decides each answer.
+  -- The window decides each result.
 
   same_result : (r q : Result ℕ E) (k : Option E) → result_ok r ≡ result_ok q → IfErr r (λ a. k ≡ Some a) → IfErr q (λ a. k ≡ Some a) → r ≡ q
   same_result (Ok s) (Ok t) k o h g = let same : s ≡ t = cc in ap Ok same

@@ -16,8 +16,8 @@ utf16 s =
     if nat_lt s 0x1_0000 then s ∷ []
     else (0xD800 + (s - 0x1_0000) / 1024) ∷ (0xDC00 + (s - 0x1_0000) % 1024) ∷ []
 
--- What the laws of cuts need of a code: it is not empty, no element after the first is the first of a code,
--- the first element decides the length, and the whole decides the scalar.
+-- The properties of a code that the laws of cuts need: it is not empty, no element after the first is the
+-- first of a code, the first element decides the length, and the whole decides the scalar.
 pub record IsCode (code : ℕ → List ℕ) : Type 0 where
   pub some : (s : ℕ) → IsScalar s → 0 < length (code s)
   pub apart : (s t k : ℕ) → IsScalar s → IsScalar t → 0 < k → k < length (code s) → slice_index (code s) k ≡ slice_index (code t) 0 → ⊥

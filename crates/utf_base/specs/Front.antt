@@ -1,4 +1,4 @@
--- What the decoding of one character answers. `scalar` tells what scalar a character is.
+-- The result of decoding one character. `scalar` is the function from a character to its scalar.
 use Rattle.std.specs.Prelude.{◌≡◌, ℕ, ◌+◌, ◌≤◌, if◌then◌else◌, List, length, slice_index, Option, Some, Result, MatchResult}
 use Rattle.utf_base.specs.declared.errors.Utf8ErrorKind.{Utf8ErrorKind}
 use Rattle.utf_base.specs.declared.errors.Utf8ErrorKind.TheVariants.{NonUtf8Byte, UnexpectedContinuationByte}
@@ -33,37 +33,37 @@ IsFrontLen most w n = (1 ≤ n) × (n ≤ most) × (n ≤ length w)
 abbrev pub IsOneCode : (ℕ → List ℕ) → List ℕ → Type 0
 IsOneCode code xs = (s : ℕ) × IsScalar s × (xs ≡ code s)
 
--- the character whose code begins the bytes, with its length, else what is wrong with them
+-- the character whose code begins the bytes, with its length, otherwise their fault
 abbrev pub DecodesFront : {C : Type 0} → (C → ℕ) → List ℕ → Result (C × ℕ) Utf8ErrorKind → Type 0
 DecodesFront scalar w r = MatchResult r (λ x. BeginsWith utf8 w (scalar x.0) x.1) (λ e. fault_kind w ≡ Some e)
 
--- the same without the length
+-- the character whose code begins the bytes, without its length, otherwise their fault
 abbrev pub DecodesBytes : {C : Type 0} → (C → ℕ) → List ℕ → Result C Utf8ErrorKind → Type 0
 DecodesBytes scalar w r = MatchResult r (λ c. Stands utf8 w 0 (scalar c)) (λ e. fault_kind w ≡ Some e)
 
--- the character whose code begins the units, with its length, else what is wrong with them
+-- the character whose code begins the units, with its length, otherwise their fault
 abbrev pub DecodesUnits : {C : Type 0} → (C → ℕ) → List ℕ → Result (C × ℕ) Utf16SliceError → Type 0
 DecodesUnits scalar w r = MatchResult r (λ x. BeginsWith utf16 w (scalar x.0) x.1) (λ e. slice_fault w ≡ Some e)
 
--- the character whose code begins the two units, else what is wrong with them
+-- the character whose code begins the two units, otherwise their fault
 abbrev pub DecodesTwoUnits : {C : Type 0} → (C → ℕ) → List ℕ → Result C Utf16ArrayError → Type 0
 DecodesTwoUnits scalar w r =
     MatchResult r
     (λ c. Stands utf16 w 0 (scalar c))
     (λ e. array_fault (slice_index w 0) (slice_index w 1) ≡ Some e)
 
--- the character whose code the one or two units are, else what is wrong with them
+-- the character whose code the one or two units are, otherwise their fault
 abbrev pub DecodesTuple : {C : Type 0} → (C → ℕ) → ℕ × Option ℕ → Result C Utf16TupleError → Type 0
 DecodesTuple scalar t r =
     MatchResult r
     (λ c. IsScalar (scalar c) × (units_of_pair t.0 t.1 ≡ utf16 (scalar c)))
     (λ e. tuple_fault t.0 t.1 ≡ Some e)
 
--- the character that the number is, else why it is none
+-- the character that the number is, otherwise why it is none
 abbrev pub DecodesNumber : {C : Type 0} → (C → ℕ) → ℕ → Result C CodepointError → Type 0
 DecodesNumber scalar n r = MatchResult r (λ c. IsScalar n × (scalar c ≡ n)) (λ e. number_fault n ≡ Some e)
 
--- how many bytes more than itself the byte asks for, else what is wrong with it as a first byte
+-- the number of bytes that the byte asks for after itself, otherwise its fault as a first byte
 abbrev pub AsksForMore : ℕ → Result ℕ Utf8ErrorKind → Type 0
 AsksForMore b r =
     MatchResult r

@@ -1,5 +1,5 @@
 -- The grammar of UTF-8 as RFC 3629, section 4, writes it, rule by rule. A rule is some ranges of bytes, one after
--- another: there is no arithmetic in it, and no scalar.
+-- another: it has no arithmetic, and no scalar.
 use Rattle.std.specs.Prelude.{◌≡◌, ℕ, ◌≤◌, ◌⊎◌, List, [], ◌∷◌, All}
 use Rattle.std.specs.List.{flat_map}
 
@@ -15,7 +15,7 @@ range first last = record { first = first; last = last }
 abbrev pub only : ℕ → Range
 only b = range b b
 
--- one byte of each range, in their order, and nothing else
+-- one byte of each range, in order, and nothing else
 abbrev pub AreOf : List Range → List ℕ → Type 0
 AreOf [] w = w ≡ []
 AreOf (r ∷ rs) [] = ⊥

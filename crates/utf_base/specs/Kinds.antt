@@ -1,4 +1,4 @@
--- What is wrong with bytes that no code begins (RFC 3629, sections 3 and 4).
+-- The faults of bytes that no code begins (RFC 3629, sections 3 and 4).
 use Rattle.std.specs.Prelude.{ℕ, ◌+◌, ◌-◌, ◌*◌, Bool, not, ◌&&◌, ◌||◌, nat_lt, nat_le, ◌==◌, if◌then◌else◌, List, length, slice_index, Option, Some, None}
 use Rattle.utf_base.specs.declared.errors.Utf8ErrorKind.{Utf8ErrorKind}
 use Rattle.utf_base.specs.declared.errors.Utf8ErrorKind.TheVariants.{TooFewBytes, NonUtf8Byte, UnexpectedContinuationByte, InterruptedSequence, OverlongEncoding, Utf16ReservedCodepoint, TooHighCodepoint}
@@ -7,7 +7,7 @@ use Rattle.utf_base.specs.declared.errors.Utf8ErrorKind.TheVariants.{TooFewBytes
 abbrev pub is_continuation : ℕ → Bool
 is_continuation b = nat_le 0x80 b && nat_lt b 0xC0
 
--- how many bytes a code has that begins with this byte, or 0 where no code does
+-- the length in bytes of a code that begins with this byte, or 0 if no code does
 unfoldable pub asked : ℕ → ℕ
 asked b =
     if nat_lt b 0x80 then 1
@@ -17,11 +17,11 @@ asked b =
     else if nat_lt b 0xF5 then 4
     else 0
 
--- how many bytes the first of them asks for
+-- the number of bytes that the first of them asks for
 abbrev pub asked_by : List ℕ → ℕ
 asked_by w = asked (slice_index w 0)
 
--- the bits of the continuation byte at k that encode
+-- the payload bits of the continuation byte at k
 abbrev pub payload : List ℕ → ℕ → ℕ
 payload w k = slice_index w k - 0x80
 
@@ -33,7 +33,7 @@ value w =
     else if asked_by w == 3 then (slice_index w 0 - 0xE0) * 4096 + payload w 1 * 64 + payload w 2
     else (slice_index w 0 - 0xF0) * 262144 + payload w 1 * 4096 + payload w 2 * 64 + payload w 3
 
--- the least value that needs so many bytes, where the first byte does not settle it
+-- the least value that needs n bytes, if the first byte does not guarantee it
 unfoldable pub least_value : ℕ → ℕ
 least_value n = if n == 4 then 0x1_0000 else if n == 3 then 0x800 else 0
 
@@ -45,7 +45,7 @@ continues_at w k = nat_le (asked_by w) k || is_continuation (slice_index w k)
 abbrev pub all_continue : List ℕ → Bool
 all_continue w = continues_at w 1 && continues_at w 2 && continues_at w 3
 
--- what is wrong with the value alone
+-- the fault of only the value
 abbrev pub value_fault : List ℕ → Option Utf8ErrorKind
 value_fault w =
     if nat_lt (value w) (least_value (asked_by w)) then Some OverlongEncoding
@@ -53,7 +53,7 @@ value_fault w =
     else if nat_lt 0x10_FFFF (value w) then Some TooHighCodepoint
     else None
 
--- the forward kind: the first case that applies, or `None` where a code begins the bytes
+-- the forward kind: the first case that applies, or `None` if a code begins the bytes
 unfoldable pub fault_kind : List ℕ → Option Utf8ErrorKind
 fault_kind w =
     if length w == 0 then Some TooFewBytes
@@ -75,7 +75,8 @@ is_broken w = breaks_at w 1 || breaks_at w 2 || breaks_at w 3
 unfoldable pub merger_kind : List ℕ → Option Utf8ErrorKind
 merger_kind w = if is_broken w then Some InterruptedSequence else fault_kind w
 
--- the backward kind of a byte from 0x80 on that no code ends with: what is wrong with it by itself
+-- the backward kind of a byte from 0x80 on that no code ends with: the fault of that byte as a list of its
+-- own
 unfoldable pub back_kind : ℕ → Utf8ErrorKind
 back_kind b =
     if is_continuation b then UnexpectedContinuationByte

@@ -1,15 +1,15 @@
--- Where the codes of scalars stand in a list, and the one cut of a list into them and single faulty elements.
--- All of it is generic in the code. A place is an index, counted from the front of the list.
+-- The occurrences of codes of scalars in a list, and the one cut of a list into them and single invalid
+-- elements. All of it is generic in the code. An offset is an index, counted from the front of the list.
 use Rattle.std.specs.Prelude.{◌≡◌, ℕ, ◌+◌, ◌<◌, ◌≤◌, List, length, Option, Some, None, slice_range, All, AllPairs, Contains}
 use Rattle.utf_base.specs.Scalar.{IsScalar}
 
--- the code of the scalar s stands in xs at the place p
+-- the code of the scalar s is in xs at the offset p
 pub record Stands (code : ℕ → List ℕ) (xs : List ℕ) (p s : ℕ) : Type 0 where
   pub scalar : IsScalar s
   pub within : p + length (code s) ≤ length xs
   pub equal : slice_range xs p (p + length (code s)) ≡ code s
 
--- a code that stands in xs covers the place p
+-- a code that is in xs covers the offset p
 pub record Covered (code : ℕ → List ℕ) (xs : List ℕ) (p : ℕ) : Type 0 where
   pub from : ℕ
   pub char : ℕ
@@ -17,7 +17,7 @@ pub record Covered (code : ℕ → List ℕ) (xs : List ℕ) (p : ℕ) : Type 0 
   pub begins : from ≤ p
   pub ends : p < from + length (code char)
 
--- the place p lies inside a code that stands in xs: after its first element, and before its end
+-- the offset p lies inside a code that is in xs: after its first element, and before its end
 pub record Inside (code : ℕ → List ℕ) (xs : List ℕ) (p : ℕ) : Type 0 where
   pub from : ℕ
   pub char : ℕ
@@ -25,13 +25,13 @@ pub record Inside (code : ℕ → List ℕ) (xs : List ℕ) (p : ℕ) : Type 0 w
   pub begins : from < p
   pub ends : p < from + length (code char)
 
--- where a piece begins, how many elements it has, and its scalar, or `None` for a fault
+-- the offset of a piece, the number of its elements, and its scalar, or `None` for a fault
 pub record Piece : Type 0 where
   pub start : ℕ
   pub len : ℕ
   pub char : Option ℕ
 
--- the place after a piece
+-- the offset after a piece
 abbrev pub end_of : Piece → ℕ
 end_of x = x.start + x.len
 
@@ -43,12 +43,12 @@ IsPieceAt code xs p n None = (p < length xs) × (n ≡ 1) × (¬ Covered code xs
 abbrev pub IsPiece : (ℕ → List ℕ) → List ℕ → Piece → Type 0
 IsPiece code xs x = IsPieceAt code xs x.start x.len x.char
 
--- all pieces of xs that begin from the place i on and before j, in the order of their places
+-- all pieces of xs that begin from the offset i on and before j, in the order of their offsets
 pub record IsCutBetween (code : ℕ → List ℕ) (xs : List ℕ) (i j : ℕ) (ps : List Piece) : Type 0 where
   pub pieces : All (λ x. IsPiece code xs x × (i ≤ x.start) × (x.start < j)) ps
   pub all : (x : Piece) → IsPiece code xs x → i ≤ x.start → x.start < j → Contains ps x
   pub in_order : AllPairs (λ x y. x.start < y.start) ps
 
--- all pieces of xs, in the order of their places
+-- all pieces of xs, in the order of their offsets
 abbrev pub IsCut : (ℕ → List ℕ) → List ℕ → List Piece → Type 0
 IsCut code xs = IsCutBetween code xs 0 (length xs)

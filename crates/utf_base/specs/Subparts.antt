@@ -7,7 +7,7 @@ use Rattle.utf_base.specs.Piece.{Stands, Piece, IsCut, IsPieceAt}
 use Rattle.utf_base.specs.Scalar.{IsScalar}
 use Rattle.utf_base.specs.Shown.{shown}
 
--- D93a, an unconvertible offset: no code stands at the place p
+-- D93a, an unconvertible offset: no code is at the offset p
 pub record IsUnconvertible (code : ℕ → List ℕ) (xs : List ℕ) (p : ℕ) : Type 0 where
   pub within : p < length xs
   pub none : (s : ℕ) → ¬ Stands code xs p s
@@ -32,7 +32,7 @@ abbrev pub IsPart : (ℕ → List ℕ) → List ℕ → ℕ → ℕ → Option �
 IsPart code xs p n (Some s) = Stands code xs p s × (n ≡ length (code s))
 IsPart code xs p n None = IsMaximalSubpart code xs p n
 
--- the list is such parts, one after another
+-- the list consists of such parts, one after another
 pub record IsInParts (code : ℕ → List ℕ) (xs : List ℕ) (parts : List Piece) : Type 0 where
   pub each : All (λ x. IsPart code xs x.start x.len x.char) parts
   pub follow : Follow 0 parts (length xs)
@@ -41,22 +41,22 @@ pub record IsInParts (code : ℕ → List ℕ) (xs : List ℕ) (parts : List Pie
 abbrev pub ShowsParts : (ℕ → List ℕ) → List ℕ → List ℕ → Type 0
 ShowsParts code xs ss = (parts : List Piece) × IsInParts code xs parts × (ss ≡ map shown parts)
 
--- so many faults of one element each, from the place p on
+-- n faults of one element each, from the offset p on
 abbrev pub faults_from : ℕ → ℕ → List Piece
 faults_from p zero = []
 faults_from p (suc n) = record { start = p; len = 1; char = None } ∷ faults_from (p + 1) n
 
--- a character as it is, and a maximal subpart as its single faults
+-- a character as one piece, and a maximal subpart as its single faults
 abbrev pub pieces_of : ℕ → ℕ → Option ℕ → List Piece
 pieces_of p n (Some s) = record { start = p; len = n; char = Some s } ∷ []
 pieces_of p n None = faults_from p n
 
--- each element of a maximal subpart is a fault of the cut, where no code lies over its front
+-- each element of a maximal subpart is a fault of the cut, if no code covers its front
 abbrev pub SubpartsAreFaults : (ℕ → List ℕ) → Type 0
 SubpartsAreFaults code =
     (xs : List ℕ) (p m q : ℕ) → IsPieceAt code xs p 1 None → IsMaximalSubpart code xs p m → p ≤ q → q < p + m → IsPieceAt code xs q 1 None
 
--- and a list in parts has the cut that they become
+-- a list in parts has the cut that consists of the pieces of its parts
 abbrev pub PartsBecomeTheCut : (ℕ → List ℕ) → Type 0
 PartsBecomeTheCut code =
     (xs : List ℕ) (parts : List Piece) → IsInParts code xs parts → IsCut code xs (flat_map (λ x. pieces_of x.start x.len x.char) parts)

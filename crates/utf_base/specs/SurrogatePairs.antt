@@ -1,8 +1,8 @@
--- UTF-16 as RFC 2781, section 2, writes it down, step by step. `U`, `U'`, `W1` and `W2` are the names that it uses.
+-- UTF-16 as RFC 2781, section 2, specifies it, step by step. `U`, `U'`, `W1` and `W2` are the names that it uses.
 use Rattle.std.specs.Prelude.{◌≡◌, ℕ, ◌+◌, ◌-◌, ◌*◌, ◌^◌, ◌%◌, ◌<◌, ◌≤◌, ◌&&◌, ◌||◌, not, nat_lt, nat_le, ◌==◌, if◌then◌else◌, List, [], ◌∷◌, length, slice_index, Option, Some, None}
 
--- "4) Assign the 10 high-order bits of the 20-bit U' to the 10 low-order bits of W1 and the 10 low-order bits of U' to the
--- 10 low-order bits of W2", where W1 and W2 begin as 0xD800 and 0xDC00
+-- "4) Assign the 10 high-order bits of the 20-bit U' to the 10 low-order bits of W1 and the 10 low-order bits of U'
+-- to the 10 low-order bits of W2"; W1 and W2 begin as 0xD800 and 0xDC00
 pub record IsPairOf (u' : ℕ) (units : List ℕ) : Type 0 where
   pub high : ℕ
   pub low : ℕ
@@ -17,7 +17,7 @@ pub record IsEncodedAs (u : ℕ) (units : List ℕ) : Type 0 where
   pub alone : u < 0x1_0000 → units ≡ u ∷ []
   pub paired : 0x1_0000 ≤ u → IsPairOf (u - 0x1_0000) units
 
--- section 2.2, "Decoding UTF-16", of the units that W1 begins: `None` where "the sequence is in error"
+-- section 2.2, "Decoding UTF-16", of the units that W1 begins: `None` if "the sequence is in error"
 unfoldable pub decoded_by_steps : List ℕ → Option ℕ
 decoded_by_steps w =
     -- "1) If W1 < 0xD800 or W1 > 0xDFFF, the character value U is the value of W1."

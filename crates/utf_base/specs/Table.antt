@@ -1,4 +1,4 @@
--- The table of byte classes and states by which bytes in UTF-8 are judged one by one (RFC 3629, section 4).
+-- The table of byte classes and states by which bytes in UTF-8 are decoded one by one (RFC 3629, section 4).
 use Rattle.std.specs.Prelude.{ℕ, zero, suc, Bool, true, false, nat_lt, ◌==◌, if◌then◌else◌, List, length, slice_index, Option, Some, None, ◌≡◌}
 use Rattle.utf_base.specs.declared.errors.Utf8ErrorKind.{Utf8ErrorKind}
 use Rattle.utf_base.specs.declared.errors.Utf8ErrorKind.TheVariants.{TooFewBytes, NonUtf8Byte, UnexpectedContinuationByte, InterruptedSequence, OverlongEncoding, Utf16ReservedCodepoint, TooHighCodepoint}
@@ -23,8 +23,8 @@ class b =
     else if b == 0xF4 then 11
     else 4
 
--- of each state its place among all, which is its row in the table where it has one, and how many bytes it asks for: none at
--- an end, and at the start that is not known
+-- the index of each state, which is its row in the table if it has one, and the number of bytes it asks for: none at
+-- an end, and unknown at the start
 abbrev pub place_and_missing : State → ℕ × ℕ
 place_and_missing Start = (0, 0)
 place_and_missing OneMore = (1, 1)
@@ -75,7 +75,7 @@ begun c =
 abbrev pub continued : State → State → State → ℕ → State
 continued one two three c = if c == 1 then one else if c == 2 then two else if c == 3 then three else Interrupted
 
--- the same where they lead to one state
+-- the state after one more byte, if all continuation bytes lead to one state
 abbrev pub continued_to : State → ℕ → State
 continued_to state = continued state state state
 
@@ -101,7 +101,7 @@ abbrev pub state_after : List ℕ → ℕ → State
 state_after w zero = Start
 state_after w (suc k) = next_state (state_after w k) (class (slice_index w k))
 
--- what is wrong with bytes that led to the state, where no more follow
+-- the fault of bytes that led to the state, if no more follow
 abbrev pub fault_of : State → Option Utf8ErrorKind
 fault_of Done = None
 fault_of Unexpected = Some UnexpectedContinuationByte
@@ -118,7 +118,7 @@ is_first_fault Unexpected = true
 is_first_fault Never = true
 is_first_fault state = false
 
--- an end after a first byte that asks for others, and not that of a code
+-- an end state after a first byte that asks for others, other than that of a code
 abbrev pub is_later_fault : State → Bool
 is_later_fault Interrupted = true
 is_later_fault Overlong = true
@@ -126,6 +126,6 @@ is_later_fault Reserved = true
 is_later_fault TooHigh = true
 is_later_fault state = false
 
--- the state after all of some bytes tells the merger's kind of them
+-- the state after all of some bytes determines their kind for a merger
 abbrev pub WalkTellsTheKind : Type 0
 WalkTellsTheKind = (w : List ℕ) → merger_kind w ≡ fault_of (state_after w (length w))

@@ -1,5 +1,5 @@
--- The units of UTF-16 (RFC 2781, section 2): surrogates stand for nothing by themselves, and in pairs for the scalars
--- from 0x10000 on.
+-- The units of UTF-16 (RFC 2781, section 2): a lone surrogate represents nothing, and a pair a scalar from 0x10000
+-- on.
 use Rattle.std.specs.Prelude.{◌≡◌, ℕ, ◌+◌, ◌*◌, ◌%◌, Bool, true, false, not, ◌&&◌, nat_lt, nat_le, ◌==◌, if◌then◌else◌, List, [], ◌∷◌, length, slice_index, Option, Some, None, Result, MatchResult}
 use Rattle.utf_base.specs.declared.errors.units.Utf16FirstUnitError.{Utf16FirstUnitError}
 use Rattle.utf_base.specs.declared.errors.units.Utf16SliceError.{Utf16SliceError}
@@ -25,7 +25,7 @@ is_surrogate u = nat_le 0xD800 u && nat_lt u 0xE000
 abbrev pub pair_value : ℕ → ℕ → ℕ
 pair_value u v = 0x1_0000 + u % 1024 * 1024 + v % 1024
 
--- the scalar of the pair that begins the units, or of the first by itself
+-- the scalar of the pair that begins the units, or of only the first
 unfoldable pub unit_value : List ℕ → ℕ
 unit_value w =
     if is_leading_surrogate (slice_index w 0) then pair_value (slice_index w 0) (slice_index w 1) else slice_index w 0
@@ -35,7 +35,7 @@ abbrev pub tuple_value : ℕ → Option ℕ → ℕ
 tuple_value u None = u
 tuple_value u (Some v) = pair_value u v
 
--- whether the unit begins a pair, or an error where it ends one
+-- whether the unit begins a pair, or an error if it ends one
 abbrev pub NeedsExtraUnit : ℕ → Result Bool Utf16FirstUnitError → Type 0
 NeedsExtraUnit u r =
     MatchResult r
@@ -47,13 +47,14 @@ abbrev pub units_of_pair : ℕ → Option ℕ → List ℕ
 units_of_pair u None = u ∷ []
 units_of_pair u (Some v) = u ∷ v ∷ []
 
--- two units are a code, and 0 where it has one: a unit that is no surrogate and 0, or a pair
+-- two units are a code, followed by 0 if it has one unit: a unit that is no surrogate and 0, or a pair
 abbrev pub is_padded_units : ℕ → ℕ → Bool
 is_padded_units u v = if is_leading_surrogate u then is_trailing_surrogate v else not (is_trailing_surrogate u) && v == 0
 
--- What is wrong with units that no code begins, or `None` where one does: the first case that applies.
+-- The fault of units that no code begins, or `None` if one does: the first case that applies.
 
--- by the errors of no units, of one that comes first and may not, of one that stands alone and may not, and of a second
+-- the fault of units, from the errors for no units, for a trailing surrogate at the front, for a leading one without
+-- a second unit, and for a second that does not complete the pair
 abbrev pub units_fault : {E : Type 0} → E → E → E → E → List ℕ → Option E
 units_fault empty trailing alone unmatched w =
     if length w == 0 then Some empty
@@ -66,7 +67,7 @@ units_fault empty trailing alone unmatched w =
 unfoldable pub slice_fault : List ℕ → Option Utf16SliceError
 slice_fault = units_fault slice.EmptySlice slice.FirstIsTrailingSurrogate slice.MissingSecond slice.SecondIsNotTrailingSurrogate
 
--- the same of two units, where the second may be idle
+-- the fault of two units, the second of which may be unused
 unfoldable pub array_fault : ℕ → ℕ → Option Utf16ArrayError
 array_fault u v =
     if is_trailing_surrogate u then Some array.FirstIsTrailingSurrogate
@@ -74,7 +75,7 @@ array_fault u v =
     else if not (is_trailing_surrogate v) then Some array.SecondIsNotTrailingSurrogate
     else None
 
--- the same of one or two units that have to be a code
+-- the fault of one or two units that have to be a code
 abbrev pub second_fault : ℕ → Option ℕ → Option Utf16TupleError
 second_fault u None = if is_leading_surrogate u then Some tuple.MissingSecond else None
 second_fault u (Some v) =
@@ -85,10 +86,10 @@ second_fault u (Some v) =
 abbrev pub tuple_fault : ℕ → Option ℕ → Option Utf16TupleError
 tuple_fault u second = if is_trailing_surrogate u then Some tuple.FirstIsTrailingSurrogate else second_fault u second
 
--- the forward kind of units, which a decoder of many answers
+-- the forward kind of units, which a decoder of many units returns
 unfoldable pub unit_fault_kind : List ℕ → Option Utf16PairError
 unit_fault_kind = units_fault pair.Incomplete pair.UnexpectedTrailingSurrogate pair.Incomplete pair.UnmatchedLeadingSurrogate
 
--- the backward kind of a surrogate that no code ends with: what is wrong with it by itself
+-- the backward kind of a surrogate that no code ends with: the fault of that unit as a list of its own
 unfoldable pub unit_back_kind : ℕ → Utf16PairError
 unit_back_kind u = if is_trailing_surrogate u then pair.UnexpectedTrailingSurrogate else pair.Incomplete

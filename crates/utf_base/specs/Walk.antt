@@ -1,5 +1,5 @@
--- A walk: a window of a list, at first the whole, is asked for a piece from its front or from its back, in any order.
--- It is generic in the encoding. A place is an index, counted from the front of the list.
+-- A walk: pieces are taken from the front or from the end of a window of a list, at first the whole, in any order. It
+-- is generic in the encoding. An offset is an index, counted from the front of the list.
 use Rattle.std.specs.Prelude.{◌≡◌, ℕ, ◌+◌, ◌-◌, ◌<◌, List, [], ◌∷◌, length, Option, Some, None, Result, IfErr, slice_range, slice_index, filter_map}
 use Rattle.std.specs.Option.{option_map}
 use Rattle.std.specs.Result.{result_ok}
@@ -10,7 +10,7 @@ use Rattle.utf_base.specs.Kinds.{fault_kind, back_kind}
 use Rattle.utf_base.specs.Piece.{Piece, IsPiece}
 use Rattle.utf_base.specs.Units.{unit_fault_kind, unit_back_kind}
 
--- a code, what is wrong with a list that no code begins, and what is wrong with an element that no code ends with
+-- a code, the fault of a list that no code begins, and the fault of an element that no code ends with
 pub record Encoding (E : Type 0) : Type 0 where
   pub code : ℕ → List ℕ
   pub forward : List ℕ → Option E
@@ -22,12 +22,12 @@ utf8_bytes = record { code = utf8; forward = fault_kind; backward = back_kind }
 abbrev pub utf16_units : Encoding Utf16PairError
 utf16_units = record { code = utf16; forward = unit_fault_kind; backward = unit_back_kind }
 
--- the end of the window that is asked
+-- the end of the window from which a piece is taken
 pub data Side : Type 0 where
   from_front : Side
   from_back : Side
 
--- the place of a piece, its scalar or what is wrong, and its length
+-- the offset of a piece, its scalar or fault, and its length
 abbrev pub Placed : Type 0 → Type 0
 Placed E = ℕ × Result ℕ E × ℕ
 
@@ -49,8 +49,8 @@ pub record AnswersBack {E : Type 0} (e : Encoding E) (xs : List ℕ) (i j : ℕ)
   pub ends : x.0 + x.2 ≡ j
   pub kind : IfErr x.1 (λ k. e.backward (slice_index xs (j - 1)) ≡ k)
 
--- The answers to a word, one for each letter, lead from the window from i to j to the one from k to l: each takes its
--- piece off the window, at its end, and where the window is empty there is none and nothing moves.
+-- The results for a word, one for each letter, lead from the window from i to j to the one from k to l: each removes
+-- its piece from the window, at its end, and if the window is empty there is none and nothing moves.
 abbrev pub Walks : {E : Type 0} → Encoding E → List ℕ → ℕ → ℕ → List Side → List (Option (Placed E)) → ℕ → ℕ → Type 0
 Walks e xs i j [] [] k l = (k ≡ i) × (l ≡ j)
 Walks e xs i j [] (a ∷ answers) k l = ⊥
@@ -65,6 +65,6 @@ pub record IsWalk {E : Type 0} (e : Encoding E) (xs : List ℕ) (word : List Sid
   pub back : ℕ
   pub walks : Walks e xs 0 (length xs) word answers front back
 
--- the pieces that were answered, in the order of the word
+-- the pieces that were returned, in the order of the word
 abbrev pub answered : {E : Type 0} → List (Option (Placed E)) → List Piece
 answered answers = filter_map (option_map piece_of) answers

@@ -11,7 +11,7 @@ pub record TableRow : Type 0 where
 abbrev pub scalars_from : ℕ → ℕ → List Range → TableRow
 scalars_from first last bytes = record { first = first; last = last; bytes = bytes }
 
--- The rows of the table. A range that is 80..BF there is the rule of the grammar for it.
+-- The rows of the table. A range 80..BF is written as the grammar's rule for it.
 abbrev pub ascii : TableRow
 ascii = scalars_from 0x0000 0x007F (range 0x00 0x7F ∷ [])
 

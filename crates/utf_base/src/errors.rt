@@ -1,4 +1,4 @@
-//! Why no character was decoded.
+//! Errors: why no character was decoded.
 ghost use Rattle.std.specs.Prelude.{◌≡◌, ◌↔◌, IsTrue, Some};
 ghost use Rattle.utf_base.specs.Texts.{utf8_error_text};
 
@@ -21,7 +21,7 @@ pub use units::{
 /// section 4, has the grammar of what is valid.
 #[derive(Clone, Copy, Debug, PartialEq, Eq, Drop)]
 pub enum Utf8ErrorKind {
-    /// The sequence is truncated: fewer bytes remain than its first byte needs, as where `e2 82` ends the input. Or
+    /// The sequence is truncated: fewer bytes remain than its first byte needs, as when `e2 82` ends the input. Or
     /// there is no byte at all. (A decoder gives `None` then.)
     TooFewBytes,
     /// The first byte never occurs in UTF-8: it is 0xc0, 0xc1, or above 0xf4.
@@ -42,7 +42,7 @@ pub enum Utf8ErrorKind {
 }
 
 impl Utf8ErrorKind {
-    /// Whether it is the kind of that error.
+    /// Returns true if it is the kind of that error.
     #[inline(always)]
     pub fn is_kind_of(&self, error: &Utf8Error) -> bool
         ensures { IsTrue result ↔ (self.now ≡ error.now) }
@@ -84,7 +84,7 @@ impl Utf8Error {
         self.kind
     }
 
-    /// Whether it is an error of that kind.
+    /// Returns true if it is an error of that kind.
     #[inline(always)]
     pub fn is_kind(&self, kind: Utf8ErrorKind) -> bool
         ensures { IsTrue result ↔ (self.now ≡ kind) }
@@ -92,7 +92,7 @@ impl Utf8Error {
         kind == self.kind
     }
 
-    /// What `Display` writes. It is meant for people, and names several kinds alike.
+    /// The message that `Display` writes. It is meant for people, and names several kinds alike.
     pub fn description(&self) -> &'static str
         ensures { result.now ≡ utf8_error_text self.now }
     {

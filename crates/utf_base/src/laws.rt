@@ -24,7 +24,7 @@ ghost use Rattle.utf_base.specs.Walk.{utf8_bytes, utf16_units};
 ghost use Rattle.utf_base.specs.WalkLaws.{WalkExists, WalkExistsOver, WalkIsUnique};
 ghost use Rattle.utf_base.specs.WalkLaws.{WalkStaysOutside, WalkGivesEachOnce};
 
-/// Two codes that stand in one list are the same place or share no element.
+/// Two codes that are in one list are at the same offset or share no element.
 #[tactic(auto, using(crate::proofs::Standing::codes_never_overlap, crate::proofs::Utf8Code::utf8_is_code, crate::proofs::Utf16Code::utf16_is_code))]
 pub fn codes_never_overlap()
     ensures utf8 { CodesNeverOverlap utf8 }
@@ -37,13 +37,13 @@ pub fn pieces_never_overlap()
     ensures utf16 { PiecesNeverOverlap utf16 }
 {}
 
-/// At most one piece begins at a place.
+/// At most one piece begins at an offset.
 pub fn one_piece_begins()
     ensures utf8 { OnePieceBegins utf8 }
     ensures utf16 { OnePieceBegins utf16 }
 {}
 
-/// At most one piece ends at a place.
+/// At most one piece ends at an offset.
 pub fn one_piece_ends()
     ensures utf8 { OnePieceEnds utf8 }
     ensures utf16 { OnePieceEnds utf16 }
@@ -69,7 +69,7 @@ pub fn cut_exists()
     ensures utf16 { CutExists utf16 }
 {}
 
-/// No list has two.
+/// No list has two cuts.
 pub fn cut_is_unique()
     ensures utf8 { CutIsUnique utf8 }
     ensures utf16 { CutIsUnique utf16 }
@@ -83,7 +83,7 @@ pub fn pieces_are_bounded()
     ensures utf16_longest { NoLongerPieces utf16 2 }
 {}
 
-/// A cut has no fault exactly where its list is the codes of some scalars, joined, and its pieces are then
+/// A cut has no fault if and only if its list is the codes of some scalars, joined, and its pieces are then
 /// these scalars in order.
 pub fn no_fault_in_joined_codes()
     ensures utf8 { NoFaultInJoinedCodes utf8 }
@@ -102,14 +102,14 @@ pub fn code_or_one_fault()
     ensures { CodeOrOneFault }
 {}
 
-/// The same of the kind that a merger gives.
+/// Bytes have the code of a scalar at their front, or exactly one kind that a merger gives, and never both.
 #[tactic(auto, using(crate::proofs::MergerLemmas::merger_code_or_one_fault))]
 pub fn merger_code_or_one_fault()
     ensures { MergerCodeOrOneFault }
 {}
 
-/// Bytes that no code ends have a last byte from 0x80 on, whose backward kind is what is wrong with it
-/// by itself.
+/// Bytes that no code ends have a last byte from 0x80 on, whose backward kind is the fault of that byte
+/// without the bytes before it.
 #[tactic(auto, using(crate::proofs::EndLemmas::code_or_last_byte))]
 pub fn code_or_last_byte()
     ensures { CodeOrLastByte }
@@ -127,14 +127,14 @@ pub fn units_code_or_one_kind()
     ensures { UnitsCodeOrOneKind }
 {}
 
-/// The last of some units is a character by itself where it is no surrogate, and where no code ends the
-/// units it is a surrogate, whose backward kind is what is wrong with it by itself.
+/// The last of some units is a character of its own if it is no surrogate; if no code ends the units it is a
+/// surrogate, whose backward kind is the fault of that unit without the units before it.
 #[tactic(auto, using(crate::proofs::UnitEnds::units_code_or_last_unit))]
 pub fn units_code_or_last_unit()
     ensures { UnitsCodeOrLastUnit }
 {}
 
-/// The forward kind depends on the first four bytes alone, on fewer where there are fewer, and so does the
+/// The forward kind depends only on the first four bytes, or on fewer if there are fewer, and so does the
 /// kind that a merger gives.
 #[tactic(auto, using(crate::proofs::KindLemmas::four_bytes_decide, crate::proofs::MergerLemmas::four_bytes_decide_merger))]
 pub fn four_bytes_decide()
@@ -142,30 +142,30 @@ pub fn four_bytes_decide()
     ensures merger { FourBytesDecideMerger }
 {}
 
-/// A merger gives the forward kind, but where fewer bytes are left than the first asks for and one that is
-/// there is no continuation byte: then the forward kind is `TooFewBytes`, the merger's is
-/// `InterruptedSequence`, and at most three bytes are left.
+/// A merger gives the forward kind, unless fewer bytes are left than the first asks for and one of them is no
+/// continuation byte: then the forward kind is `TooFewBytes`, the merger's is `InterruptedSequence`, and at
+/// most three bytes are left.
 #[tactic(auto, using(crate::proofs::MergerLemmas::kinds_differ))]
 pub fn kinds_differ()
     ensures { KindsDiffer }
 {}
 
-/// The forward kind of units depends on the first two alone, on one where there is one.
+/// The forward kind of units depends only on the first two, or on one if there is one.
 #[tactic(auto, using(crate::proofs::UnitLemmas::two_units_decide))]
 pub fn two_units_decide()
     ensures { TwoUnitsDecide }
 {}
 
 /// A change in a list leaves every piece that begins far enough before it, and every one that begins far
-/// enough after it but for its place: of bytes those that begin at least four before it, or after three
-/// that it left; of units two, or one. What is wrong there stays the same too.
+/// enough after it except for its offset: of bytes those that begin at least four before it, or after the
+/// first three that it left; of units two, or one. The kinds of these faults stay the same too.
 pub fn damage_is_local()
     ensures utf8 { DamageIsLocal utf8 fault_kind 4 }
     ensures utf16 { DamageIsLocal utf16 unit_fault_kind 2 }
 {}
 
-/// A change of bytes may reach a piece that begins three before it, and one that begins after two that it
-/// left.
+/// A change of bytes may affect a piece that begins three before it, and one that begins after the first two
+/// that it left.
 #[tactic(auto, using(crate::proofs::LocalDamage::front_is_reached, crate::proofs::LocalDamage::rest_is_reached))]
 pub fn damage_reaches_its_bounds()
     ensures front { ¬ FrontStays utf8 fault_kind 3 }
@@ -179,7 +179,7 @@ pub fn walk_exists()
     ensures utf16 { WalkExistsOver IsUnits utf16_units }
 {}
 
-/// No word has two: list and word decide every answer.
+/// No word has two walks: list and word determine every result.
 pub fn walk_is_unique()
     ensures utf8 { WalkIsUnique utf8_bytes }
     ensures utf16 { WalkIsUnique utf16_units }
@@ -191,8 +191,8 @@ pub fn walk_stays_outside()
     ensures utf16 { WalkStaysOutside utf16_units }
 {}
 
-/// The pieces that a walk answers are different pieces of the cut, and once none is left they are, in
-/// the order of their places, all of it.
+/// The pieces that a walk returns are different pieces of the cut, and once none is left they are, in the
+/// order of their offsets, all of it.
 pub fn walk_gives_each_once()
     ensures utf8 { WalkGivesEachOnce utf8_bytes }
     ensures utf16 { WalkGivesEachOnce utf16_units }
@@ -206,8 +206,8 @@ pub fn shows_one()
     ensures utf16_some { ShowsSome utf16 }
 {}
 
-/// A code that begins a list is shown first, whatever follows, and where none begins it U+FFFD is, for the
-/// fault of one element.
+/// A code that begins a list is shown first, whatever follows; if no code begins it U+FFFD is, for the fault
+/// of one element.
 pub fn first_is_shown()
     ensures utf8_code { CodeShowsFirst utf8 }
     ensures utf16_code { CodeShowsFirst utf16 }
@@ -215,27 +215,28 @@ pub fn first_is_shown()
     ensures utf16_fault { FaultShowsFirst utf16 }
 {}
 
-/// Where the front of a list is decided, by a code that stands there or since none ever can, the first piece
-/// is the same whatever follows.
+/// If the front of a list is decided, because a code is there or none ever can be, the first piece is the
+/// same whatever follows.
 pub fn first_piece_stays()
     ensures utf8 { FirstPieceStays utf8 }
     ensures utf16 { FirstPieceStays utf16 }
 {}
 
-/// What is wrong with the front of bytes or units stays so, whatever follows, but where some are missing.
+/// The fault of the front of bytes or units stays the same, whatever follows, unless some are missing.
 #[tactic(auto, using(crate::proofs::LaterLemmas::kind_stays, crate::proofs::LaterLemmas::units_fault_stays))]
 pub fn faults_stay()
     ensures utf8 { KindStays }
     ensures utf16 { UnitsFaultStays }
 {}
 
-/// Bytes are the code of some scalar exactly where they are one `UTF8-char` of the grammar of RFC 3629, section 4.
+/// Bytes are the code of some scalar if and only if they are one `UTF8-char` of the grammar of RFC 3629,
+/// section 4.
 pub fn codes_are_the_grammar()
     ensures { CodesAreTheGrammar }
 {}
 
-/// Bytes are the codes of some scalars, one after another, exactly where they are the `UTF8-octets` of that grammar, and
-/// so exactly where std says that they are the bytes of a text.
+/// Bytes are the codes of some scalars, one after another, if and only if they are the `UTF8-octets` of that grammar,
+/// and so if and only if std says that they are the bytes of a text.
 #[tactic(auto, using(crate::proofs::GrammarTexts::texts_are_the_grammar))]
 pub fn texts_are_the_grammar()
     ensures { TextsAreTheGrammar }
@@ -254,7 +255,8 @@ pub fn units_are_encoded()
     ensures { UnitsAreEncoded }
 {}
 
-/// The steps of RFC 2781, section 2.2, give the scalar whose code begins some units, and an error exactly where none does.
+/// The steps of RFC 2781, section 2.2, give the scalar whose code begins some units, and an error if and only
+/// if none does.
 #[tactic(auto, using(crate::proofs::SurrogateLemmas::units_are_decoded))]
 pub fn units_are_decoded()
     ensures { UnitsAreDecoded }

@@ -1,4 +1,5 @@
-//! The definitions of UTF-8 with their laws, the errors of decoding it, and what a single byte tells.
+//! The definitions of UTF-8 with their laws, the errors of decoding it, and the calls on a single byte or
+//! unit.
 #![tactic(auto)]
 
 pub mod elements;

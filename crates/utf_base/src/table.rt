@@ -1,4 +1,4 @@
-//! The table of byte classes and states by which bytes in UTF-8 are judged one by one (RFC 3629, section 4).
+//! The table of byte classes and states by which bytes in UTF-8 are decoded one by one (RFC 3629, section 4).
 ghost use Rattle.std.specs.Prelude.{◌≡◌, ◌<◌, true};
 ghost use Rattle.utf_base.specs.Table.{class, is_running, next_state, row};
 
@@ -6,8 +6,8 @@ use State::*;
 
 pub mod walks;
 
-/// What is known of a character's bytes after some of them were read. A state that asks for more bytes is
-/// running; every other is an end.
+/// The state of a walk over a character's bytes, after some of them were read. A state that asks for more
+/// bytes is running; every other is an end.
 #[derive(Clone, Copy, Debug, PartialEq, Eq)]
 pub enum State {
     /// No byte was read.
@@ -18,13 +18,13 @@ pub enum State {
     TwoMore,
     /// Three are missing, and any three complete it.
     ThreeMore,
-    /// After 0xe0: two are missing, and the value is overlong where the first of them is below 0xa0.
+    /// After 0xe0: two are missing, and the value is overlong if the first of them is below 0xa0.
     AfterE0,
-    /// After 0xed: two are missing, and the value is a surrogate where the first of them is from 0xa0 on.
+    /// After 0xed: two are missing, and the value is a surrogate if the first of them is from 0xa0 on.
     AfterEd,
-    /// After 0xf0: three are missing, and the value is overlong where the first of them is below 0x90.
+    /// After 0xf0: three are missing, and the value is overlong if the first of them is below 0x90.
     AfterF0,
-    /// After 0xf4: three are missing, and the value is too high where the first of them is from 0x90 on.
+    /// After 0xf4: three are missing, and the value is too high if the first of them is from 0x90 on.
     AfterF4,
     /// Two are missing, and the value is overlong whatever they are.
     TwoMoreOverlong,
@@ -73,8 +73,8 @@ static CLASSES: [u8; 256] = [
     9, 10, 10, 10, 11, 4, 4, 4, 4, 4, 4, 4, 4, 4, 4, 4,
 ];
 
-// The state after a byte of each class, a row for each running state. The last four places of a row have no class:
-// they are there so that its address is a shift.
+// The state after a byte of each class, a row for each running state. The last four entries of a row have no
+// class: they pad it, so that its address is a shift.
 #[rattlefmt::skip]
 static STEPS: [[State; 16]; 13] = [
     [Done, Unexpected, Unexpected, Unexpected, Never, OneMore, AfterE0, TwoMore, AfterEd, AfterF0, ThreeMore, AfterF4, Interrupted, Interrupted, Interrupted, Interrupted],

@@ -12,7 +12,7 @@ pub trait U8UtfExt: Sized {
     // The byte as a number.
     ghost byte: { Self → ℕ };
 
-    /// How many bytes follow this one in the character that it begins: 0 to 3.
+    /// The number of bytes that follow this one in the character that it begins: 0 to 3.
     ///
     /// A continuation byte is an `UnexpectedContinuationByte`. A byte that never occurs in UTF-8,
     /// 0xc0, 0xc1 or 0xf5 to 0xff, is a `NonUtf8Byte` (RFC 3629, section 3).
@@ -21,10 +21,10 @@ pub trait U8UtfExt: Sized {
         ensures most { IfOk result (λ n. n ≤ 3) }
         ensures unchecked { IfOk result (λ n. n ≡ leading_ones w8 (byte self) - 1) };
 
-    /// How many bytes follow this one, by its highest bits alone, without a check.
+    /// The number of bytes that follow this one, computed only from its highest bits, without a check.
     ///
-    /// For a byte below 128 it is 0, else the number of leading one bits less one. A byte that
-    /// begins no character has an answer too: 0 for a continuation byte, and up to 7 for others.
+    /// For a byte below 128 it is 0, otherwise the number of leading one bits less one. A byte that begins no
+    /// character has a result too: 0 for a continuation byte, and up to 7 for others.
     fn extra_utf8_bytes_unchecked(self) -> usize
         ensures value { result ≡ leading_ones w8 (byte self) - 1 }
         ensures most { result ≤ 7 };
@@ -57,13 +57,13 @@ pub trait U16UtfExt: Sized {
     // The unit as a number.
     ghost unit: { Self → ℕ };
 
-    /// Whether the unit is the first of a pair, and so needs one more.
+    /// Returns true if the unit is the first of a pair, and so needs one more.
     ///
     /// A trailing surrogate, 0xdc00 to 0xdfff, begins nothing and is an error.
     fn utf16_needs_extra_unit(self) -> Result<bool, Utf16FirstUnitError>
         ensures { NeedsExtraUnit (unit self) result };
 
-    /// Whether the unit is a leading surrogate, 0xd800 to 0xdbff, which begins a pair.
+    /// Returns true if the unit is a leading surrogate, 0xd800 to 0xdbff, which begins a pair.
     fn is_utf16_leading_surrogate(self) -> bool
         ensures { result ≡ is_leading_surrogate (unit self) };
 }

@@ -1,4 +1,4 @@
--- Where a code begins a list, its decoding succeeds.
+-- If a code begins a list, its decoding succeeds.
 use Rattle.std.proofs.Common.{◌≡◌, ℕ, ◌<◌, List, refl, ◌∙◌}
 use Rattle.std.specs.Prelude.{Result, Ok, Err, IsOk}
 use Rattle.utf_base.specs.declared.errors.Utf8ErrorKind.{Utf8ErrorKind}
@@ -13,7 +13,7 @@ pub IsOk_DecodesFront : (w : List ℕ) (s : ℕ) (r : Result (ℕ × ℕ) Utf8Er
 IsOk_DecodesFront w s (Ok x) h d = refl
 IsOk_DecodesFront w s (Err k) h d = absurd (no_code_where_fault w k s d h)
 
--- The first byte tells how many bytes the code has.
+-- The first byte determines the length of the code.
 pub front_by_first : (w : List ℕ) (s n m : ℕ) → BeginsWith utf8 w s n → (0 < asked_by w → m ≡ asked_by w) → IsFrontCode w m
 front_by_first w s n m h e =
     let found = code_where_no_fault w (no_fault_where_code w s h.0) in

@@ -28,7 +28,7 @@ in_array : (code : ℕ → List ℕ) (places : ℕ) (xs : List ℕ) (s : ℕ) �
 unfolding padded
 in_array code places xs s h e = stands_first code xs (replicate (places - length (code s)) 0) s h e
 
--- what a list tells at whose front a code of n elements stands, where no code has more than m
+-- the results for a list that begins with a code of n elements, if no code has more than m
 pub record OwnFront {E : Type 0} (decoder : List ℕ → Result (ℕ × ℕ) E) (m : ℕ) (xs : List ℕ) (s n : ℕ) : Type 0 where
   pub bounds : IsFrontLen m xs n
   pub decodes : decoder xs ≡ Ok (s, n)
@@ -48,7 +48,7 @@ own_unit_front xs rest s n h e l =
 pub own_unit_view : (xs : List ℕ) (s : ℕ) → IsScalar s → xs ≡ utf16 s → OwnFront decoded_units 2 xs s (length xs)
 own_unit_view xs s h e = own_unit_front xs [] s (length xs) h (e ∙ sym (append-nil (utf16 s))) (ap length e)
 
--- what an array tells that begins with a code of so many bytes
+-- the results for an array that begins with a code of n bytes
 pub record OwnArray (xs : List ℕ) (s n : ℕ) : Type 0 where
   pub front : take n xs ≡ utf8 s
   pub bounds : IsFrontLen 4 xs n
@@ -72,7 +72,7 @@ own_array xs s n h e l =
       decodes_front = view.decodes ∙ ap (λ k. Ok (s, k)) (ap length front ∙ sym l);
     }
 
--- what two units tell that are a code, and 0 where it has one
+-- the results for two units that are a code, followed by 0 if it has one unit
 pub record OwnUnits (xs : List ℕ) (s : ℕ) : Type 0 where
   pub own : is_padded_units (slice_index xs 0) (slice_index xs 1) ≡ true
   pub decodes : decoded_two xs ≡ Ok s
@@ -83,7 +83,7 @@ own_units xs s h e =
     let stands = in_array utf16 2 xs s h e in
     record { own = padded_cases xs s h e; decodes = decoded_two_code xs s stands; decodes_units = decoded_units_code xs s stands }
 
--- The code at the front of a list, or at its end, decodes to the same by itself.
+-- The code at the front of a list, or at its end, decodes to the same separately.
 
 front_code : (code : ℕ → List ℕ) (xs : List ℕ) (s n : ℕ) → BeginsWith code xs s n → take n xs ≡ code s
 front_code code xs s n h =
@@ -111,7 +111,7 @@ code_ends code xs s n h e len =
     let zero : length xs - n ≡ 0 = omega (arith, ap length e) in
     (rw zero (alone code xs s h e), len)
 
--- what the last n elements tell
+-- the results for a list that ends with a code of n elements
 pub record OwnEnd {E : Type 0} (decoder end_decoder : List ℕ → Result (ℕ × ℕ) E) (xs : List ℕ) (s n : ℕ) : Type 0 where
   pub exact : decoder xs ≡ Ok (s, n)
   pub exact_end : end_decoder xs ≡ Ok (s, n)
@@ -131,7 +131,7 @@ end_alone = own_end utf8 decoded decoded_end (λ ys t h e. (own_view ys t h e).d
 pub unit_end_alone : (xs : List ℕ) (s n : ℕ) → EndsWith utf16 xs s n → OwnEnd decoded_units decoded_units_end (drop (length xs - n) xs) s n
 unit_end_alone = own_end utf16 decoded_units decoded_units_end (λ ys t h e. (own_unit_view ys t h e).decodes) decoded_units_end_code
 
--- as the methods of `char` say it
+-- the results, as the methods of `char` state them
 pub front_alone_of : (xs : List ℕ) (r : Result (ℕ × ℕ) Utf8ErrorKind) → DecodesFront as_scalar xs r → IfOk r (λ x. decoded (take x.1 xs) ≡ Ok (x.0, x.1))
 front_alone_of xs (Ok (s, n)) h = front_alone xs s n h
 front_alone_of xs (Err k) h = tt

@@ -1,4 +1,4 @@
--- What the four bytes of a character hold.
+-- The four bytes of a character.
 use Rattle.std.proofs.Common.{◌+◌, ◌-◌, ◌*◌, ◌&&◌, true, lit<, ◌≡◌, ℕ, ◌-◌, ◌<◌, ◌≤◌, List, [], ◌∷◌, ◌++◌, length, get_or, take, sym, ap, ◌∙◌, refl, arith}
 use Rattle.std.proofs.lemmas.Grind.{common_steps}
 use Rattle.std.proofs.lemmas.Bool.{and_from}
@@ -36,7 +36,7 @@ pub take_padded : (bytes : List ℕ) (s n : ℕ) → IsPadded utf8 4 value bytes
 unfolding padded
 take_padded bytes s n h e l = rw (h.equal, e, l) (take_at (utf8 s) (replicate (4 - length (utf8 s)) 0) _ refl)
 
--- what a first byte that begins a code asks for, by where it lies
+-- the number of bytes that a lead byte asks for, by the range in which it lies
 pub asked_by_range : (b : ℕ) → 0 < asked b
     → (b < 0x80 → asked b ≡ 1) × (0x80 ≤ b → b < 0xE0 → asked b ≡ 2) × (0xE0 ≤ b → b < 0xF0 → asked b ≡ 3) × (0xF0 ≤ b → asked b ≡ 4)
 unfolding asked
@@ -55,7 +55,7 @@ padded_ascii s h = rw (utf8-1 s h) refl
 
 pub ruleset of_one_byte = (utf8-1)
 
--- the first byte tells whether the scalar is below 128
+-- the first byte shows whether the scalar is below 128
 pub first_is_ascii : (bytes : List ℕ) (s : ℕ) → IsPadded utf8 4 value bytes → value bytes ≡ s → (get_or bytes 0 0 < 128 → s < 128) × (s < 128 → get_or bytes 0 0 < 128)
 first_is_ascii bytes s h e = (
   λ low. let v = value-1 bytes (asked-1 (get_or bytes 0 0) low) in omega arith,
@@ -114,7 +114,7 @@ pub code_of_padded : (places : ℕ) (code xs : List ℕ) (n : ℕ) → xs ≡ pa
 unfolding padded
 code_of_padded places code xs n e l = rw (e, l) (take_at code (replicate (places - length code) 0) _ refl)
 
--- a code of four bytes is that of a scalar above 0xFFFF
+-- a code has four bytes if and only if its scalar is above 0xFFFF
 pub four_bytes : (s : ℕ) → (length (utf8 s) ≡ 4 → 0x1_0000 ≤ s) × (0x1_0000 ≤ s → length (utf8 s) ≡ 4)
 unfolding utf8
 four_bytes s = grind (arith, common_steps)

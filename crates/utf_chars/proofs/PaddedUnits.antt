@@ -1,4 +1,4 @@
--- What the two units of a character hold.
+-- The two units of a character.
 use Rattle.std.proofs.Common.{◌≡◌, ℕ, ◌+◌, ◌-◌, ◌/◌, ◌%◌, ◌<◌, ◌≤◌, ◌⊎◌, inl, inr, ⊎_elim, Option, Some, None, Ok, List, [], ◌∷◌, length, get_or, take, sym, ap, ◌∙◌, refl, arith, true, false}
 use Rattle.std.proofs.lemmas.Grind.{common_steps}
 use Rattle.std.proofs.lemmas.Bool.{cases_Bool, cases_lt}
@@ -20,7 +20,7 @@ pub padded-pair : (s : ℕ) → 0x1_0000 ≤ s → padded 2 (utf16 s) ≡ (0xD80
 unfolding padded
 padded-pair s h = rw (utf16-2 s h) refl
 
--- How the units of a scalar look: a plain one and zero, or a pair.
+-- The units of a scalar: one that is no surrogate and zero, or a pair.
 pub record AsUnit (units : List ℕ) (s : ℕ) : Type 0 where
   pub small : s < 0x1_0000
   pub first : get_or units 0 0 ≡ s
@@ -67,11 +67,11 @@ IsPadded_units units s h e =
     let v = unit_value_padded units s h e in
     record { scalar = rw v h; equal = rw v e }
 
--- the same cases, of the units that a character keeps
+-- the units that a character keeps: one that is no surrogate and zero, or a pair
 pub char_cases : (units : List ℕ) (s : ℕ) → IsPadded utf16 2 unit_value units → unit_value units ≡ s → (AsUnit units s) ⊎ (AsPair units s)
 char_cases units s h e = units_cases units s (rw e at h.scalar) (rw e at h.equal)
 
--- the second unit tells whether there is a pair
+-- the second unit shows whether there is a pair
 pub ruleset of_one_unit = (utf16-1)
 
 pub second_is_zero : (units : List ℕ) (s : ℕ) → IsPadded utf16 2 unit_value units → unit_value units ≡ s
@@ -136,7 +136,7 @@ padded_cases units s h e =
         let rest : (s - 0x1_0000) % 1024 < 1024 = omega arith in
         rw second (grind (arith, common_steps))
 
--- and such units are the code of their value, and 0 where it has one
+-- units that the unchecked calls accept are the code of their value, followed by 0 if it has one unit
 pub IsPadded_units_of : (u v : ℕ) → u < 0x1_0000 → v < 0x1_0000 → is_padded_units u v ≡ true → IsPadded utf16 2 unit_value (u ∷ v ∷ [])
 unfolding padded
 IsPadded_units_of u v fits fits_too h =
@@ -161,7 +161,7 @@ two_elements (x ∷ []) e = absurd (omega arith)
 two_elements (x ∷ y ∷ []) e = refl
 two_elements (x ∷ y ∷ z ∷ xs) e = absurd (omega arith)
 
--- what two units decode to, as one or two that have to be a code
+-- the result of decoding one or two units that have to be a code
 pub unchecked_units : (u : ℕ) (second : Option ℕ) (s : ℕ) → is_padded_units u (unwrap_or second 0) ≡ true → decoded_two (u ∷ unwrap_or second 0 ∷ []) ≡ Ok s
     → IfOk (decoded_tuple u second) (λ t. s ≡ t)
 unfolding decoded_two decoded_tuple array_fault unit_value

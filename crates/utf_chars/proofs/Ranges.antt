@@ -10,6 +10,6 @@ range_after xs i j n le =
     let m : j - i ≡ n + (j - (i + n)) = omega arith in
     rw (m, drop-take, drop-drop) refl
 
--- as many elements are after the first n of a list as after those that the list has of them
+-- after the first n elements of a list come as many as after those of them that the list has
 pub drop_fitting : {A : Type 0} (xs : List A) (n : ℕ) → drop (min n (length xs)) xs ≡ drop n xs
 drop_fitting xs n = grind (arith, common_steps)

@@ -1,5 +1,5 @@
--- An exclusive or with 0xD800 puts the surrogates below 0x800 and leaves the scalars below 0x110000, so that one
--- comparison tells the scalars.
+-- An exclusive or with 0xD800 maps the surrogates below 0x800 and leaves the scalars below 0x110000, so that one
+-- comparison tests for a scalar.
 use Rattle.std.proofs.Common.{◌≡◌, ℕ, ◌+◌, ◌*◌, ◌/◌, ◌%◌, ◌<◌, nat_lt, arith, ap, sym, ◌∙◌, lit<}
 use Rattle.std.proofs.lemmas.Grind.{common_steps}
 use Rattle.std.proofs.lemmas.Nat.{xor_block, xor_lt, xor_of_32}
@@ -7,7 +7,7 @@ use Rattle.std.specs.Int.Bits.{bit_xor, xor_zero_r, xor_self, xor_assoc}
 use Rattle.std.specs.Prelude.{◌↔◌, IsTrue}
 use Rattle.utf_base.specs.Scalar.{IsScalar}
 
--- The upper parts, without the lowest 11 bits. That of a surrogate is 27.
+-- The upper bits, without the lowest 11. Those of a surrogate are 27.
 record Upper (h k : ℕ) : Type 0 where
   zero_from : k ≡ 0 → h ≡ 27
   zero_to : h ≡ 27 → k ≡ 0

@@ -18,7 +18,7 @@ use Rattle.utf_base.proofs.StdText.{utf8_is_std, text_begins}
 use Rattle.utf_base.proofs.Utf8Code.{utf8_is_code}
 use Rattle.utf_chars.specs.Chars.{BeginsText, IsFrontCode, IsOneCharText, first_of_text, parsed, Parses}
 
--- what a text tells that a code begins
+-- the results for a text that begins with a code
 record TextTells (text : List ℕ) (s : ℕ) : Type 0 where
   some : eqb (length text) 0 ≡ false
   char : value text ≡ s
@@ -60,7 +60,7 @@ answer_of_parse text (Err MultipleCodepoints) h =
 pub parses : (text : List ℕ) (r : Result ℕ FromStrError) → IsOneCharText text r → Parses text r
 parses text r h = record { char = h; known = answer_of_parse text r h }
 
--- the first character is the only one where it is as long as the text
+-- the first character is the only one if it is as long as the text
 pub whole_text : (text : List ℕ) (s n : ℕ) → BeginsWith utf8 text s n → n ≡ length text → IsOneCharText text (Ok s)
 whole_text text s n h e =
     (h.0.scalar, whole text s n h e)
@@ -75,7 +75,7 @@ text_of_code text s h e = (
   sym (answer_of_parse text (Ok s) (h, e)),
 )
 
--- a text can be cut after a character, where it can be cut before it
+-- a text can be cut after a character, if it can be cut before it
 pub boundary_after : (xs : List ℕ) (i s k : ℕ) → IsUtf8 xs → IsCharBoundary xs i → Stands utf8 xs i s → k ≡ i + length (utf8 s) → IsCharBoundary xs k
 boundary_after xs i s k is_text front h e =
     let n : length (utf8 s) ≡ i + length (utf8 s) - i = omega arith in
@@ -86,7 +86,7 @@ boundary_after xs i s k is_text front h e =
     let len = sym (length-encode s) ∙ ap length (utf8_is_std s) in
     rw e (rw len at seam)
 
--- a code begins each text but the empty one, and its first byte tells how long it is
+-- a code begins each text but the empty one, and its first byte determines the length
 pub front_code : (text : List ℕ) (n : ℕ) → IsUtf8 text → 0 < length text → (0 < asked_by text → n ≡ asked_by text) → IsFrontCode text n
 front_code text n is_text some by_first =
     ⊎_elim

@@ -14,7 +14,7 @@ use Rattle.utf_base.proofs.FrontLemmas.{asked_le, asked-no_continuation, decodes
 use Rattle.utf_base.proofs.KindCases.{kind-few}
 use Rattle.utf_base.proofs.TableSteps.{asks_on, asks_runs, completes, fault_at_end, faults_later, first-2, first-3, first-4, one_less}
 
--- after k bytes the walk has come to the state, which asks for n more
+-- after k bytes the walk has reached the state, which asks for n more
 pub record Walk (w : List ℕ) (k : ℕ) (state : State) (n : ℕ) : Type 0 where
   pub at : state_after w k ≡ state
   pub asks : missing state ≡ n
@@ -24,7 +24,7 @@ pub record Next (w : List ℕ) (k : ℕ) (state : State) (c : ℕ) (next : State
   pub class : c ≡ class (get_or w k 0)
   pub step : next ≡ next_state state c
 
--- what the first byte of a code leads to
+-- the state after the first byte of a code
 
 pub Walk-2 : (w : List ℕ) → 0xC2 ≤ get_or w 0 0 → get_or w 0 0 < 0xE0 → Walk w 1 OneMore 1
 Walk-2 w low high = record { at = first-2 (get_or w 0 0) low high; asks = refl }
@@ -42,7 +42,7 @@ Walk-4 w c first low high x =
 pub running : (w : List ℕ) (k n : ℕ) (state : State) → Walk w k state (suc n) → is_running state ≡ true
 running w k n state h = asks_runs state (omega (arith, h.asks))
 
--- so it asks for a second byte, where it is one of three or four
+-- the state after the first byte of three or four asks for a second
 pub second_runs : (b : ℕ) → 0xE0 ≤ b → b < 0xF5 → is_running (next_state Start (class b)) ≡ true
 second_runs b low high =
     ⊎_elim (λ (h : b < 0xF0). let two = first-3 b low h in asks_runs _ (omega arith)) (λ (h : 0xF0 ≤ b). let three = first-4 b h high in asks_runs _ (omega arith)) (cases_lt b 0xF0)
@@ -57,7 +57,7 @@ walk_on w k n c state next h x on =
     let same : missing next ≡ missing (next_state state c) = ap missing x.step in
     record { at = walk_at w k (suc n) c state next h x; asks = omega (arith, h.asks) }
 
--- So where all are there that the first asks for, the next one is.
+-- If all bytes are there that the first asks for, the next one is.
 pub there : (w : List ℕ) (k : ℕ) (state : State) → 0 < k → k ≤ length w → state ≡ state_after w k → is_running state ≡ true → asked_by w ≤ length w → k < length w
 there w k state some le at runs enough = let more = (asks_on w k state some le at runs).0 in omega arith
 
@@ -67,18 +67,18 @@ last_of_four w state le at runs =
     let asks = asks_on w 3 state (lit< tt) le at runs in
     omega (arith, asks.0, asks.1, asked_le (get_or w 0 0))
 
--- an end tells the fault
+-- an end state determines the fault
 pub fault_found : (w : List ℕ) (k : ℕ) (end : State) → k ≤ length w → asked_by w ≤ length w → end ≡ state_after w k → is_running end ≡ false → fault_kind w ≡ fault_of end
 fault_found w k end le enough at stops = fault_at_end w k end le enough (sym at) stops
 
--- one that is no code's is a fault of more than the first byte
+-- an end state other than that of a code is a fault that the first byte does not decide
 pub later_found : (w : List ℕ) (k c : ℕ) (state next : State) → 0 < k → k ≤ length w → state ≡ state_after w k → is_running state ≡ true → next ≡ next_state state c → is_running next ≡ false → (next ≡ Done → ⊥)
     → is_later_fault next ≡ true
 later_found w k c state next some le at runs step stops other =
     let asks = asks_on w k state some le at runs in
     ap is_later_fault step ∙ faults_later state c (omega (arith, asks.0, asks.1)) (sym (ap is_running step) ∙ stops) (λ e. other (step ∙ e))
 
--- that of a code, that there is none
+-- the end state of a code means that there is no fault
 pub code_found : (w : List ℕ) (k : ℕ) (state next : State) → 0 < k → k < length w → state ≡ state_after w k → is_running state ≡ true → next ≡ state_after w (suc k) → next ≡ Done
     → (fault_kind w ≡ None) × (asked_by w ≡ suc k)
 code_found w k state next some lt at runs to done =

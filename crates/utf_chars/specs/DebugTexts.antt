@@ -1,4 +1,4 @@
--- What `{:?}` writes of a list of numbers.
+-- The output of `{:?}` for a list of numbers.
 use Rattle.std.specs.Prelude.{ℕ, List, Option, Some}
 use Rattle.std.specs.Fmt.{decimal, debug_list}
 

@@ -1,4 +1,4 @@
--- Elements held in one number, as its digits.
+-- Elements packed into one number, as its digits.
 use Rattle.std.specs.Prelude.{ℕ, zero, suc, ◌/◌, ◌%◌, List, [], ◌∷◌}
 
 -- the n lowest digits of a number in a base, the lowest first

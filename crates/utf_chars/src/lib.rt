@@ -1,4 +1,4 @@
-//! Characters as their codes: methods of `char`, and `Utf8Char` and `Utf16Char`.
+//! Characters in encoded form: methods of `char`, and `Utf8Char` and `Utf16Char`.
 #![tactic(auto)]
 
 mod codes;

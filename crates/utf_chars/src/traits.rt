@@ -19,34 +19,33 @@ use utf_base::errors::{
     CodepointError, Utf8Error, Utf16ArrayError, Utf16SliceError, Utf16TupleError,
 };
 
-/// Methods of `char`: to UTF-8 and UTF-16, and back, with the reason where bytes or units are
-/// invalid.
+/// Methods of `char`: to UTF-8 and UTF-16, and back, with the reason if bytes or units are invalid.
 ///
 /// A call whose name ends in `_unchecked` makes no check. If it has a condition, its caller must
 /// meet it.
 pub trait CharExt: Sized {
-    // The scalar that the character is.
+    // The scalar of the character.
     ghost scalar: { Self → ℕ };
 
-    /// The same character, kept as UTF-8.
+    /// Converts the character to a `Utf8Char`.
     fn to_utf8(self) -> Utf8Char
         ensures { result ≡ scalar self };
 
-    /// The same character, kept as UTF-16.
+    /// Converts the character to a `Utf16Char`.
     fn to_utf16(self) -> Utf16Char
         ensures { result ≡ scalar self };
 
-    /// Its bytes in UTF-8, one after another.
+    /// The bytes of the character in UTF-8, one after another.
     fn iter_utf8_bytes(self) -> Utf8Iterator
         ensures code { result ≡ utf8 (scalar self) }
         ensures few { length result ≤ 4 };
 
-    /// Its units in UTF-16, one after another.
+    /// The units of the character in UTF-16, one after another.
     fn iter_utf16_units(self) -> Utf16Iterator
         ensures code { result ≡ utf16 (scalar self) }
         ensures few { length result ≤ 2 };
 
-    /// Its UTF-8: (bytes, then zeros; length), the length 1 to 4 (RFC 3629, section 3).
+    /// The UTF-8 of the character: (bytes, then zeros; length), the length 1 to 4 (RFC 3629, section 3).
     fn to_utf8_array(self) -> ([u8; 4], usize)
         ensures code { result.0 ≡ padded 4 (utf8 (scalar self)) }
         ensures len { result.1 ≡ length (utf8 (scalar self)) }
@@ -57,14 +56,14 @@ pub trait CharExt: Sized {
         ensures decodes_bytes { decoded_bytes result.0 ≡ Ok (scalar self) }
         ensures decodes_front { decoded (take result.1 result.0) ≡ Ok (scalar self, result.1) };
 
-    /// Its UTF-16: one unit and 0, or a surrogate pair (RFC 2781, section 2.1).
+    /// The UTF-16 of the character: one unit and 0, or a surrogate pair (RFC 2781, section 2.1).
     fn to_utf16_array(self) -> [u16; 2]
         ensures code { result ≡ padded 2 (utf16 (scalar self)) }
         ensures own { is_padded_units (slice_index result 0) (slice_index result 1) ≡ true }
         ensures decodes { decoded_two result ≡ Ok (scalar self) }
         ensures decodes_units { decoded_units result ≡ Ok (scalar self, length (utf16 (scalar self))) };
 
-    /// Its UTF-16: (first unit, second unit where there is one).
+    /// The UTF-16 of the character: (first unit, second unit if there is one).
     fn to_utf16_tuple(self) -> (u16, Option<u16>)
         ensures code { units_of_pair result.0 result.1 ≡ utf16 (scalar self) }
         ensures own { is_padded_units result.0 (unwrap_or result.1 0) ≡ true }
@@ -86,7 +85,7 @@ pub trait CharExt: Sized {
         ensures len { IfOk result (λ x. IsFrontLen 4 src.now x.1) }
         ensures exact { IfOk result (λ x. decoded (take x.1 src.now) ≡ Ok (scalar x.0, x.1)) };
 
-    /// The character that begins the four bytes. What follows it is ignored.
+    /// The character that begins the four bytes. The bytes after it are ignored.
     ///
     /// The error is that of `from_utf8_slice_start`, and never `TooFewBytes`.
     fn from_utf8_array(utf8: [u8; 4]) -> Result<Self, Utf8Error>
@@ -127,10 +126,9 @@ pub trait CharExt: Sized {
 
     /// The character of two units, without a check.
     ///
-    /// If the first unit is no surrogate, it is the character, and the second is ignored. Else the
-    /// two are taken for a surrogate pair, whatever they are. The character is then 0x10000 plus a
-    /// number of twenty bits: the lower ten of the first unit, and then the lower ten of the
-    /// second.
+    /// If the first unit is no surrogate, it is the character, and the second is ignored. Otherwise the two
+    /// are taken for a surrogate pair, whatever they are. The character is then 0x10000 plus a number of
+    /// twenty bits: the lower ten of the first unit, followed by the lower ten of the second.
     fn from_utf16_array_unchecked(utf16: [u16; 2]) -> Self
         ensures value { scalar result ≡ array_value utf16 }
         ensures known { IfOk (decoded_two utf16) (λ s. scalar result ≡ s) };

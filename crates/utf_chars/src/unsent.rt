@@ -1,4 +1,4 @@
-//! What is left of the code of one character, in bytes or in units.
+//! The remaining bytes or units of one character.
 ghost use Rattle.std.specs.Prelude.{◌≡◌, ◌≤◌, ◌<◌, [], length, take, drop, IfSome};
 ghost use Rattle.std.specs.Iterator.{YieldsFirst};
 ghost use Rattle.utf_base.specs.Code.{utf8, utf16};
@@ -11,9 +11,9 @@ use crate::utf16_char::Utf16Char;
 use std::fmt;
 use std::marker::Model;
 
-/// The elements of a code that have not been given yet: what iterators over codes keep. Contracts see
-/// their list. They are the lowest digits of one number, which stays in a register: of bytes the base is
-/// 256, of units 65536.
+/// The elements of a code that have not been returned yet, as iterators keep them. Contracts see their list.
+/// They are the lowest digits of one number, which stays in a register: of bytes the base is 256, of units
+/// 65536.
 #[derive(Drop)]
 pub struct Unsent<const BASE: usize> {
     code: usize,
@@ -32,7 +32,7 @@ impl<const BASE: usize> Model for Unsent<BASE> {
 }
 
 impl<const BASE: usize> Unsent<BASE> {
-    /// The lowest digits of the number, as many as `left` says.
+    /// The `left` lowest digits of the number.
     #[inline(always)]
     pub(crate) fn new(code: usize, left: usize) -> Unsent<BASE>
         requires base { 0 < BASE }
@@ -42,7 +42,7 @@ impl<const BASE: usize> Unsent<BASE> {
         Unsent { code, left }
     }
 
-    /// The same elements once more.
+    /// A copy of the elements.
     #[inline(always)]
     pub fn copy(&self) -> Unsent<BASE>
         ensures { result ≡ self.now }
@@ -53,7 +53,7 @@ impl<const BASE: usize> Unsent<BASE> {
         }
     }
 
-    /// How many elements there are.
+    /// The number of elements.
     #[inline(always)]
     #[tactic(auto, using(crate::proofs::DigitLemmas::length_low_digits))]
     pub fn len(&self) -> usize
@@ -62,7 +62,7 @@ impl<const BASE: usize> Unsent<BASE> {
         self.left
     }
 
-    // The elements, and then the digits above them.
+    // The elements, followed by the digits above them.
     #[tactic(auto, using(crate::proofs::DigitLemmas::four_digits, crate::proofs::DigitLemmas::length_low_digits))]
     fn digits(&self) -> [usize; 4]
         ensures { take (length self.now) result ≡ self.now }
@@ -94,7 +94,7 @@ impl<const BASE: usize> Unsent<BASE> {
     }
 }
 
-/// Of bytes.
+/// Remaining bytes.
 impl Unsent<256> {
     /// Takes the first byte.
     #[inline(always)]
@@ -107,7 +107,7 @@ impl Unsent<256> {
         }
     }
 
-    /// Takes as many bytes as the buffer has places, into its front, and answers how many they are.
+    /// Takes as many bytes as fit in the buffer, into its front, and returns how many they are.
     #[inline(always)]
     pub fn take(&mut self, buf: &mut [u8]) -> usize
         ensures count { result ≡ fitting buf.old self.old }
@@ -127,15 +127,15 @@ impl Unsent<256> {
         count
     }
 
-    /// Moves as much of the code of the character into the front of the buffer as fits. Answers what is
-    /// left of it, and how many bytes were moved.
+    /// Copies as much of the code of the character into the front of the buffer as fits. Returns the rest of
+    /// it, and how many bytes were copied.
     #[inline(always)]
     pub fn send(c: Utf8Char, buf: &mut [u8]) -> (Unsent<256>, usize)
         ensures count { result.1 ≡ fitting buf.old (utf8 c) }
         ensures written { buf.new ≡ filled buf.old (utf8 c) }
         ensures left { result.0 ≡ drop (length buf.old) (utf8 c) }
     {
-        // Where every code fits, it is moved whole and not byte by byte.
+        // If every code fits, it is copied as a whole and not byte by byte.
         if buf.len() >= 4 {
             let count = c.to_slice(buf);
             return (Unsent::default(), count);
@@ -146,7 +146,7 @@ impl Unsent<256> {
     }
 }
 
-/// Of units.
+/// Remaining units.
 impl Unsent<0x1_0000> {
     /// Takes the first unit.
     #[inline(always)]
@@ -191,8 +191,8 @@ impl From<Utf8Char> for Unsent<256> {
     }
 }
 
-// The first bytes, as many as `len` says, as one number, whose lowest digit is the first of them. Those
-// after the first are put together by themselves: so taking the first leaves their number as it is.
+// The first `len` bytes as one number, whose lowest digit is the first of them. Those after the first are
+// combined separately: so taking the first leaves their number as it is.
 #[inline(always)]
 #[tactic(auto, unfolding(crate::specs::Digits::low_digits))]
 fn number_of_front(code: [u8; 4], len: usize) -> usize

@@ -60,7 +60,7 @@ impl Model for Utf16Char {
 
 /// Making a character.
 impl Utf16Char {
-    /// The same character as the `char`.
+    /// Converts a `char`.
     #[inline(always)]
     #[tactic(auto, using(utf_base::proofs::StdText::scalar_from_std, crate::proofs::PaddedUnits::unit_value_padded, crate::proofs::PaddedUnits::IsPadded_units))]
     pub fn new(c: char) -> Utf16Char
@@ -85,7 +85,7 @@ impl Utf16Char {
 
     /// The character that begins the units: (character, length in units), the length 1 or 2.
     ///
-    /// What follows it does not matter. The error is that of `CharExt::from_utf16_slice_start`.
+    /// The units after it do not matter. The error is that of `CharExt::from_utf16_slice_start`.
     #[inline(always)]
     #[tactic(auto, using(utf_base::proofs::DecodedLemmas::answer_of_units, utf_base::proofs::DecodedLemmas::front_len_utf16, crate::proofs::OwnCodes::unit_front_alone))]
     pub fn from_slice_start(src: &[u16]) -> Result<(Utf16Char, usize), Utf16SliceError>
@@ -113,9 +113,9 @@ impl Utf16Char {
 
     /// The character that ends the units: (character, length in units), the length 1 or 2.
     ///
-    /// Where no character ends them, the error is that of the last unit by itself: a trailing
-    /// surrogate is `FirstIsTrailingSurrogate`, and a leading one, after which nothing stands, is
-    /// `MissingSecond`. No unit at all is `EmptySlice`.
+    /// If no character ends them, the error depends only on the last unit: a trailing surrogate is
+    /// `FirstIsTrailingSurrogate`, and a leading one, which nothing follows, is `MissingSecond`. No unit at
+    /// all is `EmptySlice`.
     ///
     /// Only the last two units matter.
     #[inline(always)]
@@ -145,7 +145,7 @@ impl Utf16Char {
         Ok(Utf16Char::new(utf16::decode_array(utf16)?))
     }
 
-    /// The character that the two units are, without a check: the way back from `to_array`.
+    /// The character that the two units are, without a check: the inverse of `to_array`.
     ///
     /// Condition: the units are the UTF-16 of one character, with a zero after a single unit.
     #[inline(always)]
@@ -176,7 +176,7 @@ impl Utf16Char {
 
     /// The character that the one or two units are, without a check.
     ///
-    /// Condition: they are one unit that is no surrogate, alone or with a 0 after it, or a
+    /// Condition: they are one unit that is no surrogate, without a second or with a 0 after it, or a
     /// surrogate pair.
     #[inline(always)]
     #[tactic(auto, using(crate::proofs::PaddedUnits::unchecked_units))]
@@ -213,9 +213,9 @@ impl Utf16Char {
     }
 }
 
-/// What a character is.
+/// Properties of a character.
 impl Utf16Char {
-    /// Whether it has one unit in UTF-16: its code point is below 0x10000.
+    /// Returns true if it has one unit in UTF-16: its code point is below 0x10000.
     #[inline(always)]
     #[tactic(auto, using(crate::proofs::PaddedUnits::second_is_zero, crate::proofs::PaddedUnits::of_one_unit))]
     pub fn is_bmp(self) -> bool
@@ -226,7 +226,7 @@ impl Utf16Char {
         self.units[1] == 0
     }
 
-    /// How many units it has in UTF-16: 1 or 2.
+    /// The length in UTF-16: 1 or 2 units.
     #[inline(always)]
     #[tactic(auto, using(crate::proofs::PaddedUnits::length_unit, crate::proofs::PaddedUnits::length_pair))]
     pub fn len(self) -> usize
@@ -237,7 +237,7 @@ impl Utf16Char {
         if self.is_bmp() { 1 } else { 2 }
     }
 
-    /// Whether it is ASCII, below 128.
+    /// Returns true if it is ASCII, below 128.
     #[inline(always)]
     #[tactic(auto, using(crate::proofs::PaddedUnits::first_is_ascii, crate::proofs::PaddedUnits::of_one_unit))]
     pub fn is_ascii(self) -> bool
@@ -271,14 +271,14 @@ impl Utf16Char {
         ensures text { encode_utf8 result ≡ utf8 self }
     {
         let number = self.scalar();
-        // The type keeps nothing but scalars.
+        // The type keeps only scalars.
         unsafe { char::from_u32_unchecked(number) }
     }
 
-    /// Writes its UTF-16 to the front of the slice, and gives the length. What follows in the slice
-    /// stays.
+    /// Writes its UTF-16 to the front of the slice, and returns the length. The rest of the slice is
+    /// unchanged.
     ///
-    /// Condition: the slice has at least `len()` places; two always do.
+    /// Condition: the slice has at least `len()` elements; two are always enough.
     #[inline(always)]
     #[tactic(auto, using(crate::proofs::OwnCodes::own_unit_front))]
     pub fn to_slice(self, dst: &mut [u16]) -> usize
@@ -288,14 +288,14 @@ impl Utf16Char {
         ensures written { dst.new ≡ utf16 self ++ drop (length (utf16 self)) dst.old }
         ensures decodes { decoded_units dst.new ≡ Ok (self, result) }
     {
-        // Names the field: so a proof sees what the type keeps of it.
+        // Names the field, which brings the type's invariant into scope of the proof.
         let _ = &self.units;
         let len = self.len();
         dst[..len].copy_from_slice(self.as_units());
         len
     }
 
-    /// Its UTF-16: both units, or one unit and 0.
+    /// The UTF-16 of the character: both units, or one unit and 0.
     #[inline(always)]
     pub fn to_array(self) -> [u16; 2]
         ensures code { result ≡ padded 2 (utf16 self) }
@@ -307,7 +307,7 @@ impl Utf16Char {
         kept
     }
 
-    /// Its UTF-16: (first unit, second unit where there is one).
+    /// The UTF-16 of the character: (first unit, second unit if there is one).
     #[inline(always)]
     #[tactic(auto, using(utf_base::proofs::DecodedLemmas::padded_tuple, utf_base::proofs::DecodedLemmas::decoded_tuple_code, crate::proofs::PaddedUnits::code_by_second))]
     pub fn to_tuple(self) -> (u16, Option<u16>)
@@ -323,7 +323,7 @@ impl Utf16Char {
         }
     }
 
-    /// Its UTF-16, borrowed from inside it.
+    /// The UTF-16 of the character, borrowed from inside it.
     #[inline(always)]
     #[tactic(auto, using(crate::proofs::OwnCodes::own_unit_view, crate::proofs::PaddedUnits::take_units))]
     pub fn as_units(&self) -> &[u16]
@@ -369,7 +369,7 @@ impl Utf16Char {
         *self = self.to_ascii_lowercase();
     }
 
-    /// Whether the characters are equal but for the case of ASCII letters.
+    /// Returns true if the characters are equal but for the case of ASCII letters.
     #[inline(always)]
     pub fn eq_ignore_ascii_case(&self, other: &Utf16Char) -> bool
         ensures equal { IsTrue result ↔ (ascii_lowercase self.now ≡ ascii_lowercase other.now) }
@@ -381,7 +381,7 @@ impl Utf16Char {
 
 /// Comparisons with other types.
 impl Utf16Char {
-    /// Whether it is the same character as the `char`.
+    /// Returns true if it is the same character as the `char`.
     #[inline(always)]
     pub fn eq_char(self, c: char) -> bool
         ensures equal { IsTrue result ↔ (self ≡ c) }
@@ -398,7 +398,7 @@ impl Utf16Char {
         self.to_char().cmp(&c)
     }
 
-    /// Whether it is the same character.
+    /// Returns true if it is the same character.
     #[inline(always)]
     pub fn eq_utf8(self, c: Utf8Char) -> bool
         ensures equal { IsTrue result ↔ (self ≡ c) }
@@ -415,7 +415,7 @@ impl Utf16Char {
         self.to_char().cmp(&c.to_char())
     }
 
-    /// Whether its code point is this byte, up to 0xff.
+    /// Returns true if its code point is this byte, up to 0xff.
     #[inline(always)]
     pub fn eq_u8(self, byte: u8) -> bool
         ensures equal { IsTrue result ↔ (self ≡ byte) }
@@ -424,7 +424,7 @@ impl Utf16Char {
         self.to_char() == char::from(byte)
     }
 
-    /// Whether its code point is this unit. No character is a surrogate.
+    /// Returns true if its code point is this unit. No character is a surrogate.
     #[inline(always)]
     pub fn eq_u16(self, unit: u16) -> bool
         ensures equal { IsTrue result ↔ (self ≡ unit) }
@@ -439,7 +439,7 @@ impl PartialEq for Utf16Char {
 
     ghost laws = { Prim.search (comparing, rules) };
 
-    /// Whether both are the same character.
+    /// Returns true if both are the same character.
     #[inline(always)]
     fn eq(&self, other: &Utf16Char) -> bool {
         self.to_char() == other.to_char()
@@ -459,7 +459,7 @@ impl Ord for Utf16Char {
 
     ghost matches_eq = { Prim.search (comparing, rules) };
 
-    /// The order of the code points, as that of `char`.
+    /// The order of the code points, as for `char`.
     #[inline(always)]
     fn cmp(&self, other: &Utf16Char) -> Ordering {
         self.to_char().cmp(&other.to_char())
@@ -471,7 +471,7 @@ impl PartialOrd for Utf16Char {
 
     ghost laws = { partial_order_from_own_ties (Prim.search (comparing, rules)) (Prim.search (comparing, rules)) };
 
-    /// The answer of `cmp`, never `None`.
+    /// The result of `cmp`, never `None`.
     #[inline(always)]
     fn partial_cmp(&self, other: &Utf16Char) -> Option<Ordering> {
         Some(self.cmp(other))
@@ -483,7 +483,7 @@ impl Hash for Utf16Char {
 
     ghost respects_eq = { Prim.search (hashing, rules) };
 
-    /// Feeds what the `char` feeds, so equal characters of all three types hash alike.
+    /// Feeds what the `char` feeds, so equal characters of all three types have equal hashes.
     fn hash<H: Hasher>(&self, state: &mut H) {
         self.to_char().hash(state);
     }
@@ -501,7 +501,7 @@ impl Default for Utf16Char {
 impl From<char> for Utf16Char {
     ghost from_gives = { λ c r. r ≡ c };
 
-    /// The same character, kept as UTF-16.
+    /// Converts a `char` to UTF-16.
     #[inline(always)]
     fn from(c: char) -> Utf16Char {
         Utf16Char::new(c)
@@ -511,7 +511,7 @@ impl From<char> for Utf16Char {
 impl From<Utf16Char> for char {
     ghost from_gives = { λ c r. r ≡ c };
 
-    /// The same character, as a `char`.
+    /// Converts the character to a `char`.
     #[inline(always)]
     fn from(c: Utf16Char) -> char {
         c.to_char()
@@ -521,9 +521,9 @@ impl From<Utf16Char> for char {
 impl From<Utf8Char> for Utf16Char {
     ghost from_gives = { λ c r. r ≡ c };
 
-    // From bytes to units, by the number that both encode. The length says which code it is, and follows
-    // from the first byte as the number does: so the same tests tell both.
-    /// The same character, kept as UTF-16.
+    // Converts by way of the code point. The length determines which code it is, and follows from the first
+    // byte as the code point does: so the same tests give both.
+    /// Converts a character from UTF-8 to UTF-16.
     #[inline(always)]
     #[tactic(auto, using(crate::proofs::PaddedLemmas::four_bytes, crate::proofs::PaddedUnits::unit_value_padded, crate::proofs::PaddedUnits::IsPadded_units))]
     fn from(c: Utf8Char) -> Utf16Char {
@@ -554,7 +554,7 @@ impl fmt::Display for Utf16Char {
     }
 }
 
-/// As that of the `char`.
+/// Writes what `{:?}` writes of the `char`.
 impl fmt::Debug for Utf16Char {
     ghost debug_output = { debug_char };
 

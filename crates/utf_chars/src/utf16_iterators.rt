@@ -69,13 +69,13 @@ impl Iterator for Utf16Iterator {
 
     ghost remaining = { item_count (λ units. units) };
 
-    /// Takes the next unit, or gives `None` once all are taken.
+    /// Takes the next unit. `None` once all are taken.
     #[inline(always)]
     fn next(&mut self) -> Option<u16> {
         self.unsent.next_unit()
     }
 
-    /// How many units remain, exactly: (number, `Some` of it).
+    /// The exact number of units that remain: (number, `Some` of it).
     #[inline]
     fn size_hint(&self) -> (usize, Option<usize>)
         ensures lower { IsWithinCount result.0 (item_count (λ units. units) self.now) }
@@ -89,7 +89,7 @@ impl Iterator for Utf16Iterator {
 }
 
 impl ExactSizeIterator for Utf16Iterator {
-    /// How many units remain: 0 to 2.
+    /// The number of units that remain: 0 to 2.
     #[inline(always)]
     fn len(&self) -> usize {
         self.unsent.len()
@@ -101,7 +101,7 @@ impl Clone for Utf16Iterator {
 
     ghost is_infallible = { λ _. ⊤ };
 
-    /// The same units once more. It never fails.
+    /// A copy with the same units to come. It never fails.
     fn clone(&self) -> Result<Utf16Iterator, AllocError> {
         Ok(Utf16Iterator {
             unsent: self.unsent.copy(),
@@ -109,7 +109,7 @@ impl Clone for Utf16Iterator {
     }
 }
 
-/// What is left, as a list of numbers.
+/// The units that remain, as a list of numbers.
 impl fmt::Debug for Utf16Iterator {
     ghost debug_output = { debug_numbers };
 

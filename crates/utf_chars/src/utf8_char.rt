@@ -56,7 +56,7 @@ impl Model for Utf8Char {
 
 /// Making a character.
 impl Utf8Char {
-    /// The same character as the `char`.
+    /// Converts a `char`.
     #[inline(always)]
     #[tactic(auto, using(utf_base::proofs::StdText::scalar_from_std, crate::proofs::PaddedLemmas::value_padded, crate::proofs::PaddedLemmas::IsPadded_padded))]
     pub fn new(c: char) -> Utf8Char
@@ -84,7 +84,7 @@ impl Utf8Char {
 
     /// The character that begins the bytes: (character, length in bytes), the length 1 to 4.
     ///
-    /// What follows it does not matter. The error is that of `CharExt::from_utf8_slice_start`.
+    /// The bytes after it do not matter. The error is that of `CharExt::from_utf8_slice_start`.
     #[inline(always)]
     pub fn from_slice_start(src: &[u8]) -> Result<(Utf8Char, usize), Utf8Error>
         ensures decodes { DecodesFront as_scalar src.now result }
@@ -97,8 +97,8 @@ impl Utf8Char {
         Ok((Utf8Char::from_front(src, len), len))
     }
 
-    // The character whose code the first bytes are, as many as `len` says. They are copied and not made
-    // from the scalar, which is quicker.
+    // The character whose code the first `len` bytes are. They are copied and not computed from the scalar,
+    // which is faster.
     #[inline(always)]
     #[tactic(auto, using(utf_base::proofs::DecodedLemmas::front_len_utf8, crate::proofs::PaddedLemmas::IsPadded_padded, crate::proofs::PaddedLemmas::value_padded, crate::proofs::PaddedLemmas::front_padded))]
     fn from_front(src: &[u8], len: usize) -> Utf8Char
@@ -124,9 +124,9 @@ impl Utf8Char {
 
     /// The character that ends the bytes: (character, length in bytes), the length 1 to 4.
     ///
-    /// Where no character ends them, the error is that of the last byte by itself: a continuation
-    /// byte is `UnexpectedContinuationByte`, one that begins a longer character is `TooFewBytes`,
-    /// and one that never occurs in UTF-8 is `NonUtf8Byte`. No byte at all is `TooFewBytes`.
+    /// If no character ends them, the error depends only on the last byte: a continuation byte is
+    /// `UnexpectedContinuationByte`, one that begins a longer character is `TooFewBytes`, and one that never
+    /// occurs in UTF-8 is `NonUtf8Byte`. No byte at all is `TooFewBytes`.
     ///
     /// Only the last four bytes matter.
     #[inline(always)]
@@ -160,7 +160,7 @@ impl Utf8Char {
         }
     }
 
-    /// The character that begins the four bytes. What follows it is ignored.
+    /// The character that begins the four bytes. The bytes after it are ignored.
     ///
     /// The error is that of `CharExt::from_utf8_array`.
     #[inline(always)]
@@ -172,7 +172,7 @@ impl Utf8Char {
         Ok(Utf8Char::new(utf8::decode_array(utf8)?))
     }
 
-    /// The character that the four bytes are, without a check: the way back from `to_array`.
+    /// The character that the four bytes are, without a check: the inverse of `to_array`.
     ///
     /// Condition: the bytes are the UTF-8 of one character, and then zeros.
     #[inline(always)]
@@ -211,8 +211,8 @@ impl Utf8Char {
     }
 }
 
-// How many bytes the code has that begins the bytes, else what is wrong with them. ASCII is told by itself. Of other codes
-// the first byte tells it once more: so a compiler knows of the character what it asks of it next.
+// The length in bytes of the code that begins the bytes, otherwise their error. ASCII is handled separately. For
+// other codes the length is taken from the first byte again: so the compiler knows it when the character is used.
 #[inline(always)]
 fn front_len(src: &[u8]) -> Result<usize, Utf8Error>
     ensures ok { IfOk result (λ n. IsFrontCode src.now n) }
@@ -228,7 +228,7 @@ fn front_len(src: &[u8]) -> Result<usize, Utf8Error>
     Ok(code_len(src[0]))
 }
 
-// The first bytes, as many as `len` says, then zeros.
+// The first `len` bytes, followed by zeros.
 #[inline(always)]
 fn front_array(src: &[u8], len: usize) -> [u8; 4]
     requires { IsFrontLen 4 src.now len }
@@ -242,7 +242,7 @@ fn front_array(src: &[u8], len: usize) -> [u8; 4]
     }
 }
 
-// How many bytes a code has that the byte begins.
+// The length of a code that begins with the byte, in bytes.
 #[inline(always)]
 #[tactic(auto, using(crate::proofs::PaddedLemmas::asked_by_range))]
 fn code_len(first: u8) -> usize
@@ -258,9 +258,9 @@ fn code_len(first: u8) -> usize
     }
 }
 
-/// What a character is.
+/// Properties of a character.
 impl Utf8Char {
-    /// How many bytes it has in UTF-8: 1 to 4.
+    /// The length in UTF-8: 1 to 4 bytes.
     #[inline(always)]
     #[tactic(auto, using(crate::proofs::PaddedLemmas::asked_by_first))]
     pub fn len(self) -> usize
@@ -271,7 +271,7 @@ impl Utf8Char {
         code_len(self.bytes[0])
     }
 
-    /// Whether it is ASCII, below 128.
+    /// Returns true if it is ASCII, below 128.
     #[inline(always)]
     #[tactic(auto, using(crate::proofs::PaddedLemmas::first_is_ascii, crate::proofs::PaddedLemmas::of_one_byte))]
     pub fn is_ascii(self) -> bool
@@ -306,11 +306,11 @@ impl Utf8Char {
         ensures text { encode_utf8 result ≡ utf8 self }
     {
         let number = self.scalar();
-        // The type keeps nothing but scalars.
+        // The type keeps only scalars.
         unsafe { char::from_u32_unchecked(number) }
     }
 
-    /// Its UTF-8: (bytes, then zeros; length).
+    /// The UTF-8 of the character: (bytes, then zeros; length).
     #[inline(always)]
     #[tactic(auto, using(crate::proofs::OwnCodes::own_array))]
     pub fn to_array(self) -> ([u8; 4], usize)
@@ -326,7 +326,7 @@ impl Utf8Char {
         (bytes, self.len())
     }
 
-    /// It as a text of one character, borrowed from inside it.
+    /// The character as a text, borrowed from inside it.
     #[inline(always)]
     #[tactic(auto, using(utf_base::proofs::StdText::utf8_is_text, crate::proofs::TextLemmas::text_of_code))]
     pub fn as_str(&self) -> &str
@@ -336,13 +336,13 @@ impl Utf8Char {
         ensures first { first_of_text result.now ≡ Ok (self.now, length result.now) }
         ensures parses { parsed result.now ≡ Ok self.now }
     {
-        // Names the field: so a proof sees what the type keeps of it.
+        // Names the field, which brings the type's invariant into scope of the proof.
         let _ = &self.bytes;
         // The code of a scalar is text.
         unsafe { str::from_utf8_unchecked(self.as_bytes()) }
     }
 
-    /// Its UTF-8, borrowed from inside it.
+    /// The UTF-8 of the character, borrowed from inside it.
     #[inline(always)]
     #[tactic(auto, using(crate::proofs::OwnCodes::own_view, crate::proofs::PaddedLemmas::take_padded))]
     pub fn as_bytes(&self) -> &[u8]
@@ -353,10 +353,10 @@ impl Utf8Char {
         &self.bytes[..self.len()]
     }
 
-    /// Writes its UTF-8 to the front of the slice, and gives the length. What follows in the slice
-    /// stays.
+    /// Writes its UTF-8 to the front of the slice, and returns the length. The rest of the slice is
+    /// unchanged.
     ///
-    /// Condition: the slice has at least `len()` places; four always do.
+    /// Condition: the slice has at least `len()` elements; four are always enough.
     #[inline(always)]
     #[tactic(auto, using(crate::proofs::OwnCodes::own_front))]
     pub fn to_slice(self, dst: &mut [u8]) -> usize
@@ -366,7 +366,7 @@ impl Utf8Char {
         ensures written { dst.new ≡ utf8 self ++ drop (length (utf8 self)) dst.old }
         ensures decodes { decoded dst.new ≡ Ok (self, result) }
     {
-        // Names the field: so a proof sees what the type keeps of it.
+        // Names the field, which brings the type's invariant into scope of the proof.
         let _ = &self.bytes;
         let len = self.len();
         self.store(len, dst);
@@ -390,7 +390,7 @@ impl Utf8Char {
         }
     }
 
-    // The same where the compiler knows how many bytes there are: so no call copies them.
+    // Writes the code, whose length is a constant: so no call of memcpy is made.
     #[inline(always)]
     #[tactic(auto, using(crate::proofs::PaddedLemmas::take_padded))]
     fn store_by<const LEN: usize>(self, dst: &mut [u8])
@@ -437,7 +437,7 @@ impl Utf8Char {
         *self = self.to_ascii_lowercase();
     }
 
-    /// Whether the characters are equal but for the case of ASCII letters.
+    /// Returns true if the characters are equal but for the case of ASCII letters.
     #[inline(always)]
     pub fn eq_ignore_ascii_case(&self, other: &Utf8Char) -> bool
         ensures equal { IsTrue result ↔ (ascii_lowercase self.now ≡ ascii_lowercase other.now) }
@@ -449,7 +449,7 @@ impl Utf8Char {
 
 /// Comparisons with other types.
 impl Utf8Char {
-    /// Whether it is the same character as the `char`.
+    /// Returns true if it is the same character as the `char`.
     #[inline(always)]
     pub fn eq_char(self, c: char) -> bool
         ensures equal { IsTrue result ↔ (self ≡ c) }
@@ -466,7 +466,7 @@ impl Utf8Char {
         self.to_char().cmp(&c)
     }
 
-    /// Whether it is the same character.
+    /// Returns true if it is the same character.
     #[inline(always)]
     pub fn eq_utf16(self, c: Utf16Char) -> bool
         ensures equal { IsTrue result ↔ (self ≡ c) }
@@ -483,7 +483,7 @@ impl Utf8Char {
         self.to_char().cmp(&c.to_char())
     }
 
-    /// Whether it is this ASCII byte. No byte from 128 on is a character.
+    /// Returns true if it is this ASCII byte. No byte from 128 on is a character.
     #[inline(always)]
     pub fn eq_u8(self, byte: u8) -> bool
         ensures equal { IsTrue result ↔ ((byte < 128) × (self ≡ byte)) }
@@ -498,7 +498,7 @@ impl PartialEq for Utf8Char {
 
     ghost laws = { Prim.search (comparing, rules) };
 
-    /// Whether both are the same character.
+    /// Returns true if both are the same character.
     #[inline(always)]
     fn eq(&self, other: &Utf8Char) -> bool {
         self.to_char() == other.to_char()
@@ -518,7 +518,7 @@ impl Ord for Utf8Char {
 
     ghost matches_eq = { Prim.search (comparing, rules) };
 
-    /// The order of the code points, as that of `char`.
+    /// The order of the code points, as for `char`.
     #[inline(always)]
     fn cmp(&self, other: &Utf8Char) -> Ordering {
         self.to_char().cmp(&other.to_char())
@@ -530,7 +530,7 @@ impl PartialOrd for Utf8Char {
 
     ghost laws = { partial_order_from_own_ties (Prim.search (comparing, rules)) (Prim.search (comparing, rules)) };
 
-    /// The answer of `cmp`, never `None`.
+    /// The result of `cmp`, never `None`.
     #[inline(always)]
     fn partial_cmp(&self, other: &Utf8Char) -> Option<Ordering> {
         Some(self.cmp(other))
@@ -542,7 +542,7 @@ impl Hash for Utf8Char {
 
     ghost respects_eq = { Prim.search (hashing, rules) };
 
-    /// Feeds what the `char` feeds, so equal characters of all three types hash alike.
+    /// Feeds what the `char` feeds, so equal characters of all three types have equal hashes.
     fn hash<H: Hasher>(&self, state: &mut H) {
         self.to_char().hash(state);
     }
@@ -560,7 +560,7 @@ impl Default for Utf8Char {
 impl From<char> for Utf8Char {
     ghost from_gives = { λ c r. r ≡ c };
 
-    /// The same character, kept as UTF-8.
+    /// Converts a `char` to UTF-8.
     #[inline(always)]
     fn from(c: char) -> Utf8Char {
         Utf8Char::new(c)
@@ -570,7 +570,7 @@ impl From<char> for Utf8Char {
 impl From<Utf8Char> for char {
     ghost from_gives = { λ c r. r ≡ c };
 
-    /// The same character, as a `char`.
+    /// Converts the character to a `char`.
     #[inline(always)]
     fn from(c: Utf8Char) -> char {
         c.to_char()
@@ -580,8 +580,8 @@ impl From<Utf8Char> for char {
 impl From<Utf16Char> for Utf8Char {
     ghost from_gives = { λ c r. r ≡ c };
 
-    // From units to bytes, by the number that both encode.
-    /// The same character, kept as UTF-8.
+    // Converts by way of the code point.
+    /// Converts a character from UTF-16 to UTF-8.
     #[inline(always)]
     #[tactic(auto, using(crate::proofs::PaddedLemmas::value_padded, crate::proofs::PaddedLemmas::IsPadded_padded))]
     fn from(c: Utf16Char) -> Utf8Char {
@@ -616,7 +616,7 @@ impl fmt::Display for Utf8Char {
     }
 }
 
-/// As that of the `char`.
+/// Writes what `{:?}` writes of the `char`.
 impl fmt::Debug for Utf8Char {
     ghost debug_output = { debug_char };
 

@@ -74,13 +74,13 @@ impl Iterator for Utf8Iterator {
 
     ghost remaining = { item_count (λ bytes. bytes) };
 
-    /// Takes the next byte, or gives `None` once all are taken.
+    /// Takes the next byte. `None` once all are taken.
     #[inline(always)]
     fn next(&mut self) -> Option<u8> {
         self.unsent.next_byte()
     }
 
-    /// How many bytes remain, exactly: (number, `Some` of it).
+    /// The exact number of bytes that remain: (number, `Some` of it).
     #[inline]
     fn size_hint(&self) -> (usize, Option<usize>)
         ensures lower { IsWithinCount result.0 (item_count (λ bytes. bytes) self.now) }
@@ -94,7 +94,7 @@ impl Iterator for Utf8Iterator {
 }
 
 impl ExactSizeIterator for Utf8Iterator {
-    /// How many bytes remain: 0 to 4.
+    /// The number of bytes that remain: 0 to 4.
     #[inline(always)]
     fn len(&self) -> usize {
         self.unsent.len()
@@ -104,8 +104,8 @@ impl ExactSizeIterator for Utf8Iterator {
 impl Read for Utf8Iterator {
     ghost remaining = { λ bytes. Some bytes };
 
-    /// Moves as many bytes as fit into the front of the buffer, and gives their number. It never
-    /// fails, and the other places of the buffer stay.
+    /// Copies as many bytes as fit into the front of the buffer, and returns their number. It never fails,
+    /// and the rest of the buffer is unchanged.
     #[inline]
     fn read(&mut self, buf: &mut [u8]) -> io::Result<usize>
         ensures bound { ReadsAtMost result buf.new }
@@ -123,7 +123,7 @@ impl Clone for Utf8Iterator {
 
     ghost is_infallible = { λ _. ⊤ };
 
-    /// The same bytes once more. It never fails.
+    /// A copy with the same bytes to come. It never fails.
     fn clone(&self) -> Result<Utf8Iterator, AllocError> {
         Ok(Utf8Iterator {
             unsent: self.unsent.copy(),
@@ -131,7 +131,7 @@ impl Clone for Utf8Iterator {
     }
 }
 
-/// What is left, as a list of numbers.
+/// The bytes that remain, as a list of numbers.
 impl fmt::Debug for Utf8Iterator {
     ghost debug_output = { debug_numbers };
 

@@ -1,4 +1,4 @@
--- Texts of ASCII alone, by their lanes; and as units: each byte and a NUL.
+-- Texts of only ASCII, by their lanes; and as units: each byte and a NUL.
 use Rattle.std.proofs.Common.{◌≡◌, ℕ, zero, suc, ◌+◌, ◌-◌, ◌<◌, ◌≤◌, List, [], ◌∷◌, length, get_or, arith, lit<, IsUtf8, Bool, true, false, ◌++◌, map, replicate, refl, sym, ap, ap₂, ◌∙◌, inl, inr}
 use Rattle.std.proofs.lemmas.Simd.{get_or-chunk, length-chunk, get_or-replicate}
 use Rattle.std.proofs.lemmas.Str.{IsUtf8-from_ascii}
@@ -31,7 +31,7 @@ ascii_text xs low = IsUtf8-from_ascii xs (λ i. each xs low i)
     each (x ∷ xs) low zero = low 0 (omega arith) (omega arith)
     each (x ∷ xs) low (suc i) = each xs (λ k ge lt. low (suc k) (omega arith) (omega arith)) i
 
--- The places of two vectors of d lanes, one beside the other.
+-- The offsets of two vectors of d lanes, side by side.
 abbrev side_places : ℕ → ℕ → ℕ → List ℕ
 side_places d p zero = []
 side_places d p (suc n) = p ∷ (p + d) ∷ side_places d (suc p) n
@@ -64,7 +64,7 @@ module _ (d : ℕ) (xs : List ℕ) (long : length xs ≡ d) where
   pub nuls_first : (p n : ℕ) → p + n ≤ d → map (λ k. get_or (nuls ++ xs) k 0) (side_places d p n) ≡ concat_range (λ k. halves true (get_or xs k 0) 0) p n
   nuls_first p n within = beside (nuls ++ xs) d p n ∙ joined_same _ _ p n (λ k ge lt. left k (omega arith))
 
--- what a byte of ASCII gives after bytes that ask for no more
+-- the unit of an ASCII byte after bytes that ask for no more
 one_given : (high : Bool) (xs : List ℕ) (k : ℕ) → get_or xs k 0 < 0xF0 → get_or xs (k + 1) 0 < 0xE0 → get_or xs (k + 2) 0 < 0xC0 → get_or xs (k + 3) 0 < 0x80
     → utf16_bytes_at high xs k ≡ halves high (get_or xs (k + 3) 0) 0
 unfolding utf16_bytes_at

@@ -1,4 +1,4 @@
--- What a block gives: the units of its lanes, in order.
+-- The units of a block: those of its lanes, in order.
 use Rattle.std.proofs.Common.{◌≡◌, ℕ, zero, suc, ◌+◌, ◌-◌, ◌*◌, ◌/◌, ◌%◌, ◌<◌, ◌≤◌, Bool, true, false, cond, leb, ltb, ◌&&◌, List, [], ◌∷◌, ◌++◌, length, get_or, bit_and, refl, sym, ap, ap₂, ◌∙◌, arith, lit<, ltb-true, ltb-false}
 use Rattle.std.proofs.lemmas.Grind.{common_steps}
 use Rattle.std.proofs.lemmas.List.{ext_get_or, get_or_append_left, get_or-append_right, take_all}
@@ -24,7 +24,7 @@ below_8 P a b c d e f g h (suc (suc (suc (suc (suc (suc zero)))))) lt = g
 below_8 P a b c d e f g h (suc (suc (suc (suc (suc (suc (suc zero))))))) lt = h
 below_8 P a b c d e f g h (suc (suc (suc (suc (suc (suc (suc (suc k)))))))) lt = absurd (omega arith)
 
--- Bytes of two vectors, one beside the other.
+-- Bytes of two vectors, side by side.
 module _ (xs ys : List ℕ) (p : length xs ≡ 16) (q : length ys ≡ 16) where
   abbrev pub first_pairs : List ℕ
   first_pairs =
@@ -111,7 +111,7 @@ module _ (high_first : Bool) (xs : List ℕ) (place s : ℕ) (start : 3 ≤ plac
       (λ i lt. let there : place - 3 + (s + i) ≡ place - 3 + s + i = omega arith in lane_is (s + i) (omega arith) (omega arith) ∙ ap (utf16_bytes_at high_first xs) there) in
       ap₂ (λ x y. x ++ y) first second ∙ all ∙ split ∙ ap₂ (λ x y. x ++ y) none rest
 
--- Lanes where no byte begins a code of four.
+-- The lanes if no byte begins a code of four.
 
 module _ (third second : List ℕ) (p : length third ≡ 16) (q : length second ≡ 16) where
   abbrev greater : List ℕ
@@ -177,7 +177,7 @@ module _ {third second first here xs : List ℕ} {place : ℕ} (loaded : AreLoad
   pub loaded_highs : {high : List ℕ} → AreLanes 16 high (lane_of_four unit_high third second first here) → AreLanes 16 high (unit_high_at xs place)
   loaded_highs highs = record { wide = highs.wide; each = λ k lt. rw (third_at k lt, second_at k lt, first_at k lt, here_at k lt) at (highs.each k lt) }
 
--- Vectors before sixteen bytes that NULs stand before have what would be loaded there.
+-- The vectors before sixteen bytes that NULs precede equal the ones that would be loaded there.
 
 front_same : (v xs : List ℕ) (p : ℕ) → length v ≡ 16 → p + 16 ≤ length xs → ((k : ℕ) → k < 16 → get_or v k 0 ≡ get_or xs (p + k) 0) → v ≡ chunk p 16 xs
 front_same v xs p wide within lanes =

@@ -12,7 +12,7 @@ use Rattle.utf_lanes.specs.UnitBlocks.{AreCodes, AreFirstPaired, AllPaired}
 use Rattle.utf_lanes.specs.BytePairs.{unit_of, units_of}
 use Rattle.utf_lanes.proofs.UnitPairs.{unit_at}
 
--- each of some units pairs with the one before it, where u stands before the first, and the last begins no pair
+-- each of some units pairs with the one before it, if u precedes the first, and the last begins no pair
 ArePairedAfter : ℕ → List ℕ → Type 0
 ArePairedAfter u [] = is_leading_surrogate u ≡ false
 ArePairedAfter u (v ∷ vs) = (is_leading_surrogate u ≡ is_trailing_surrogate v) × ArePairedAfter v vs
@@ -94,7 +94,8 @@ one_more us code rest s scalar e f more = record {
     all_more x xs h r zero d lt = h
     all_more x xs h r (suc k) d lt = r k d (omega arith)
 
--- What is said of some units: the first ends no pair, each ends one just where that before it begins one, and the last begins none.
+-- Properties of units that pair: the first ends no pair, each ends one if and only if the one before it
+-- begins one, and the last begins none.
 record IsPaired (us : List ℕ) : Type 0 where
   fits : (k : ℕ) → get_or us k 0 < 0x1_0000
   first : is_trailing_surrogate (get_or us 0 0) ≡ false
@@ -115,7 +116,7 @@ none_ends [] k le = refl
 none_ends (u ∷ us) zero le = absurd (omega arith)
 none_ends (u ∷ us) (suc k) le = none_ends us k (omega arith)
 
--- the units after the first, where that begins no pair
+-- the units after the first, if that begins no pair
 rest_paired : (u : ℕ) (us : List ℕ) → IsPaired (u ∷ us) → is_leading_surrogate u ≡ false → IsPaired us
 rest_paired u us p none = record {
   fits = λ k. p.fits (suc k);
@@ -137,7 +138,7 @@ after_pair u v us p leading =
       last = λ k e. p.last (suc (suc k)) (omega arith);
     }
 
--- by the first unit: a code of one or of two, and what the others are
+-- by the first unit: a code of one or of two, and the properties of the rest
 by_first : (u : ℕ) (us : List ℕ) → IsPaired (u ∷ us) → ((ws : List ℕ) → length ws ≤ length us → IsPaired ws → AreCodes ws) → (t : Bool) → is_leading_surrogate u ≡ t → AreCodes (u ∷ us)
 by_first u us p others false e =
     let code = unit_is_code u (p.fits 0) (plain u e p.first) in
@@ -177,7 +178,7 @@ module _ (us : List ℕ) (fits : (k : ℕ) → get_or us k 0 < 0x1_0000) (first 
             rw (here, front e (e - 1) (omega arith)) last;
       })
 
-  -- where the last begins a pair, all before it
+  -- if the last begins a pair, all units before it are codes
   pub front_codes_less : (e : ℕ) → 0 < e → e ≤ length us → AllPaired us 1 e → is_leading_surrogate (get_or us (e - 1) 0) ≡ true → AreCodes (take (e - 1) us)
   front_codes_less e some le pairs last =
       elim (cases_lt 1 e) [
@@ -213,7 +214,7 @@ units_fit high (a ∷ []) fits k = omega arith
 units_fit high (a ∷ b ∷ bytes) fits zero = unit_below high a b (fits 0).fits (fits 1).fits
 units_fit high (a ∷ b ∷ bytes) fits (suc k) = units_fit high bytes (λ j. fits (suc (suc j))) k
 
--- the last unit before a place, as the code makes it
+-- the last unit before an offset, as the code makes it
 pub before_end : (high : Bool) (bytes : List ℕ) (e : ℕ) → 1 ≤ e → 2 * e ≤ length bytes
     → get_or (units_of high bytes) (e - 1) 0 ≡ unit_of high (get_or bytes (2 * e - 2) 0) (get_or bytes (2 * e - 1) 0)
 before_end high bytes e some le =
@@ -221,7 +222,7 @@ before_end high bytes e some le =
     let second : 2 * e - 2 + 1 ≡ 2 * e - 1 = omega arith in
     rw (first, second) at (unit_at high bytes (e - 1) (omega arith))
 
--- A front of units that pair, judged by its last unit as the code makes it.
+-- A front of units that pair, validated by its last unit in the way of the code.
 module _ (high : Bool) (bytes : List ℕ) (fits : (k : ℕ) → Fits w8 (get_or bytes k 0)) (e : ℕ) (some : 0 < e) (within : 2 * e ≤ length bytes)
     (first : 0 < e → is_trailing_surrogate (get_or (units_of high bytes) 0 0) ≡ false) (pairs : AllPaired (units_of high bytes) 1 e)
     (last : ℕ) (made : last ≡ unit_of high (get_or bytes (2 * e - 2) 0) (get_or bytes (2 * e - 1) 0)) where
@@ -234,7 +235,7 @@ module _ (high : Bool) (bytes : List ℕ) (fits : (k : ℕ) → Fits w8 (get_or 
   pub units_codes_less : is_leading_surrogate last ≡ true → AreCodes (units_of high (take (2 * (e - 1)) bytes))
   units_codes_less leads = rw (units_front high bytes (e - 1)) at (front_codes_less (units_of high bytes) (units_fit high bytes fits) (first some) e some (units_length high bytes e within) pairs (last_is ∙ leads))
 
--- The first eight units, judged after a NUL: the first ends no pair, and the others are as they stand.
+-- The first eight units, validated after a NUL: the first ends no pair, and the others pair as they are.
 
 after_a_nul : (high : Bool) (v : List ℕ) → units_of high (0 ∷ 0 ∷ v) ≡ 0 ∷ units_of high v
 after_a_nul true v = refl
@@ -257,7 +258,7 @@ module _ (high : Bool) (bytes front : List ℕ) (count : ℕ) (few : count ≤ 8
       = subst (λ j. is_leading_surrogate (get_or (units_of high (take 16 bytes)) k 0) ≡ is_trailing_surrogate (get_or (0 ∷ units_of high (take 16 bytes)) j 0)) next (shifted (suc k) (omega arith) (omega arith)) in
       rw (same k (omega arith), same (k + 1) (omega arith)) at pair
 
--- and so they are judged where they pair
+-- the first eight units pass the validation after a NUL if they pair
 pub after_a_nul_pairs : (high : Bool) (bytes front : List ℕ) (count : ℕ) → count ≤ 8 → front ≡ 0 ∷ 0 ∷ take 16 bytes → AreFirstPaired (units_of high bytes) count → AllPaired (units_of high front) 1 (1 + count)
 after_a_nul_pairs high bytes front count few is pairs =
     subst (λ us. AllPaired us 1 (1 + count)) (sym (ap (units_of high) is ∙ after_a_nul high (take 16 bytes))) shifted_back

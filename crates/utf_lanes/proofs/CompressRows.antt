@@ -1,4 +1,5 @@
--- Tables that have for each mask the places of the bytes that it keeps, computed at each mask; and what keeping them makes of a vector.
+-- Tables with the offsets of the bytes that each mask keeps, computed at each mask; and the vector of the
+-- kept bytes.
 use Rattle.std.proofs.Common.{◌≡◌, ℕ, ◌+◌, ◌*◌, ◌/◌, ◌<◌, ◌≤◌, Bool, true, false, cond, ◌&&◌, eqb, ltb, leb, List, [], ◌∷◌, ◌++◌, map, length, get_or, take, drop, count_ones, arith, refl, sym, ap, ap₂, ◌∙◌, append_assoc, length-append, length-take, take-append-drop, w8, ltb-true, leb-true, eqb-true}
 use Rattle.std.proofs.lemmas.Bool.{and_parts}
 use Rattle.std.proofs.lemmas.Simd.{Each1-from_get_or, swz_l, SwzOk, SwzOk-from_below, length-swz_l, get_or-swz_l_below, take_more_put_chunk}
@@ -25,7 +26,7 @@ same_is [] (y ∷ ys) h = absurd cc
 same_is (x ∷ xs) [] h = absurd cc
 same_is (x ∷ xs) (y ∷ ys) h = let p = and_parts (eqb x y) (same xs ys) h in ap₂ (λ z zs. z ∷ zs) (eqb-true x y p.0) (same_is xs ys p.1)
 
--- A table, the places that a mask keeps of the part number i, how many these are of n parts.
+-- A table, the offsets that a mask keeps of the part number i, and their number for n parts.
 module _ (table : List (List ℕ)) (places : ℕ → ℕ → List ℕ) (len : ℕ → ℕ) (n : ℕ) where
   abbrev is_right : ℕ → List ℕ → Bool
   is_right m row = leb (count_ones m) 8 && (each_below (λ k. ltb (get_or row k 0) 16) 16 && same (take (len m) row) (concat_range (places m) 0 n))
@@ -48,12 +49,12 @@ module _ (table : List (List ℕ)) (places : ℕ → ℕ → List ℕ) (len : �
           listed = same_is (take (len m) row) (concat_range (places m) 0 n) q.1;
         }
 
--- The vector at those places.
+-- The elements of the vector at those offsets.
 
 pub in_vector : (js : List ℕ) → length js ≡ 16 → ((k : ℕ) → k < 16 → get_or js k 0 < 16) → SwzOk w8 16 16 0 js
 in_vector js long below = SwzOk-from_below w8 16 1 16 0 js refl (omega (arith, long)) (Each1-from_get_or (λ j. j < 16) js 0 (λ k lt. below k (omega (arith, long))))
 
--- the vector at some places is what it has there
+-- the vector at some offsets is the list of its elements there
 at_places : (v js : List ℕ) → length js ≡ 16 → ((k : ℕ) → k < 16 → get_or js k 0 < 16) → swz_l w8 16 v 0 js ≡ map (λ j. get_or v j 0) js
 at_places v js long below =
     ext_get_or 0 (swz_l w8 16 v 0 js) (map (λ j. get_or v j 0) js) (length-swz_l w8 16 v 0 js ∙ sym (length-map js (λ j. get_or v j 0)))
@@ -63,22 +64,22 @@ at_places v js long below =
     get_or-swz_l_below w8 16 v 0 js i (omega (arith, long)) (below i few) ∙ ap (λ n. get_or v n 0) at
     ∙ sym (get_or-map (λ j. get_or v j 0) js i 0 0 (omega (arith, long))))
 
--- bytes at the places of parts are those of the parts
+-- bytes at the offsets of parts are the bytes of the parts
 pub places_kept : (places bytes : ℕ → List ℕ) (len n : ℕ) (v js : List ℕ) → ((i : ℕ) → map (λ j. get_or v j 0) (places i) ≡ bytes i)
     → take len js ≡ concat_range places 0 n → map (λ j. get_or v j 0) (take len js) ≡ concat_range bytes 0 n
 places_kept places bytes len n v js each are =
     ap (map (λ j. get_or v j 0)) are ∙ joined_map (λ j. get_or v j 0) places 0 n ∙ joined_same (λ i. map (λ j. get_or v j 0) (places i)) bytes 0 n (λ i ge lt. each i)
 
--- a part that stands only where a bit says so
+-- a part that is kept only if a bit is set
 pub kept_where : (h : ℕ → ℕ) (b : Bool) (xs : List ℕ) → map h (cond b xs []) ≡ cond b (map h xs) []
 kept_where h true xs = refl
 kept_where h false xs = refl
 
--- the first of them
+-- the first of the kept bytes
 pub front_kept : (v js : List ℕ) (len : ℕ) → length js ≡ 16 → ((k : ℕ) → k < 16 → get_or js k 0 < 16) → take len (swz_l w8 16 v 0 js) ≡ map (λ j. get_or v j 0) (take len js)
 front_kept v js len long below = ap (take len) (at_places v js long below) ∙ take-map (λ j. get_or v j 0) len js
 
--- Bytes stored from a place on, of which the first n count.
+-- Bytes stored from an offset on, of which the first n count.
 pub part_stored : (xs ys : List ℕ) (i n : ℕ) → n ≤ length ys → i + length ys ≤ length xs → take (i + n) (put_chunk i xs ys) ≡ take i xs ++ take n ys
 part_stored xs ys i n few room =
     let front : length (take i xs ++ take n ys) ≡ i + n = omega (arith, length-append (take i xs) (take n ys), length-take i xs, length-take n ys) in
@@ -88,7 +89,7 @@ part_stored xs ys i n few room =
     ∙ ap (take (i + n)) (take_more_put_chunk i xs ys (i + length ys) refl room ∙ parts)
     ∙ take_at (take i xs ++ take n ys) (drop n ys) (i + n) front
 
--- A list that grew, was written to and was cut: of the room at its end what was added stays.
+-- A list that grew, was written to and was truncated: of the buffer at its end the part that was added stays.
 pub written_back : (old nuls grown room more new added : List ℕ) (start len end : ℕ) → grown ≡ old ++ nuls → start ≡ length old → length room ≡ len
     → take end room ≡ take start grown ++ added → new ≡ take end (take len (room ++ more)) → new ≡ old ++ added
 written_back old nuls grown room more new added start len end e f long written cut =

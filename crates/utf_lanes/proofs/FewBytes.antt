@@ -1,4 +1,5 @@
--- A few bytes as one vector: the first and the last of them, and where those are put; and judged at once, as text that NULs stand before.
+-- A few bytes as one vector: the first and the last of them, and the lanes that they go to; and their
+-- validation in one step, as text that NULs precede.
 use Rattle.std.proofs.Common.{◌≡◌, ◌↔◌, ℕ, suc, ◌+◌, ◌-◌, ◌*◌, ◌/◌, ◌<◌, ◌≤◌, Bool, true, cond, ◌&&◌, ◌||◌, eqb, ltb, List, [], ◌∷◌, ◌++◌, length, get_or, take, replicate, arith, sym, ap, subst, ◌∙◌, inl, inr, w8, eqb-true, ltb-true, length-take, zero, drop, refl, lit<, IsUtf8, length-append}
 use Rattle.std.proofs.lemmas.Bool.{and_parts, cases_lt, lt-ltb, le-ltb}
 use Rattle.std.proofs.lemmas.List.{ext_get_or, get_or_append_left, get_or-append_right, get_or-replicate, get_or-take, length-replicate, length-append, get_or-append-add, take_at, drop_at, take-append-le}
@@ -30,12 +31,13 @@ ends_at w xs within k lt =
       | inr more ↦ rw (le-ltb k w more) (get_or-append_right (take w xs) (chunk (length xs - w) w xs) w k 0 first more ∙ get_or-chunk (length xs - w) w xs (k - w) 0 (omega arith))
     ]
 
--- The table has for each number i of bytes past four where they are: after NULs. Of less than eight there are four at either end.
+-- The table has a row for each number i of bytes past four: they follow NULs. Of less than eight there are
+-- four at either end.
 
 abbrev pub half : ℕ → ℕ
 half i = cond (ltb i 4) 4 8
 
--- where the lane k is taken from
+-- the lane that the lane k is taken from
 abbrev is_past : List (List ℕ) → ℕ → ℕ → Bool
 is_past table i k =
     let r = get_or (get_or table i []) k 0 in
@@ -103,7 +105,7 @@ past_follow here first second third f g h k lt =
       λ all. rw (f k lt, g k lt, h k lt, ← same) (all k (omega arith) (omega arith)),
     )
 
--- Where all lanes are ASCII, all bytes are: each is in some lane.
+-- If all lanes are ASCII, all bytes are: each is in some lane.
 pub ends_ascii : (w : ℕ) (v bytes : List ℕ) → w ≤ length bytes → length bytes ≤ w + w → w ≤ 8 → ((k : ℕ) → k < w + w → get_or v k 0 ≡ get_or bytes (end_place w (length bytes) k) 0)
     → ((k : ℕ) → k < 16 → get_or v k 0 < 0x80) → AreAscii bytes 0 (length bytes)
 ends_ascii w v bytes enough few narrow lanes low k least most =
@@ -118,7 +120,7 @@ ends_ascii w v bytes enough few narrow lanes low k least most =
           rw same at (low r (omega arith)))
     ]
 
--- Where all bytes are ASCII, the lanes that have them are.
+-- If all bytes are ASCII, the lanes that have them are.
 pub ascii_ends : (w : ℕ) (v bytes : List ℕ) → w ≤ length bytes → ((k : ℕ) → k < w + w → get_or v k 0 ≡ get_or bytes (end_place w (length bytes) k) 0)
     → AreAscii bytes 0 (length bytes) → (k : ℕ) → k < w + w → get_or v k 0 < 0x80
 ascii_ends w v bytes enough lanes ascii k lt =
@@ -137,7 +139,7 @@ module _ (xs : List ℕ) where
   nul : get_or ended (length xs) 0 ≡ 0
   nul = let at : length xs - length xs ≡ 0 = omega arith in get_or-append_right xs (0 ∷ []) (length xs) (length xs) 0 refl (omega arith) ∙ ap (λ j. get_or (0 ∷ []) j 0) at
 
-  -- a NUL may follow where nothing is asked for
+  -- a NUL may follow if no byte is asked for
   nul_follows : EndsCharacter xs (length xs) → (k : ℕ) → k + 3 ≡ length xs → Follows (get_or ended k 0) (get_or ended (k + 1) 0) (get_or ended (k + 2) 0) (get_or ended (k + 3) 0)
   nul_follows closed k at =
       let before = closed k at in
@@ -163,7 +165,7 @@ module _ (xs : List ℕ) where
     | inr ge ↦ (let at : p ≡ length xs = omega arith in rw (at, nul) (λ high. absurd (omega arith)))
   ]
 
-  -- Bytes are text to their end where the last of them ask for no more.
+  -- Bytes are text to their end if the last of them ask for no more.
   pub whole_text : (p : ℕ) → 3 ≤ p → p ≤ length xs → IsUtf8 (take p xs) → Begins xs p → AllMayFollow xs p (length xs) → EndsCharacter xs (length xs) → IsUtf8 xs
   whole_text p three le text first all closed =
       let long : length ended ≡ length xs + 1 = length-append xs (0 ∷ []) in
@@ -179,7 +181,7 @@ nuls_ascii (suc m) (suc i) = nuls_ascii m i
 first_begins : (d : ℕ) → Follows 0 0 0 d → 0x80 ≤ d → 0xC0 ≤ d
 first_begins d f high = let may = f.early (lit< tt) (lit< tt) in may.first (lit< tt) high
 
--- Bytes after NULs, three at least.
+-- At least three bytes after NULs.
 module _ (j : ℕ) (bytes : List ℕ) where
   abbrev nuls : List ℕ
   nuls = 0 ∷ 0 ∷ 0 ∷ replicate j 0
@@ -213,14 +215,14 @@ module _ (j : ℕ) (bytes : List ℕ) where
       let three : j + 3 + (m + 2) ≡ k + 2 = omega (arith, past_len) in
       rw (← past_at m, ← past_at (m + 1), ← past_at (m + 2), one, two, three) at last
 
-  -- they are text to their end where the last of them ask for no more
+  -- bytes after NULs are text to their end if the last of them ask for no more
   pub text_padded : 3 ≤ length bytes → AllMayFollow past 3 (length past) → EndsCharacter bytes (length bytes) → IsUtf8 bytes
   text_padded enough all closed =
       let first : Follows 0 0 0 (get_or (replicate j 0 ++ bytes) 0 0) = all 0 (omega arith) (omega (arith, past_len)) in
       without_nuls
       (whole_text past 3 (omega arith) (omega (arith, past_len)) (IsUtf8-from_ascii (0 ∷ 0 ∷ 0 ∷ []) (nuls_ascii 3)) (first_begins (get_or (replicate j 0 ++ bytes) 0 0) first) all (closed_past enough closed))
 
--- sixteen lanes of them, at most as many of which are bytes
+-- sixteen lanes, at most as many of which are bytes
 pub few_text : (here bytes : List ℕ) (j : ℕ) → here ≡ replicate j 0 ++ bytes → length here ≡ 16 → 3 ≤ length bytes → AllMayFollow (0 ∷ 0 ∷ 0 ∷ here) 3 19 → EndsCharacter bytes (length bytes) → IsUtf8 bytes
 few_text here bytes j e long enough all closed =
     let size : length (0 ∷ 0 ∷ 0 ∷ (replicate j 0 ++ bytes)) ≡ 19 = ap (λ ys. length (0 ∷ 0 ∷ 0 ∷ ys)) (sym e) ∙ omega (arith, long) in
@@ -256,7 +258,7 @@ module _ (xs : List ℕ) where
       let two : k + 2 + 3 ≡ k + 3 + 2 = omega arith in
       rw (← at_byte k, ← at_byte (k + 1), ← at_byte (k + 2), ← at_byte (k + 3), one, two) (all (k + 3) (omega arith) (omega arith))
 
-  -- to a place at which a code begins
+  -- text up to an offset at which a code begins
   pub text_to : (p end : ℕ) → p < end → end ≤ length xs → Begins xs p → AllMayFollow (0 ∷ 0 ∷ 0 ∷ xs) 3 (end + 3) → IsUtf8 (take p xs)
   text_to p end lt within begins all =
       let first : Follows 0 0 0 (get_or xs 0 0) = all 0 (omega arith) (omega arith) in

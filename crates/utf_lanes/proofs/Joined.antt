@@ -40,7 +40,7 @@ joined_moved f g p q (suc n) same =
     let sq : suc q + i ≡ q + suc i = omega arith in
     rw (sp, sq) (same (suc i) (omega arith))))
 
--- two halves of as many
+-- two halves of equal length
 pub joined_halves : (f g h : ℕ → List ℕ) (n : ℕ) → ((i : ℕ) → i < n → f i ≡ h i) → ((i : ℕ) → i < n → g i ≡ h (n + i)) → concat_range f 0 n ++ concat_range g 0 n ≡ concat_range h 0 (n + n)
 joined_halves f g h n front back =
     let at : 0 + n ≡ n = omega arith in

@@ -14,13 +14,13 @@ use Rattle.utf_base.proofs.StdText.{utf8_is_text}
 use Rattle.utf_lanes.specs.TextBlocks.{IsContinuation, MayBegin, Follows, AllMayFollow}
 
 -- a code of n bytes begins the list
-abbrev Front : List ℕ → ℕ → Type 0
+abbrev pub Front : List ℕ → ℕ → Type 0
 Front w n = (s : ℕ) × BeginsWith utf8 w s n
 
 continuation : (b : ℕ) → IsContinuation b → is_continuation b ≡ true
 continuation b h = grind (arith, common_steps)
 
-front-2 : (w : List ℕ) → 2 ≤ length w → MayBegin (get_or w 0 0) (get_or w 1 0) → get_or w 0 0 < 0xE0 → Front w 2
+pub front-2 : (w : List ℕ) → 2 ≤ length w → MayBegin (get_or w 0 0) (get_or w 1 0) → get_or w 0 0 < 0xE0 → Front w 2
 front-2 w enough b top =
     let v = (get_or w 0 0 - 0xC0) * 64 + (get_or w 1 0 - 0x80) in
     let least = b.least in
@@ -34,7 +34,7 @@ front-2 w enough b top =
 at_byte : {P : Type 0} (c n : ℕ) → (c ≡ n → P) → ((c ≡ n) × P) ⊎ (c ≡ n → ⊥)
 at_byte c n f = elim (cases_eq c n) [ inl e ↦ inl (e, f e) | inr other ↦ inr other ]
 
-front-3 : (w : List ℕ) → 3 ≤ length w → MayBegin (get_or w 0 0) (get_or w 1 0) → IsContinuation (get_or w 2 0) → 0xE0 ≤ get_or w 0 0 → get_or w 0 0 < 0xF0 → Front w 3
+pub front-3 : (w : List ℕ) → 3 ≤ length w → MayBegin (get_or w 0 0) (get_or w 1 0) → IsContinuation (get_or w 2 0) → 0xE0 ≤ get_or w 0 0 → get_or w 0 0 < 0xF0 → Front w 3
 front-3 w enough b third low top =
     let v = (get_or w 0 0 - 0xE0) * 4096 + (get_or w 1 0 - 0x80) * 64 + (get_or w 2 0 - 0x80) in
     let second = b.second in
@@ -46,7 +46,7 @@ front-3 w enough b third low top =
     let scalar : IsScalar v = record { below = omega arith; no_surrogate = λ g. omega arith } in
     (v, begins_with w 3 v sums (rw least_value-3 least) scalar)
 
-front-4 : (w : List ℕ) → 4 ≤ length w → MayBegin (get_or w 0 0) (get_or w 1 0) → IsContinuation (get_or w 2 0) → IsContinuation (get_or w 3 0) → 0xF0 ≤ get_or w 0 0 → Front w 4
+pub front-4 : (w : List ℕ) → 4 ≤ length w → MayBegin (get_or w 0 0) (get_or w 1 0) → IsContinuation (get_or w 2 0) → IsContinuation (get_or w 3 0) → 0xF0 ≤ get_or w 0 0 → Front w 4
 front-4 w enough b third fourth low =
     let v = (get_or w 0 0 - 0xF0) * 262144 + (get_or w 1 0 - 0x80) * 4096 + (get_or w 2 0 - 0x80) * 64 + (get_or w 3 0 - 0x80) in
     let second = b.second in
@@ -60,14 +60,14 @@ front-4 w enough b third fourth low =
     let scalar : IsScalar v = record { below = omega arith; no_surrogate = λ g. omega arith } in
     (v, begins_with w 4 v sums (rw least_value-4 least) scalar)
 
--- text goes on by one code
+-- text continues with one more code
 pub text_step : (xs : List ℕ) (p s n : ℕ) → IsUtf8 (take p xs) → BeginsWith utf8 (drop p xs) s n → IsUtf8 (take (p + n) xs)
 text_step xs p s n text (h, e) =
     let all : 0 + length (utf8 s) - 0 ≡ n = omega (arith, e) in
     let code : take n (drop p xs) ≡ utf8 s = rw all at h.equal in
     rw (take-add, code) (IsUtf8-append (take p xs) (utf8 s) text (utf8_is_text s h.scalar))
 
--- the byte at the place is none that continues
+-- the byte at the offset is no continuation byte
 abbrev pub Begins : List ℕ → ℕ → Type 0
 Begins xs p = 0x80 ≤ get_or xs p 0 → 0xC0 ≤ get_or xs p 0
 
@@ -102,7 +102,7 @@ module _ (xs : List ℕ) (i e : ℕ) (end : e < length xs) (last : Begins xs e) 
         | inr ge ↦ (let at : e ≡ j = omega arith in let first : Begins xs j = subst (Begins xs) at last in absurd (omega arith))
       ]
 
-  -- one code from the place k + 3 on: its bytes are there, and after them another byte begins one
+  -- one code from the offset k + 3 on: its bytes are there, and after them another byte begins one
   record OneCode (k : ℕ) : Type 0 where
     len : ℕ
     some : 0 < len
@@ -123,7 +123,7 @@ module _ (xs : List ℕ) (i e : ℕ) (end : e < length xs) (last : Begins xs e) 
     small : get_or xs (k + 3) 0 < 0xC0 → get_or xs (k + 3) 0 < 0x80
     small low = elim (cases_lt (get_or xs (k + 3) 0) 0x80) [ inl lt ↦ lt | inr ge ↦ (let g = first ge in absurd (omega arith)) ]
 
-    -- a code of so many bytes, before which and in whose bytes none asks for the byte after it
+    -- a code of `len` bytes, if neither the bytes before it nor its own ask for the byte after it
     of_len : (len j l m : ℕ) → 0 < len → k + len ≡ j → j + 1 ≡ l → j + 2 ≡ m → k + 3 + len ≤ e → Front (drop (k + 3) xs) len
         → get_or xs j 0 < 0xF0 → get_or xs l 0 < 0xE0 → get_or xs m 0 < 0xC0 → OneCode k
     of_len len j l m some at one two within front low middle high = record {

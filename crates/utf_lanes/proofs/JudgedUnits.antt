@@ -1,4 +1,4 @@
--- Units judged by two masks, and the bytes of their lanes.
+-- Units validated by two masks, and the bytes of their lanes.
 use Rattle.std.proofs.Common.{◌≡◌, ℕ, zero, suc, ◌+◌, ◌-◌, ◌*◌, ◌/◌, ◌%◌, ◌^◌, ◌<◌, ◌≤◌, Bool, true, false, cond, eqb, List, [], ◌∷◌, ◌++◌, length, get_or, take, arith, refl, sym, ap, ◌∙◌, inl, inr, append_assoc, length-append}
 use Rattle.std.proofs.lemmas.Bool.{cases_lt}
 use Rattle.std.proofs.lemmas.Grind.{common_steps}
@@ -141,7 +141,7 @@ module _ {n : ℕ} (low high before firsts middles lasts : List ℕ) (start : is
   pub text_codes : concat_range (slot_at firsts middles lasts) 0 n ≡ concat_range (code_at (lane_unit low high)) 0 n
   text_codes = joined_same (slot_at firsts middles lasts) (code_at (lane_unit low high)) 0 n (λ i ge lt. code_is i (omega arith))
 
--- All but the last of some units, where that is a leading surrogate.
+-- All but the last of some units, if that is a leading surrogate.
 module _ (n m : ℕ) (one : n ≡ m + 1) (u : ℕ → ℕ) (old new : List ℕ) (last : is_leading_surrogate (u m) ≡ true) (items : new ≡ old ++ concat_range (code_at u) 0 n) where
   abbrev pair : List ℕ
   pair = lead_byte (u m) ∷ second_byte (u m) ∷ []
@@ -165,7 +165,7 @@ module _ (n m : ℕ) (one : n ≡ m + 1) (u : ℕ → ℕ) (old new : List ℕ) 
       let at : length new - 2 ≡ length (old ++ concat_range (code_at u) 0 m) = omega (arith, new_len) in
       rw at (ap (take (length (old ++ concat_range (code_at u) 0 m))) split ∙ take_at (old ++ concat_range (code_at u) 0 m) pair (length (old ++ concat_range (code_at u) 0 m)) refl)
 
--- bytes of all units, written into room
+-- bytes of all units, written into a buffer
 pub WritesUnits-all : {n : ℕ} {low high old new bytes : List ℕ} {at end : ℕ} → AreText (lane_unit low high) n → Writes old new at end bytes
     → bytes ≡ concat_range (code_at (lane_unit low high)) 0 n → end ≤ at + 3 * n → WritesUnits n low high old new at n end
 WritesUnits-all {old = old} {at = at} text written codes fits = record {
@@ -211,7 +211,7 @@ module _ {n : ℕ} (low high : List ℕ) (fits : (k : ℕ) → k < n → get_or 
         joined_same (slot_at firsts middles lasts) (code_at (lane_unit low high)) 0 n
         (λ i ge more. let lt : i < n = omega arith in rw (first i lt, middle i lt, last i lt) (code_of (lane_unit low high (i - 1)) (lane_unit low high i) (no_surrogates i lt)))
 
--- Units that have one byte or two.
+-- Units that have one byte or two in UTF-8.
 
 module _ {n : ℕ} (low high : List ℕ) (fits : (k : ℕ) → k < n → get_or low k 0 < 256) (short : (k : ℕ) → k < n → get_or high k 0 < 8) where
   unit_short : (k : ℕ) → k < n → lane_unit low high k < 0x800

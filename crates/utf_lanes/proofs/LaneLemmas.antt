@@ -1,4 +1,4 @@
--- The lanes of a vector, as many as it has, and what they say of the bytes that were loaded.
+-- The lanes of a vector, and what they imply for the bytes that were loaded.
 use Rattle.std.proofs.Common.{◌≡◌, ◌↔◌, ℕ, ◌+◌, ◌-◌, ◌/◌, ◌%◌, ◌^◌, ◌<◌, ◌≤◌, Bool, true, false, not, cond, eqb, leb, ltb, List, map, length, get_or, replicate, bit_and, bit_or, bit_xor, refl, sym, ap, ap₂, ◌∙◌, subst, true≢false, inl, inr, arith, lit<, w8, Fits, eqb-true, eq-eqb, leb-false, ltb-true, ltb-false}
 use Rattle.std.proofs.lemmas.Bool.{cases_lt, lt-leb}
 use Rattle.std.proofs.lemmas.List.Sums.{prefix_len_passes, prefix_len_stops, prefix_len-le-length}
@@ -15,7 +15,7 @@ use Rattle.utf_lanes.specs.TextBlocks.{Follows, AllMayFollow, ArePairsLeft, IsPa
 use Rattle.utf_lanes.proofs.PairTables.{AreRight, tables_judge}
 use Rattle.utf_lanes.proofs.PassedLanes.{where_passed, where_passed_len, where_passed_at, passed_mask, mask_is, passed_most, passed_bits, none_passes, passes_none}
 
--- as many bytes as a vector has lanes
+-- the list has as many bytes as a vector has lanes
 abbrev pub IsVector : ℕ → List ℕ → Type 0
 IsVector n v = (length v ≡ n) × Each1 (Fits w8) v
 
@@ -72,7 +72,7 @@ module _ {n : ℕ} (high low here : List ℕ) {by_high by_low by_here : List ℕ
       )
       (tables_judge high low here right (get_or before k 0) (get_or block k 0) (lane_fits before k p lt) (lane_fits block k q lt))
 
--- Saturating subtraction: the greater of both, less the second.
+-- Saturating subtraction: the greater of both, minus the second.
 
 abbrev less : ℕ → ℕ → ℕ
 less a b = (a + (2 ^ 8 - b)) % 2 ^ 8
@@ -100,7 +100,7 @@ module _ {n : ℕ} (xs : List ℕ) (y : ℕ) (fits : IsVector n xs) (Y : y < 256
       )
       (one_excess (get_or xs k 0) y (ltb (get_or xs k 0) y) refl (lane_fits xs k fits lt) Y)
 
--- Whether a code of three or four bytes has to go on is one bit.
+-- Whether a code of three or four bytes has to continue is one bit.
 
 abbrev has_to : ℕ → ℕ → ℕ
 has_to a b = bit_and (bit_or (b - 0x60) (a - 0x70)) 0x80
@@ -139,7 +139,7 @@ follows_lane a b A B pair f = elim (cases_lt a 0xF0) [
   ]
 ]
 
--- The lanes of the bytes two and three places before.
+-- The lanes of the bytes two and three offsets before.
 
 module _ {n : ℕ} (third second : List ℕ) (T : IsVector n third) (S : IsVector n second) (left : List ℕ) (long : length left ≡ n) where
   abbrev either : List ℕ
@@ -202,7 +202,7 @@ not_not : (b : Bool) → not (not b) ≡ true → b ≡ true
 not_not true e = refl
 not_not false e = e
 
--- before the first lane that is not 0, each is
+-- each lane before the first that is not 0 is 0
 zero_before : (v : List ℕ) (k : ℕ) → k < prefix_len (λ x. not (not (eqb x 0))) v → get_or v k 0 ≡ 0
 zero_before v k lt = eqb-true (get_or v k 0) 0 (not_not _ (prefix_len_passes (λ x. not (not (eqb x 0))) v k 0 lt))
 
@@ -229,7 +229,7 @@ module _ {n : ℕ} (v : List ℕ) (few : n ≤ 64) (long : length v ≡ n) where
       let at : r ≡ prefix_len (λ x. not (not (eqb x 0))) v = rw mask at e ∙ first in
       (omega (arith, at, prefix_len-le-length (λ x. not (not (eqb x 0))) v, long), λ k lt. zero_before v k (omega (arith, at)))
 
-  -- and it is not 0
+  -- the first lane that differs is not 0
   pub differs_first : (r : ℕ) → (differ_mask n v ≡ 0 → ⊥) → r ≡ count_trailing_zeros 64 (differ_mask n v) → (r < n) × (get_or v r 0 ≡ 0 → ⊥)
   differs_first r some e =
       let mask = mask_is few differs v 0 long in
@@ -246,7 +246,7 @@ module _ {n : ℕ} (v : List ℕ) (few : n ≤ 64) (long : length v ≡ n) where
 abbrev at_most : ℕ → ℕ → ℕ
 at_most a b = cond (leb a b) 255 0
 
--- which lanes reach a number
+-- the mask of the lanes that reach a number
 abbrev pub reach_mask : ℕ → ℕ → List ℕ → ℕ
 reach_mask n y v = mask_l (map (top 7) (zip2 at_most (replicate n y) v)) % 2 ^ 64
 
@@ -272,7 +272,7 @@ module _ {n : ℕ} (y : ℕ) (v : List ℕ) (few : n ≤ 64) (long : length v �
   pub reach_none : ((k : ℕ) → k < n → get_or v k 0 < y) → reach_mask n y v ≡ 0
   reach_none low = turned ∙ passes_none few reaches v y long (λ k lt. lt-leb y (get_or v k 0) (low k lt))
 
--- Some vectors at once: no lane of one is greater than that of all.
+-- Several vectors in one test: no lane of one is greater than that of the combination.
 
 module _ {n : ℕ} (p q : List ℕ) (lp : length p ≡ n) (lq : length q ≡ n) (k : ℕ) (lt : k < n) where
   either_le : (get_or p k 0 ≤ get_or (zip2 bit_or p q) k 0) × (get_or q k 0 ≤ get_or (zip2 bit_or p q) k 0)
@@ -333,15 +333,15 @@ follow_on xs i j m p q k least most = elim (cases_lt (k + 3) j) [ inl lt ↦ p k
 pub follow_lanes : (xs : List ℕ) (i n : ℕ) → ((k : ℕ) → k < n → AllMayFollow xs (i + k) (i + k + 1)) → AllMayFollow xs i (i + n)
 follow_lanes xs i n each k least most = each (k + 3 - i) (omega arith) k (omega arith) (omega arith)
 
--- a block of ASCII
+-- a block of ASCII may follow
 pub ascii_block : (xs : List ℕ) (i : ℕ) → ((k : ℕ) → k < 64 → get_or xs (i + k) 0 < 0x80) → AreAscii xs i (i + 64)
 ascii_block xs i block k ge lt = let at : i + (k - i) ≡ k = omega arith in rw at at (block (k - i) (omega arith))
 
--- and the ASCII after it
+-- the ASCII after a block may follow
 pub ascii_on : (xs : List ℕ) (i j m : ℕ) → AreAscii xs i j → AreAscii xs j m → AreAscii xs i m
 ascii_on xs i j m p q k least most = elim (cases_lt k j) [ inl lt ↦ p k least lt | inr ge ↦ q k ge most ]
 
--- ASCII may follow where no code has to go on
+-- ASCII may follow if no code has to continue
 pub ascii_follows : (xs : List ℕ) (i n : ℕ) → ((k : ℕ) → k + 3 ≡ i → (get_or xs k 0 < 0xF0) × (get_or xs (k + 1) 0 < 0xE0) × (get_or xs (k + 2) 0 < 0xC0))
     → AreAscii xs i n → 3 ≤ i → AllMayFollow xs i n
 ascii_follows xs i n closed at start k least most =

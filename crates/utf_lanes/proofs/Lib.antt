@@ -23,3 +23,10 @@ pub mod UnitSlots
 pub mod UnitStartLemmas
 pub mod WideShuffles
 pub mod TextFronts
+pub mod FaultPlaces
+pub mod FaultSubparts
+pub mod FaultWindows
+pub mod MaskBits
+pub mod MaskLanes
+pub mod FaultKinds
+pub mod LaterText

@@ -1,4 +1,5 @@
--- Three tables that judge a byte after the one before it, computed at each byte and each upper half of the next.
+-- Three tables that validate a byte after the one before it, computed at each byte and each upper half of the
+-- next.
 use Rattle.std.proofs.Common.{◌≡◌, ℕ, zero, suc, ◌-◌, ◌/◌, ◌<◌, Bool, true, false, not, if◌then◌else◌, ◌&&◌, ◌||◌, eqb, ltb, leb, List, get_or, bit_and, bit_xor, arith, refl, sym, ◌∙◌, subst, inl, inr, eq-zero-or-pos, ltb-true, leb-true, eqb-true, eq-eqb, ne_eqb, le-leb, lt-ltb}
 use Rattle.std.proofs.lemmas.Bool.{and_from, and_parts, cases_eq, cases_lt, or_cases, or_left, or_right}
 use Rattle.utf_lanes.specs.TextBlocks.{IsContinuation, MayBegin, MayFollow, IsPair}
@@ -22,15 +23,15 @@ second_half c h =
     (leb 0xC2 c && ltb c 0xF5) && ((leb 8 h && ltb h 12)
     && (((not (eqb c 0xE0) || leb 10 h) && (not (eqb c 0xED) || ltb h 10)) && ((not (eqb c 0xF0) || leb 9 h) && (not (eqb c 0xF4) || ltb h 9))))
 
--- one may follow c
+-- a byte whose upper half is h may follow c
 abbrev early_half : ℕ → ℕ → Bool
 early_half c h = (ltb c 0xC0 && (ltb h 8 || leb 12 h)) || (leb 0xC0 c && second_half c h)
 
--- both continue
+-- c and the byte after it are both continuation bytes
 abbrev late_half : ℕ → ℕ → Bool
 late_half c h = (leb 0x80 c && ltb c 0xC0) && (leb 8 h && ltb h 12)
 
--- what the tables leave, by the byte c and the upper half of the next
+-- the bits that the tables leave, by the byte c and the upper half of the next
 abbrev left_of : List ℕ → List ℕ → List ℕ → ℕ → ℕ → ℕ
 left_of high low here c h = bit_and (bit_and (get_or high (c / 16) 0) (get_or low (bit_and c 15) 0)) (get_or here h 0)
 
@@ -41,7 +42,7 @@ abbrev is_right : List ℕ → List ℕ → List ℕ → ℕ → ℕ → Bool
 is_right high low here c h =
     agrees (eqb (bit_xor 0 (left_of high low here c h)) 0) (early_half c h) && agrees (eqb (bit_xor 0x80 (left_of high low here c h)) 0) (late_half c h)
 
--- the tables are right at each byte and each upper half
+-- the tables are correct at each byte and each upper half
 abbrev pub AreRight : List ℕ → List ℕ → List ℕ → Type 0
 AreRight high low here = each_below (λ c. each_below (is_right high low here c) 16) 256 ≡ true
 
@@ -128,7 +129,7 @@ module _ (c d : ℕ) where
       let second = m.1 in
       and_from _ _ (and_from _ _ (le-leb 0x80 c first.0) (lt-ltb c 0xC0 first.1)) (and_from _ _ (le-leb 8 (d / 16) (omega arith)) (lt-ltb (d / 16) 12 (omega arith)))
 
--- so they judge each byte after each
+-- correct tables validate each pair of bytes
 pub tables_judge : (high low here : List ℕ) → AreRight high low here → (c d : ℕ) → c < 256 → d < 256 → IsPair c d (left_of high low here c (d / 16))
 tables_judge high low here right c d C D =
     let e = at_each (is_right high low here c) 16 (at_each (λ x. each_below (is_right high low here x) 16) 256 right c C) (d / 16) (omega arith) in

@@ -1,4 +1,4 @@
--- Lanes that pass a test, of vectors of any number of them.
+-- Lanes that pass a test, of vectors of any width.
 use Rattle.std.proofs.Common.{◌≡◌, ℕ, suc, ◌%◌, ◌^◌, ◌<◌, ◌≤◌, Bool, true, false, not, cond, List, [], ◌∷◌, map, length, get_or, replicate, refl, sym, ap, ◌∙◌, arith, w8}
 use Rattle.std.proofs.lemmas.List.{get_or-map, length-map}
 use Rattle.std.proofs.lemmas.List.Sums.{prefix_len_passes}
@@ -6,7 +6,7 @@ use Rattle.std.proofs.lemmas.Simd.{length-zip2, get_or-zip2, get_or-replicate, l
 use Rattle.std.specs.Int.{bit_at}
 use lib.Lanes.{zip2, sel_l, mask_l, top}
 
--- Where a test passes of the lanes of two vectors, the lane of a third, and else that of a fourth.
+-- The lane of a third vector if the lanes of two pass a test, otherwise that of a fourth.
 module _ (t : ℕ → ℕ → Bool) (xs ys ps qs : List ℕ) where
   abbrev pub chosen : List ℕ
   chosen = sel_l (map (top 7) (zip2 (λ a b. cond {A = ℕ} (t a b) 255 0) xs ys)) ps qs
@@ -23,7 +23,7 @@ module _ (t : ℕ → ℕ → Bool) (xs ys ps qs : List ℕ) where
         let test : get_or (zip2 t xs ys) k false ≡ t (get_or xs k 0) (get_or ys k 0) = get_or-zip2 t xs ys k 0 0 false (omega (arith, x)) (omega (arith, y)) in
         rw (tops_compared w8 t xs ys, get_or-sel_l (zip2 t xs ys) ps qs k 0 (omega (arith, tests_len)) (omega (arith, p)) (omega (arith, q)), test) refl
 
--- The same of the lanes of one vector and a number.
+-- The lane of one vector or of another, by a test of the lanes of one vector and a number.
 module _ (n : ℕ) (t : ℕ → ℕ → Bool) (xs : List ℕ) (y : ℕ) (ps qs : List ℕ) where
   abbrev pub where_passed : List ℕ
   where_passed = chosen t xs (replicate n y) ps qs

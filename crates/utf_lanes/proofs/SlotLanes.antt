@@ -1,4 +1,4 @@
--- Slots of bytes in two and in three vectors, and which of their bytes are kept.
+-- Slots of bytes in two and in three vectors, and the bytes of them that are kept.
 use Rattle.std.proofs.Common.{◌≡◌, ℕ, ◌+◌, ◌*◌, ◌/◌, ◌%◌, ◌^◌, ◌<◌, Bool, true, false, cond, eqb, leb, ltb, List, [], ◌∷◌, ◌++◌, length, get_or, take, drop, bit_and, refl, sym, ap, ap₂, ◌∙◌, arith}
 use Rattle.std.proofs.lemmas.Grind.{common_steps}
 use Rattle.std.proofs.lemmas.List.{get_or-take, get_or-drop}
@@ -10,7 +10,7 @@ use Rattle.utf_lanes.proofs.BlockUnits.{low_bit, high_bit}
 use Rattle.utf_lanes.proofs.Joined.{joined_halves}
 use Rattle.utf_lanes.proofs.LaneLemmas.{reach_mask, reach_bits}
 
--- What the first and the second of each pair of a vector are.
+-- The first and the second element of each pair of a vector.
 abbrev HasBoth : List ℕ → (ℕ → ℕ) → (ℕ → ℕ) → Type 0
 HasBoth vs f g = ArePairs vs (λ k. f k ∷ g k ∷ [])
 
@@ -20,7 +20,7 @@ at_front xs k = get_or xs k 0
 abbrev at_back : List ℕ → ℕ → ℕ
 at_back xs k = get_or xs (8 + k) 0
 
--- the slot of one lane, by what stands first and second in each pair
+-- the slot of one lane, by the first and second of each pair
 abbrev lane_at : Bool → (ℕ → ℕ) → (ℕ → ℕ) → ℕ → List ℕ
 lane_at true f g i = nonzero_lead (f i) ++ (g i ∷ [])
 lane_at false f g i = lane_bytes (f (2 * i)) (f (2 * i + 1)) (g (2 * i))
@@ -64,7 +64,7 @@ module _ (m : ℕ) (vs : List ℕ) (f g : ℕ → ℕ) (pairs : HasBoth vs f g) 
       (marked_kept m (2 * i) (f (2 * i)) (bits (2 * i) (omega arith)))
       (marked_kept m (2 * i + 1) (f (2 * i + 1)) (bits (2 * i + 1) (omega arith))))
 
--- Those of two, by the masks of each.
+-- The slots of two vectors, by the masks of each.
 module _ (fronts lasts vs ws : List ℕ) (pairs : HasBoth vs (at_front fronts) (at_front lasts)) (more : HasBoth ws (at_back fronts) (at_back lasts)) (short : Bool) (m n : ℕ)
     (bits : (k : ℕ) → k < 8 → bit_at m k ≡ cond (leb 0x80 (get_or fronts k 0)) 1 0) (more_bits : (k : ℕ) → k < 8 → bit_at n k ≡ cond (leb 0x80 (get_or fronts (8 + k) 0)) 1 0) where
   front_row : (i : ℕ) → i < row_slots short → row_bytes short m vs i ≡ lanes_at short fronts lasts i

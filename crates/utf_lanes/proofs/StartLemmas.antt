@@ -1,4 +1,4 @@
--- Bytes that begin a code, counted by lanes, block by block.
+-- Bytes that begin a code, counted with SIMD, block by block.
 use Rattle.std.proofs.Common.{◌≡◌, ℕ, suc, ◌+◌, ◌-◌, ◌%◌, ◌^◌, ◌<◌, ◌≤◌, true, cond, leb, List, [], ◌∷◌, ◌++◌, map, length, get_or, take, drop, replicate, count_ones, refl, ap, ap₂, sym, ◌∙◌, inl, inr, arith, w8, Fits, le-leb, lt-ltb, le-ltb}
 use Rattle.std.proofs.lemmas.Bool.{cases_lt, lt-leb}
 use Rattle.std.proofs.Math.Seq.{take-add}
@@ -11,11 +11,11 @@ use Rattle.utf_lanes.specs.AsciiTexts.{AreAscii}
 use Rattle.utf_lanes.specs.Starts.{is_start, start_count}
 use Rattle.utf_lanes.proofs.LaneLemmas.{reach_mask, reach_mask_is, wide_with}
 
--- a byte that is moved up by 0x80, and where it is too high then, begins at 0 again
+-- the byte plus 0x80, modulo 256
 abbrev pub moved_up : ℕ → ℕ → ℕ
 moved_up a b = (a + b) % 2 ^ 8
 
--- a continuation byte is below 0x40 then
+-- a byte is a continuation byte if and only if that is below 0x40
 start_told : (b : ℕ) → b < 256 → leb 0x40 (moved_up b 0x80) ≡ is_start b
 start_told b lt = elim (cases_lt b 0x80) [
   | inl low ↦ rw (lt-leb 0x80 b low) (le-leb 0x40 (moved_up b 0x80) (omega arith))
@@ -54,11 +54,11 @@ starts_more xs p n =
     let here : p + n - p ≡ n = omega arith in
     rw here (ap start_count (take-add p n xs) ∙ sum_by-append (λ b. cond (is_start b) 1 0) (take p xs) (take n (drop p xs)))
 
--- all are those before a place and those from it on
+-- the count of the whole is the count before an offset plus the count from it on
 pub starts_all : (xs : List ℕ) (p : ℕ) → start_count xs ≡ start_count (take p xs) + start_count (drop p xs)
 starts_all xs p = ap start_count (sym (take-append-drop p xs)) ∙ sum_by-append (λ b. cond (is_start b) 1 0) (take p xs) (drop p xs)
 
--- ASCII has no other bytes
+-- all bytes of ASCII begin a code
 pub ascii_starts : (xs : List ℕ) → AreAscii xs 0 (length xs) → start_count xs ≡ length xs
 ascii_starts [] low = refl
 ascii_starts (x ∷ xs) low =

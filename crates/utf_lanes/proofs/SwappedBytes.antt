@@ -8,7 +8,7 @@ swapped_append [] later k h = refl
 swapped_append (a ∷ []) later k h = absurd (omega arith)
 swapped_append (a ∷ b ∷ v) later k h = ap (λ ys. b ∷ a ∷ ys) (swapped_append v later (k - 1) (omega arith))
 
--- what comes of more bytes
+-- the swapped bytes of a longer front
 pub swapped_more : (xs old mid new : List ℕ) (p n : ℕ) → p % 2 ≡ 0 → p ≤ length xs → mid ≡ old ++ swapped (take p xs) → new ≡ mid ++ swapped (take n (drop p xs)) → new ≡ old ++ swapped (take (p + n) xs)
 swapped_more xs old mid new p n even within e f =
     let half : length (take p xs) ≡ 2 * (p / 2) = omega (arith, length-take p xs) in
@@ -31,7 +31,7 @@ swapped_pair xs mid one two p within e f =
     = ap (take 2) (drop-cons xs p 0 (omega arith) ∙ ap (λ ys. get_or xs p 0 ∷ ys) (drop-cons xs (suc p) 0 (omega arith) ∙ ap (λ j. get_or xs j 0 ∷ drop (suc (suc p)) xs) next)) in
     f ∙ ap (λ ys. ys ++ get_or xs p 0 ∷ []) e ∙ append_assoc mid (get_or xs (p + 1) 0 ∷ []) (get_or xs p 0 ∷ []) ∙ ap (λ ys. mid ++ swapped ys) (sym pair)
 
--- The places at which lanes are looked up.
+-- The offsets at which lanes are looked up.
 
 abbrev turned_places : ℕ → ℕ → List ℕ
 turned_places p zero = []

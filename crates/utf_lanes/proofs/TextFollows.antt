@@ -19,7 +19,8 @@ record AreClosed (a b c : ℕ) : Type 0 where
   second : b < 0xE0
   third : c < 0xC0
 
--- each of some bytes may follow the three before it, where a, b and c stand before the first, and the last three ask for no more
+-- each of some bytes may follow the three before it, if a, b and c precede the first, and the last three ask
+-- for no more
 AreAfter : ℕ → ℕ → ℕ → List ℕ → Type 0
 AreAfter a b c [] = AreClosed a b c
 AreAfter a b c (d ∷ ds) = Follows a b c d × AreAfter b c d ds
@@ -50,7 +51,7 @@ third c d e f low high x y = record { early = λ _ less. absurd (omega arith); t
 fourth : (d e f g : ℕ) → e < 0xC0 → 0xF0 ≤ d → IsContinuation f → IsContinuation g → Follows d e f g
 fourth d e f g low high x y = record { early = λ less _. absurd (omega arith); third = λ more. absurd (omega arith); fourth = λ _. (x, y) }
 
--- What follows a code follows the three bytes before it, which ask for no more.
+-- The bytes after a code follow the three bytes before them, which ask for no more.
 abbrev FollowsCodes : List ℕ → Type 0
 FollowsCodes rest = (x y z : ℕ) → AreClosed x y z → AreAfter x y z rest
 
@@ -158,7 +159,7 @@ codes_after (s ∷ cs) all x y z closed =
 text_after : (text : List ℕ) → IsUtf8 text → AreAfter 0 0 0 text
 text_after text (cs, (all, e)) = subst (AreAfter 0 0 0) e (codes_after cs all 0 0 0 (record { first = lit< tt; second = lit< tt; third = lit< tt }))
 
--- By place.
+-- The byte at each offset.
 
 follows_at : (a b c : ℕ) (w : List ℕ) → AreAfter a b c w → (k : ℕ) → k < length w → Follows (get_or (a ∷ b ∷ c ∷ w) k 0) (get_or (b ∷ c ∷ w) k 0) (get_or (c ∷ w) k 0) (get_or w k 0)
 unfolding AreAfter

@@ -1,4 +1,4 @@
--- The value of a code at the front of bytes, and where none begins.
+-- The value of a code at the front of bytes, and the cases in which none begins there.
 use Rattle.std.proofs.Common.{◌≡◌, ℕ, ◌+◌, ◌-◌, ◌*◌, ◌/◌, ◌%◌, ◌≤◌, ◌<◌, ◌&&◌, List, length, get_or, true, arith, refl, lit<, false}
 use Rattle.std.proofs.lemmas.Grind.{common_steps}
 use Rattle.std.specs.Int.Bits.{bit_and}
@@ -48,13 +48,13 @@ none_by_first w high other s h =
     let many = begins_many (get_or w 0 0) high (decodes_from_stands w s h).0.asks in
     other many.0 many.1
 
--- what the bytes add up to is no scalar, or one that needs fewer
+-- the value of the bytes is no scalar, or one that needs fewer
 pub none_by_value : (w : List ℕ) (n v : ℕ) → Sums w n v → (least_value n ≤ v → IsScalar v → ⊥) → NoneBegins utf8 w
 none_by_value w n v sums other s h =
     let d = (decodes_from_stands w s h).0 in
     other (rw (sums.asks.asks, sums.sum) at d.least) (rw sums.sum at d.scalar)
 
--- the bits of the first two bytes of three are those that all surrogates begin with
+-- the payload bits of the first two bytes of three are those that all surrogates begin with
 pub none_by_surrogate : (w : List ℕ) (front : ℕ) → 0xE0 ≤ get_or w 0 0 → get_or w 0 0 < 0xF0
     → front ≡ bit_and (get_or w 0 0) 0x0F * 64 + (get_or w 1 0 - 0x80) → front / 32 ≡ 27 → NoneBegins utf8 w
 none_by_surrogate w front low high begun surrogate s h =
@@ -67,7 +67,8 @@ none_by_surrogate w front low high begun surrogate s h =
     let after = d.scalar.no_surrogate (omega arith) in
     omega arith
 
--- the first two bytes of four leave no scalar from 0x10000 on, or only what is too high
+-- the payload bits of the first two bytes of four leave no scalar from 0x10000 on, or only numbers that are
+-- too high
 pub none_by_front_of_four : (w : List ℕ) (front : ℕ) → 0xF0 ≤ get_or w 0 0
     → front ≡ bit_and (get_or w 0 0) 0x0F * 64 + (get_or w 1 0 - 0x80) → (16 ≤ front → front ≤ 271 → ⊥) → NoneBegins utf8 w
 none_by_front_of_four w front low begun other s h =

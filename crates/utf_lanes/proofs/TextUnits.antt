@@ -1,4 +1,4 @@
--- The codes in UTF-16 of some text are what its places give, in order.
+-- The codes in UTF-16 of some text are the units of its offsets, in order.
 use Rattle.std.proofs.Common.{◌≡◌, ℕ, zero, suc, ◌+◌, ◌-◌, ◌*◌, ◌/◌, ◌%◌, ◌<◌, ◌≤◌, Bool, true, false, cond, ltb, ◌⊎◌, List, [], ◌∷◌, ◌++◌, length, get_or, take, drop, replicate, flat_map, arith, refl, sym, ap, ap₂, ◌∙◌, inl, inr, append_assoc, length-append, ltb-true, ltb-false}
 use Rattle.std.proofs.Math.Seq.{drop-append_seam}
 use Rattle.std.proofs.lemmas.Bool.{cases_lt}
@@ -14,7 +14,7 @@ use Rattle.utf_lanes.specs.UnitCodes.{Writes}
 use Rattle.utf_lanes.specs.Utf8ToUtf16.{concat_range, utf16_bytes, utf16_bytes_at, ends_unit, halves, unit_low, unit_high}
 use Rattle.utf_lanes.proofs.Joined.{joined_add, joined_moved, joined_same, joined_1, joined_2, joined_3, joined_4}
 
--- Places of a text, and of the bytes with NULs before them.
+-- Offsets of a text, and of the bytes with NULs before them.
 
 at_place : (high : Bool) (xs : List ℕ) (k : ℕ) → utf16_bytes_at high (0 ∷ 0 ∷ 0 ∷ xs) (3 + k) ≡ utf16_bytes_at high xs k
 unfolding utf16_bytes_at
@@ -39,11 +39,11 @@ same_at high front zs i lt w =
     let d : get_or front (i + 3) 0 ≡ get_or zs (i + 3) 0 = ap (λ ys. get_or ys (i + 3) 0) w ∙ get_or-take 19 zs (i + 3) 0 (omega arith) in
     rw (a, b, c, d) refl
 
--- the first sixteen
+-- the first sixteen offsets
 pub given_first : (high : Bool) (xs front : List ℕ) → front ≡ 0 ∷ 0 ∷ 0 ∷ take 16 xs → concat_range (utf16_bytes_at high front) 0 16 ≡ utf16_bytes high xs 0 16
 given_first high xs front e = joined_same (utf16_bytes_at high front) (utf16_bytes_at high (0 ∷ 0 ∷ 0 ∷ xs)) 0 16 (λ i ge lt. same_at high front (0 ∷ 0 ∷ 0 ∷ xs) i (omega arith) e)
 
--- the last ones after NULs
+-- the last NULs before the text
 nuls_before : (m : ℕ) (xs : List ℕ) → 0 ∷ 0 ∷ 0 ∷ (replicate m 0 ++ xs) ≡ replicate m 0 ++ (0 ∷ 0 ∷ 0 ∷ xs)
 nuls_before zero xs = refl
 nuls_before (suc m) xs = ap (λ ys. 0 ∷ ys) (nuls_before m xs)
@@ -72,7 +72,7 @@ pub given_nothing : (high : Bool) (xs old : List ℕ) (p : ℕ) → old ≡ old 
 unfolding concat_range
 given_nothing high xs old p = sym (append-nil old)
 
--- what more places give
+-- the units of more offsets
 pub given_more : (high : Bool) (xs old mid new : List ℕ) (p m q n t : ℕ) → mid ≡ old ++ utf16_bytes high xs p m → new ≡ mid ++ utf16_bytes high xs q n → p + m ≡ q → m + n ≡ t → new ≡ old ++ utf16_bytes high xs p t
 given_more high xs old mid new p m q n t e f at sum =
     let whole = joined_add (utf16_bytes_at high (0 ∷ 0 ∷ 0 ∷ xs)) p m n in
@@ -94,7 +94,7 @@ record Closed (xs : List ℕ) (k : ℕ) : Type 0 where
   second : get_or xs (k + 1) 0 < 0xE0
   first : get_or xs (k + 2) 0 < 0xC0
 
--- What the byte d gives after a, b and c.
+-- The unit of the byte d after a, b and c.
 abbrev here : Bool → ℕ → ℕ → ℕ → ℕ → List ℕ
 here high a b c d = cond (ends_unit c d) (halves high (unit_low b c d) (unit_high a b c d)) []
 
@@ -173,7 +173,7 @@ trailing_low_is s h = omega arith
 trailing_high_is : (s : ℕ) → 0x1_0000 ≤ s → 0xDC + (0x80 + s / 64 % 64) / 4 % 4 ≡ trailing s / 256
 trailing_high_is s h = omega arith
 
--- The bytes of one code, as they stand after the place k + 2 of some bytes.
+-- The bytes of one code that begins at the offset k + 3 of some bytes.
 module _ (high : Bool) (xs rest : List ℕ) (k s : ℕ) (scalar : IsScalar s) (before : Closed xs k) (code : drop (k + 3) xs ≡ utf8 s ++ rest) where
   place_gives : (m a b c d : ℕ) → get_or xs m 0 ≡ a → get_or xs (m + 1) 0 ≡ b → get_or xs (m + 2) 0 ≡ c → get_or xs (m + 3) 0 ≡ d → utf16_bytes_at high xs m ≡ here high a b c d
   unfolding utf16_bytes_at
@@ -185,7 +185,7 @@ module _ (high : Bool) (xs rest : List ℕ) (k s : ℕ) (scalar : IsScalar s) (b
   old : (m n : ℕ) → m ≡ n → get_or xs m 0 ≡ get_or xs n 0
   old m n e = ap (λ i. get_or xs i 0) e
 
-  -- The places of the code, one by one.
+  -- The offsets of the code, one by one.
 
   gives_at_0 : (w : List ℕ) → utf8 s ++ rest ≡ w → utf16_bytes_at high xs k ≡ here high (get_or xs k 0) (get_or xs (k + 1) 0) (get_or xs (k + 2) 0) (get_or w 0 0)
   gives_at_0 w e = place_gives k _ _ _ _ refl refl refl (byte w 0 (k + 3) e (omega arith))
@@ -199,7 +199,7 @@ module _ (high : Bool) (xs rest : List ℕ) (k s : ℕ) (scalar : IsScalar s) (b
   gives_at_3 : (w : List ℕ) → utf8 s ++ rest ≡ w → utf16_bytes_at high xs (k + 3) ≡ here high (get_or w 0 0) (get_or w 1 0) (get_or w 2 0) (get_or w 3 0)
   gives_at_3 w e = place_gives (k + 3) _ _ _ _ (byte w 0 (k + 3) e (omega arith)) (byte w 1 (k + 3 + 1) e (omega arith)) (byte w 2 (k + 3 + 2) e (omega arith)) (byte w 3 (k + 3 + 3) e (omega arith))
 
-  -- The code gives its units, and then the bytes before the next ask for no more.
+  -- The offsets of the code give its units, and then the bytes before the next ask for no more.
   record CodeGiven (ws : List ℕ) : Type 0 where
     units : concat_range (utf16_bytes_at high xs) k (length ws) ≡ flat_map (bytes_of high) (utf16 s)
     after : Closed xs (k + length ws)

@@ -1,4 +1,4 @@
--- Pairs of units in bytes, counted byte by byte: those that are high bytes tell them.
+-- Pairs of units in bytes, counted byte by byte: the high bytes determine them.
 use Rattle.std.proofs.Common.{◌≡◌, ℕ, zero, suc, ◌+◌, ◌-◌, ◌*◌, ◌/◌, ◌%◌, ◌<◌, ◌≤◌, Bool, true, false, bit_and, not, eqb, eqb-true, cond, List, [], ◌∷◌, length, get_or, arith, refl, ap, ap₂, sym, ◌∙◌, w8, Fits}
 use Rattle.std.proofs.lemmas.Bool.{eqb-false}
 use Rattle.std.specs.Prelude.{◌&&◌}
@@ -15,7 +15,7 @@ count_in_bytes high [] = refl
 count_in_bytes high (a ∷ []) = refl
 count_in_bytes high (a ∷ b ∷ bytes) = let rest = count_in_bytes high bytes in omega arith
 
--- A unit is a surrogate by its high byte alone.
+-- Whether a unit is a surrogate depends only on its high byte.
 module _ (bytes : List ℕ) (fits : (k : ℕ) → Fits w8 (get_or bytes k 0)) where
   leads_at : (h : Bool) (j m : ℕ) → m ≡ 2 * j + high_place h → 2 * j + 1 < length bytes → eqb (bit_and (get_or bytes m 0) 0xFC) 0xD8 ≡ is_leading_surrogate (get_or (units_of h bytes) j 0)
   leads_at true j m at lt =
@@ -29,11 +29,11 @@ module _ (bytes : List ℕ) (fits : (k : ℕ) → Fits w8 (get_or bytes k 0)) wh
       rw (first, unit_at true bytes j lt) (trails (get_or bytes (2 * j) 0) (get_or bytes (2 * j + 1) 0) (fits (2 * j)).fits (fits (2 * j + 1)).fits)
   trails_at false j m at lt = rw (at, unit_at false bytes j lt) (trails (get_or bytes (2 * j + 1) 0) (get_or bytes (2 * j) 0) (fits (2 * j + 1)).fits (fits (2 * j)).fits)
 
--- how many units of a block have their high byte among its first i bytes
+-- the number of units of a block that have their high byte among its first i bytes
 abbrev pub passed : Bool → ℕ → ℕ
 passed high i = (i + 1 - high_place high) / 2
 
--- so many of them end a pair
+-- the number of units of the block that end a pair
 pub record HavePairs (high : Bool) (bytes : List ℕ) (place i pairs : ℕ) : Type 0 where
   pub counted : unit_start_count (units_of high bytes) (place + passed high i) + pairs ≡ unit_start_count (units_of high bytes) place + passed high i
   pub few : pairs ≤ passed high i
@@ -50,7 +50,7 @@ module _ (high : Bool) (bytes : List ℕ) (fits : (k : ℕ) → Fits w8 (get_or 
   abbrev k : ℕ
   k = place + passed high i
 
-  -- what the two bytes tell
+  -- whether the two bytes are the high bytes of a pair
   abbrev pair : Bool
   pair = are_pair (get_or bytes (2 * place + i - 2) 0) (get_or bytes (2 * place + i) 0)
 
@@ -96,7 +96,7 @@ module _ (high : Bool) (bytes : List ℕ) (fits : (k : ℕ) → Fits w8 (get_or 
       by true e is = high_on e told is
       by false e is = rw (is, none) (low e)
 
--- So the bytes tell of all units of a block.
+-- The bytes determine all pairs of a block.
 module _ (high : Bool) (bytes : List ℕ) (fits : (k : ℕ) → Fits w8 (get_or bytes k 0)) (place : ℕ) (start : 1 ≤ place) (within : 2 * (place + 32) ≤ length bytes) where
   pub have_pairs : (i : ℕ) → i ≤ 64 → HavePairs high bytes place i (place_count (ends_pair (high_place high) bytes (2 * place)) i)
   have_pairs zero le = HavePairs-none high bytes place

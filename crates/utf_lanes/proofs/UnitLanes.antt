@@ -11,7 +11,7 @@ use Rattle.utf_lanes.specs.Utf8ToUtf16.{ends_unit, low_half, high_half, unit_low
 use Rattle.utf_lanes.proofs.LaneLemmas.{IsVector, wide, wide_with, lane, lane_with, excess, excess_len, excess_at}
 use Rattle.utf_lanes.proofs.PassedLanes.{chosen, chosen_len, chosen_at, passed_mask, passed_most, passed_bits}
 
--- Which lanes give a unit.
+-- The lanes that give a unit.
 
 greater_below : (c d : ℕ) (s t u : Bool) → ltb (c - 0x20) d ≡ s → ltb d 0xC0 ≡ t → ltb c 0xE0 ≡ u → ltb (cond s d (c - 0x20)) 0xC0 ≡ (t && u)
 greater_below c d true t u e f g = grind (arith, common_steps)
@@ -202,7 +202,7 @@ trailing_at first q k lt =
     )
     (trailing_is (get_or first k 0))
 
--- Where some units may be surrogates.
+-- Lanes if some units may be surrogates.
 module _ (third second first here : List ℕ) (t : length third ≡ 16) (u : length second ≡ 16) {low high leading_l leading_h trailing : List ℕ}
     (l : AreLanes 16 low (lane_of_two low_half first here)) (h : AreLanes 16 high (lane_of_three high_half second first here)) (ll : AreLanes 16 leading_l (lane_of_two leading_low first here))
     (lh : AreLanes 16 leading_h (lane_of_three leading_high second first here)) (tr : AreLanes 16 trailing (λ k. trailing_high (get_or first k 0))) where

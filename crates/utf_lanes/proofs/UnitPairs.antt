@@ -1,4 +1,4 @@
--- Units that pair with the one before them: what lanes say of them, and that they are codes.
+-- Units that pair with the one before them: the lanes of their validation, and that they are codes.
 use Rattle.std.proofs.Common.{◌≡◌, ℕ, zero, suc, ◌+◌, ◌-◌, ◌*◌, ◌/◌, ◌<◌, ◌≤◌, Bool, true, false, cond, eqb, ◌∷◌, [], List, length, get_or, bit_and, bit_or, bit_xor, refl, sym, ap, ap₂, ◌∙◌, ◌%◌, inl, inr, arith, lit<, w16, Fits, eqb-true}
 use Rattle.std.proofs.lemmas.Bool.{cases_lt}
 use Rattle.std.proofs.lemmas.Grind.{common_steps}
@@ -50,7 +50,7 @@ pub place_below : (h : Bool) → high_place h < 2
 place_below true = lit< tt
 place_below false = lit< tt
 
--- The lanes of eight units in one vector, each after that in another.
+-- The lanes of eight units in one vector, each after the unit in another.
 
 unit_leads : (h : Bool) (v : List ℕ) → IsVector 16 v → (k : ℕ) → k < 8 → eqb (bit_and (high_byte h v k) 0xFC) 0xD8 ≡ is_leading_surrogate (unit_number h v k)
 unit_leads true v fits k lt = let at : 2 * k + 0 ≡ 2 * k = omega arith in rw at (leads (get_or v (2 * k) 0) (get_or v (2 * k + 1) 0) (lane_fits v (2 * k) fits (omega arith)) (lane_fits v (2 * k + 1) fits (omega arith)))
@@ -99,7 +99,7 @@ module _ (high : Bool) (before here bits : List ℕ) (b : IsVector 16 before) (h
       others = low_lanes;
     }
 
--- The vectors have the units from a place on, and those from the one before it on.
+-- The vectors have the units from an offset on, and those from the one before it on.
 pub judged_from : {high : Bool} {before here v : List ℕ} (us : List ℕ) (place : ℕ) → 1 ≤ place → JudgesPairs high before here v
     → ((k : ℕ) → k < 8 → unit_number high before k ≡ get_or us (place - 1 + k) 0) → ((k : ℕ) → k < 8 → unit_number high here k ≡ get_or us (place + k) 0) → AreJudged high us place v
 judged_from us place start judged b h = record {
@@ -118,7 +118,7 @@ judged_from us place start judged b h = record {
   others = judged.others;
 }
 
--- as bytes
+-- the units were loaded from bytes
 pub bytes_loaded : (high : Bool) (bytes : List ℕ) (n place : ℕ) → n ≡ 2 * place → n + 16 ≤ length bytes → (k : ℕ) → k < 8 → unit_number high (chunk n 16 bytes) k ≡ get_or (units_of high bytes) (place + k) 0
 bytes_loaded high bytes n place at within k lt =
     let first : n + 2 * k ≡ 2 * (place + k) = omega arith in
@@ -126,7 +126,7 @@ bytes_loaded high bytes n place at within k lt =
     ap₂ (unit_of high) (get_or-chunk n 16 bytes (2 * k) 0 (omega arith) ∙ ap (λ i. get_or bytes i 0) first) (get_or-chunk n 16 bytes (2 * k + 1) 0 (omega arith) ∙ ap (λ i. get_or bytes i 0) second)
     ∙ sym (unit_at high bytes (place + k) (omega arith))
 
--- as units, whose low bytes stand first then
+-- the units were loaded from a slice of units, whose low bytes come first
 pub units_loaded : (us : List ℕ) (n place : ℕ) → ((k : ℕ) → Fits w16 (get_or us k 0)) → n ≡ place → n + 8 ≤ length us → (k : ℕ) → k < 8
     → unit_number false (digits_l 256 16 (number_l 65536 (chunk n 8 us))) k ≡ get_or us (place + k) 0
 units_loaded us n place fits at within k lt =
@@ -151,12 +151,12 @@ pair_on us i j m p q k least most = elim (cases_lt (k + 1) j) [ inl lt ↦ p k l
 pub pair_lanes : (us : List ℕ) (i n : ℕ) → ((k : ℕ) → k < n → AllPaired us (i + k) (i + k + 1)) → AllPaired us i (i + n)
 pair_lanes us i n each k least most = each (k + 1 - i) (omega arith) k (omega arith) (omega arith)
 
--- none before the first lane that is not 0
+-- no unit fails to pair before the first lane that is not 0
 pub pair_before : (high : Bool) (us v : List ℕ) (i r : ℕ) → r ≤ 16 → ((k : ℕ) → k < r → get_or v k 0 ≡ 0)
     → ZerosPair us i (high_byte high v) → AllPaired us i (i + r / 2)
 pair_before high us v i r most none each = pair_lanes us i (r / 2) (λ k lt. let below = place_below high in (each k (omega arith)).0 (none (2 * k + high_place high) (omega arith)))
 
--- all before the first lane that is not 0
+-- all units pair before the first lane that is not 0
 pub pair_first : (high : Bool) (us v : List ℕ) (i r n : ℕ) → n ≤ 8 → (get_or v r 0 ≡ 0 → ⊥) → ZerosPair us i (high_byte high v) → ((k : ℕ) → k < 8 → low_byte high v k ≡ 0) → AllPaired us i (i + n) → n ≤ r / 2
 pair_first high us v i r n few some each none pairs = elim (cases_lt (r / 2) n) [
   | inr ge ↦ ge
@@ -172,14 +172,14 @@ pair_first high us v i r n few some each none pairs = elim (cases_lt (r / 2) n) 
       ]
 ]
 
--- Where the units pair, all lanes are 0.
+-- If the units pair, all lanes are 0.
 pairs_zero : {high : Bool} {us v : List ℕ} {i : ℕ} → AreJudged high us i v → AllPaired us i (i + 8) → (k : ℕ) → k < 16 → get_or v k 0 ≡ 0
 pairs_zero {high} {us} {v} {i} judged pairs k lt = elim (cases_lt 0 (get_or v k 0)) [
   | inr none ↦ omega arith
   | inl some ↦ (let least : 8 ≤ k / 2 = pair_first high us v i k 8 (omega arith) (λ zero. omega arith) judged.lanes judged.others pairs in absurd (omega arith))
 ]
 
--- Four vectors at once.
+-- Four vectors in one test.
 module _ (high : Bool) (us : List ℕ) (i : ℕ) {v w x y : List ℕ} (block : BlockIsJudged high us i v w x y) where
   pub block_pairs : differ_mask 16 (zip2 bit_or (zip2 bit_or v w) (zip2 bit_or x y)) ≡ 0 → AllPaired us i (i + 32)
   block_pairs none =

@@ -15,7 +15,7 @@ use Rattle.utf_lanes.proofs.WideShuffles.{picked, picked_at}
 use Rattle.utf_lanes.proofs.LaneLemmas.{IsVector, lane_fits, wide, wide_with, lane, lane_with, no_difference}
 use Rattle.utf_lanes.proofs.PassedLanes.{where_passed, where_passed_len, where_passed_at, passed_mask, none_passes}
 
--- Tests of all lanes, and of each.
+-- Tests of all lanes, and of each lane.
 
 ascii_unit : (l h either : ℕ) → h ≤ either → l / 128 ≤ either → either ≡ 0 → h * 256 + l < 0x80
 ascii_unit l h either a b e = omega arith
@@ -153,7 +153,7 @@ module _ {n : ℕ} (low high : List ℕ) (p : IsVector n low) (q : IsVector n hi
   pub middles_are : AreLanes n middles (λ k. middle_byte (lane_unit low high k))
   middles_are = record { wide = where_passed_len n ltb high 8 leads (zip2 added bits (replicate n 0x80)) q.0 leads_len (wide_with added bits 0x80 bits_len); each = middles_at }
 
-  -- The last of them, by those before them.
+  -- The last bytes, by the bytes before them.
   module _ {middle : List ℕ} (m : AreLanes n middle (λ k. middle_byte (lane_unit low high k))) where
     abbrev rests : List ℕ
     rests = zip2 added (zip2 bit_and low (replicate n 0x3F)) (replicate n 0x80)
@@ -265,7 +265,7 @@ module _ {n : ℕ} (low : List ℕ) (p : IsVector n low) where
       pub third_lanes_are : AreLanes n third_lanes (lane_after third_byte before low high)
       third_lanes_are = record { wide = wide_with added _ 0x80 (wide added twos fours twos_len fours_len); each = third_lanes_at }
 
--- Where some units may be surrogates.
+-- Lanes if some units may be surrogates.
 
 module _ {n : ℕ} (high : List ℕ) (q : IsVector n high) where
   abbrev eighths : List ℕ

@@ -8,14 +8,14 @@ use Rattle.std.specs.List.{range_with_len}
 use lib.Lanes.{chunk, pick_l}
 use Rattle.utf_lanes.specs.Lanes.{half_place, pair_of_lanes}
 
--- n lanes, of which each is that at some place
+-- n lanes, each of which is the element at some offset
 abbrev pub picked : List ℕ → (ℕ → ℕ) → ℕ → List ℕ
 picked xs place n = map (λ k. get_or xs (place k) 0) (range_with_len 0 n)
 
 pub picked_at : (xs : List ℕ) (place : ℕ → ℕ) (n k : ℕ) → k < n → get_or (picked xs place n) k 0 ≡ get_or xs (place k) 0
 picked_at xs place n k lt = get_or-map-range_with_len (λ k. get_or xs (place k) 0) 0 n k k 0 lt (omega arith)
 
--- Each lane one place later.
+-- Each lane one offset later.
 
 abbrev place_before : ℕ → ℕ → ℕ
 place_before n k = cond (ltb k 1) (n - 1) (k - 1)
@@ -67,7 +67,7 @@ module _ (xs ys : List ℕ) (p : length xs ≡ 32) (q : length ys ≡ 32) (o : �
       = get_or-drop 16 pairs (2 * k + 1) 0 ∙ of_second (16 + (2 * k + 1)) (16 + (o + k)) (omega arith) (omega arith) ∙ sym (get_or-drop 16 ys (o + k) 0) in
       ap₂ (λ a b. a ∷ b ∷ []) first second
 
--- Either half at places of its own.
+-- Either half at offsets of its own.
 module _ (v js more : List ℕ) (long : length js ≡ 16) (more_long : length more ≡ 16) (below : (k : ℕ) → k < 16 → get_or js k 0 < 16) (more_below : (k : ℕ) → k < 16 → get_or more k 0 < 16) where
   both_len : length (js ++ more) ≡ 32
   both_len = omega (arith, length-append js more, long, more_long)

@@ -18,7 +18,7 @@ units_of high_first (a ∷ b ∷ bytes) = unit_of high_first a b ∷ units_of hi
 abbrev pub unit_number : Bool → List ℕ → ℕ → ℕ
 unit_number high_first bytes k = unit_of high_first (slice_index bytes (2 * k)) (slice_index bytes (2 * k + 1))
 
--- the place of a unit's high byte among its two
+-- the offset of a unit's high byte among its two
 abbrev pub high_place : Bool → ℕ
 high_place high_first = if high_first then 0 else 1
 
@@ -36,6 +36,6 @@ swapped [] = []
 swapped (a ∷ []) = []
 swapped (a ∷ b ∷ bytes) = b ∷ a ∷ swapped bytes
 
--- the same bytes, or swapped
+-- the bytes unchanged, or the bytes of each pair swapped
 abbrev pub turned : Bool → List ℕ → List ℕ
 turned swaps bytes = if swaps then swapped bytes else bytes

@@ -7,3 +7,4 @@ pub mod UnitBlocks
 pub mod UnitCodes
 pub mod Starts
 pub mod UnitStarts
+pub mod FaultMasks

@@ -6,11 +6,11 @@ use Rattle.utf_base.specs.Kinds.{is_continuation}
 abbrev pub is_start : ℕ → Bool
 is_start b = not (is_continuation b)
 
--- how many of the bytes these are
+-- the number of bytes that begin a code
 abbrev pub start_count : List ℕ → ℕ
 start_count xs = count_by is_start xs
 
--- such a byte stands at the place, and so many stand before it
+-- a byte that begins a code is at the offset, and `number` such bytes precede it
 pub record IsStartOf (xs : List ℕ) (number place : ℕ) : Type 0 where
   pub within : place < length xs
   pub start : is_start (slice_index xs place) ≡ true

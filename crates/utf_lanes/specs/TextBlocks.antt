@@ -1,4 +1,5 @@
--- Text judged by each byte and the three before it, and what is known of some bytes once the first two are judged.
+-- Text validated by each byte and the three before it, and the consequences for some bytes once the first two
+-- are validated.
 use Rattle.std.specs.Prelude.{◌≡◌, ◌↔◌, ℕ, ◌+◌, ◌<◌, ◌≤◌, List, length, slice_index, bit_xor, true}
 use Rattle.utf_base.specs.Kinds.{is_continuation}
 
@@ -16,40 +17,43 @@ pub record MayBegin (c d : ℕ) : Type 0 where
   pub four : c ≡ 0xF0 → 0x90 ≤ d
   pub high : c ≡ 0xF4 → d < 0x90
 
--- where no code of three or four bytes has to go on, the byte d may come after c
+-- if no code of three or four bytes has to continue, the byte d may follow c
 pub record MayFollow (c d : ℕ) : Type 0 where
   pub first : c < 0xC0 → 0x80 ≤ d → 0xC0 ≤ d
   pub second : 0xC0 ≤ c → MayBegin c d
 
--- After the bytes a, b and c the byte d may come: it goes on where a code of three or four bytes has to.
+-- The byte d may follow a, b and c: it is a continuation byte if a code of three or four bytes has to
+-- continue.
 pub record Follows (a b c d : ℕ) : Type 0 where
   pub early : a < 0xF0 → b < 0xE0 → MayFollow c d
   pub third : 0xE0 ≤ b → IsContinuation c × IsContinuation d
   pub fourth : 0xF0 ≤ a → IsContinuation c × IsContinuation d
 
--- each byte from the place i on and before j may follow the three before it
+-- each byte from the offset i on and before j may follow the three before it
 abbrev pub AllMayFollow : List ℕ → ℕ → ℕ → Type 0
 AllMayFollow xs i j = (k : ℕ) → i ≤ k + 3 → k + 3 < j → Follows (slice_index xs k) (slice_index xs (k + 1)) (slice_index xs (k + 2)) (slice_index xs (k + 3))
 
--- a lane is 0 just where this holds of the byte of its number, counted from the place i on
+-- a lane is 0 if and only if this holds for the byte of its number, counted from the offset i on
 abbrev pub ZerosFollow : List ℕ → ℕ → List ℕ → Type 0
 ZerosFollow xs i v = (k : ℕ) → k < length v → slice_index v k ≡ 0 ↔ AllMayFollow xs (i + k) (i + k + 1)
 
--- a lane is 0 just where the byte in that lane of the last vector may follow those of the three others
+-- a lane is 0 if and only if the byte in that lane of the last vector may follow those of the three others
 abbrev pub ZeroLanesFollow : List ℕ → List ℕ → List ℕ → List ℕ → List ℕ → Type 0
 ZeroLanesFollow third second first here v =
     (k : ℕ) → k < length v → slice_index v k ≡ 0 ↔ Follows (slice_index third k) (slice_index second k) (slice_index first k) (slice_index here k)
 
--- the three bytes before the place ask for no more
+-- the three bytes before the offset ask for no more
 abbrev pub EndsCharacter : List ℕ → ℕ → Type 0
 EndsCharacter xs i = (k : ℕ) → k + 3 ≡ i → (slice_index xs k < 0xF0) × (slice_index xs (k + 1) < 0xE0) × (slice_index xs (k + 2) < 0xC0)
 
--- what look-ups leave of the byte d after the byte c: nothing just where d may follow, 0x80 just where both continue
+-- the bits that look-ups leave of the byte d after the byte c: 0 if and only if d may follow, 0x80 if and
+-- only if both continue
 pub record IsPair (c d left : ℕ) : Type 0 where
   pub early : bit_xor 0 left ≡ 0 ↔ MayFollow c d
   pub late : bit_xor 0x80 left ≡ 0 ↔ IsContinuation c × IsContinuation d
 
--- each lane of `left` is what look-ups leave of the byte in that lane of `here`, after the one in that of `before`
+-- each lane of `left` has the bits that look-ups leave of the byte in that lane of `here`, after the one in that
+-- of `before`
 abbrev pub ArePairsLeft : List ℕ → List ℕ → List ℕ → Type 0
 ArePairsLeft before here left = (k : ℕ) → k < length left → IsPair (slice_index before k) (slice_index here k) (slice_index left k)
 

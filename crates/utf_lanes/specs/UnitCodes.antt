@@ -1,4 +1,4 @@
--- Units of UTF-16 as bytes of UTF-8: which bytes a unit gives, by it and the one before it.
+-- Units of UTF-16 as bytes of UTF-8: the bytes that a unit gives, by it and the one before it.
 use Rattle.std.specs.Prelude.{◌≡◌, ℕ, ◌<◌, ◌+◌, ◌-◌, ◌*◌, Bool, true, false, ◌/◌, ◌%◌, if◌then◌else◌, List, [], ◌∷◌, ◌++◌, nat_lt, nat_eq, slice_index, ◌≤◌, length, take}
 use Rattle.std.specs.Int.{bit_at}
 use Rattle.utf_lanes.specs.Utf8ToUtf16.{concat_range}
@@ -10,11 +10,11 @@ use Rattle.utf_base.specs.Units.{is_leading_surrogate, is_trailing_surrogate, is
 abbrev pub lane_unit : List ℕ → List ℕ → ℕ → ℕ
 lane_unit low high k = slice_index high k * 256 + slice_index low k
 
--- what a function gives of that unit, after the byte in the lane k of another vector
+-- the value of a function at that unit, after the byte in the lane k of another vector
 abbrev pub lane_after : (ℕ → ℕ → ℕ) → List ℕ → List ℕ → List ℕ → ℕ → ℕ
 lane_after f before low high k = f (slice_index before k) (lane_unit low high k)
 
--- The bytes of a unit that is a character: the last, and those before it, 0 where there is none.
+-- The bytes of a unit that is a character: the last, and those before it, 0 if there is none.
 abbrev pub first_byte : ℕ → ℕ
 first_byte u = if nat_lt u 0x800 then 0 else 0xE0 + u / 4096
 
@@ -65,16 +65,17 @@ pub record AreText (unit : ℕ → ℕ) (n : ℕ) : Type 0 where
   pub leading : (k : ℕ) → k < n → is_leading_surrogate (unit k) ≡ true → (k + 1 < n) × (is_trailing_surrogate (unit (k + 1)) ≡ true)
   pub trailing : (k : ℕ) → k + 1 < n → is_trailing_surrogate (unit (k + 1)) ≡ true → is_leading_surrogate (unit k) ≡ true
 
--- The bytes were written into room, from one place to another, and those before them stay.
+-- The bytes were written into a buffer, from one offset to another, and those before them stay.
 pub record Writes (old new : List ℕ) (at end : ℕ) (bytes : List ℕ) : Type 0 where
   pub len : length new ≡ length old
   pub front : take end new ≡ take at old ++ bytes
 
--- No unit of so many is a surrogate, of which one vector has the high halves.
+-- None of the units is a surrogate; a vector has their high halves.
 abbrev pub AreCharacters : ℕ → List ℕ → Type 0
 AreCharacters n high = (k : ℕ) → k < n → nat_eq (slice_index high k / 8) 0x1B ≡ false
 
--- The first n of so many units are text, and their bytes were written into room, from one place to another.
+-- The first n of `width` units are text, and their bytes were written into a buffer, from one offset to
+-- another.
 pub record WritesUnits (width : ℕ) (low high old new : List ℕ) (at n end : ℕ) : Type 0 where
   pub most : n ≤ width
   pub text : AreText (lane_unit low high) n
@@ -87,16 +88,16 @@ pub record WritesUnits (width : ℕ) (low high old new : List ℕ) (at n end : �
 abbrev pub slot_at : List ℕ → List ℕ → List ℕ → ℕ → List ℕ
 slot_at firsts middles lasts k = lane_bytes (slice_index firsts k) (slice_index middles k) (slice_index lasts k)
 
--- the bytes of n of them
+-- the bytes of n slots
 abbrev pub slots_of : ℕ → List ℕ → List ℕ → List ℕ → List ℕ
 slots_of n firsts middles lasts = concat_range (slot_at firsts middles lasts) 0 n
 
--- the byte where the mask has its bit
+-- the byte if the mask has its bit
 abbrev pub marked : ℕ → ℕ → ℕ → List ℕ
 marked mask i byte = if nat_eq (bit_at mask i) 1 then byte ∷ [] else []
 
--- The slot number i of four bytes: the first, the last, the middle one and any. The mask says which of the first and middle are kept.
--- Where they are short, a slot is a pair: the last, and the one before it where the mask has its bit.
+-- The slot number i of four bytes: the first, the last, the middle one and any. The mask says which of the first and
+-- middle are kept. If they are short, a slot is a pair: the last, and the one before it if the mask has its bit.
 abbrev pub row_places : Bool → ℕ → ℕ → List ℕ
 row_places true mask i = marked mask i (2 * i) ++ ((2 * i + 1) ∷ [])
 row_places false mask i = marked mask (2 * i) (4 * i) ++ (marked mask (2 * i + 1) (4 * i + 2) ++ ((4 * i + 1) ∷ []))
@@ -106,7 +107,7 @@ row_bytes true mask lanes i = marked mask i (slice_index lanes (2 * i)) ++ (slic
 row_bytes false mask lanes i =
     marked mask (2 * i) (slice_index lanes (4 * i)) ++ (marked mask (2 * i + 1) (slice_index lanes (4 * i + 2)) ++ (slice_index lanes (4 * i + 1) ∷ []))
 
--- how many slots a vector has, and how many bytes of them are kept at most
+-- the number of slots in a vector, and the greatest number of their bytes that are kept
 abbrev pub row_slots : Bool → ℕ
 row_slots short = if short then 8 else 4
 

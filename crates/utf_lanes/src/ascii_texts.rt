@@ -1,4 +1,4 @@
-//! Texts of ASCII alone, judged as a whole, and the units of sixteen bytes of them.
+//! Texts of only ASCII, validated as a whole, and the units of sixteen bytes of them.
 ghost use Rattle.std.specs.Prelude.{◌≡◌, ℕ, ◌+◌, ◌*◌, ◌<◌, ◌≤◌, IsTrue, length, slice_index};
 ghost use Rattle.utf_lanes.specs.AsciiTexts.{AreAscii};
 ghost use Rattle.utf_lanes.specs.Utf8ToUtf16.{concat_range, halves};
@@ -7,7 +7,7 @@ use crate::byte_order::ByteOrder;
 use crate::few_bytes::{eights, fours};
 use std::simd::prelude::*;
 
-/// Whether all bytes are ASCII.
+/// Returns true if all bytes are ASCII.
 #[inline(always)]
 pub fn is_ascii(bytes: &[u8]) -> bool
     ensures ascii { IsTrue result → AreAscii bytes.now 0 (length bytes.now) }
@@ -20,7 +20,7 @@ pub fn is_ascii(bytes: &[u8]) -> bool
     is_ascii_from(bytes, wide)
 }
 
-// The same of a few bytes, of which one vector has the first and the last.
+// Returns true if a few bytes are ASCII; one vector has the first and the last of them.
 #[inline(always)]
 fn is_ascii_few(bytes: &[u8]) -> bool
     requires { length bytes.now ≤ 16 }
@@ -36,7 +36,7 @@ fn is_ascii_few(bytes: &[u8]) -> bool
     are_low(eights(bytes))
 }
 
-// Whether all lanes are ASCII.
+// Returns true if all lanes are ASCII.
 #[inline(always)]
 fn are_low(lanes: u8x16) -> bool
     ensures low { IsTrue result → (k : ℕ) → k < 16 → slice_index lanes k < 0x80 }
@@ -45,7 +45,7 @@ fn are_low(lanes: u8x16) -> bool
     lanes.simd_ge(u8x16::splat(0x80)).to_bitmask() == 0
 }
 
-// The same of a few bytes, one by one.
+// Returns true if a few bytes are ASCII, testing them one by one.
 #[inline(always)]
 pub(crate) fn is_ascii_each(bytes: &[u8]) -> bool
     ensures ascii { IsTrue result → AreAscii bytes.now 0 (length bytes.now) }
@@ -61,7 +61,8 @@ pub(crate) fn is_ascii_each(bytes: &[u8]) -> bool
     true
 }
 
-// Whether the bytes from the start on are ASCII, judged in blocks of sixteen, of which the last ends with the bytes.
+// Returns true if the bytes from the start on are ASCII, validated in blocks of sixteen, of which the last
+// ends with the bytes.
 #[inline(always)]
 fn is_ascii_from(bytes: &[u8], start: usize) -> bool
     requires long { 16 ≤ length bytes.now }
@@ -80,7 +81,7 @@ fn is_ascii_from(bytes: &[u8], start: usize) -> bool
     is_ascii_16(bytes, bytes.len() - 16)
 }
 
-// Whether the sixteen bytes from the place on are ASCII.
+// Returns true if the sixteen bytes from the offset on are ASCII.
 #[inline(always)]
 fn is_ascii_16(bytes: &[u8], place: usize) -> bool
     requires { place + 16 ≤ length bytes.now }
@@ -93,7 +94,7 @@ fn is_ascii_16(bytes: &[u8], place: usize) -> bool
         == 0
 }
 
-/// Whether the 64 bytes from the place on are ASCII.
+/// Returns true if the 64 bytes from the offset on are ASCII.
 #[inline(always)]
 pub fn is_ascii_block(bytes: &[u8], place: usize) -> bool
     requires { place + 64 ≤ length bytes.now }
@@ -104,7 +105,8 @@ pub fn is_ascii_block(bytes: &[u8], place: usize) -> bool
     either.simd_ge(u8x32::splat(0x80)).to_bitmask() == 0
 }
 
-/// Where the blocks of 64 bytes of ASCII end that begin at the place, judged two at once as far as that goes.
+/// The end of the 64-byte blocks of ASCII that begin at the offset, validated two in one step as far as
+/// possible.
 #[inline(always)]
 pub fn ascii_wide_end(bytes: &[u8], start: usize) -> usize
     requires { start ≤ length bytes.now }
@@ -119,7 +121,8 @@ pub fn ascii_wide_end(bytes: &[u8], start: usize) -> usize
     place
 }
 
-// The same of so many blocks at once alone, one or two.
+// The end of the 64-byte blocks of ASCII that begin at the offset, validated only `BLOCKS` in one step, one
+// or two.
 #[inline(always)]
 pub(crate) fn ascii_end<const BLOCKS: usize>(bytes: &[u8], start: usize) -> usize
     requires some { 1 ≤ BLOCKS }
@@ -139,7 +142,7 @@ pub(crate) fn ascii_end<const BLOCKS: usize>(bytes: &[u8], start: usize) -> usiz
     place
 }
 
-// Whether so many blocks from the place on are ASCII: the first and the last are all of them.
+// Returns true if `BLOCKS` blocks from the offset on are ASCII: the first and the last are all of them.
 #[inline(always)]
 fn are_ascii_blocks<const BLOCKS: usize>(bytes: &[u8], place: usize) -> bool
     requires some { 1 ≤ BLOCKS }

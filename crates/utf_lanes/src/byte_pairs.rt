@@ -1,4 +1,4 @@
-//! Units as pairs of bytes: made of them, and swapped in blocks.
+//! Units as pairs of bytes: composed, decomposed, and swapped in blocks.
 ghost use Rattle.std.specs.Prelude.{◌≡◌, ◌+◌, ◌≤◌, length, take, drop};
 ghost use Rattle.utf_lanes.specs.BytePairs.{unit_of, bytes_of, swapped};
 
@@ -30,7 +30,7 @@ pub fn two_bytes<E: ByteOrder>(unit: u16) -> [u8; 2]
     }
 }
 
-/// The 64 bytes from the place on, those of each pair swapped.
+/// The 64 bytes from the offset on, with those of each pair swapped.
 #[inline(always)]
 pub fn swapped_64(bytes: &[u8], place: usize) -> [u8; 64]
     requires { place + 64 ≤ length bytes.now }
@@ -45,7 +45,7 @@ pub fn swapped_64(bytes: &[u8], place: usize) -> [u8; 64]
         .to_array()
 }
 
-/// The sixteen bytes from the place on, those of each pair swapped.
+/// The sixteen bytes from the offset on, with those of each pair swapped.
 #[inline(always)]
 pub fn swapped_16(bytes: &[u8], place: usize) -> [u8; 16]
     requires { place + 16 ≤ length bytes.now }

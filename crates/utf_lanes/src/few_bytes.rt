@@ -1,11 +1,11 @@
-//! Bytes that are fewer than a vector has lanes, as one vector.
+//! Fewer bytes than a vector has lanes, loaded as one vector.
 ghost use Rattle.std.specs.Prelude.{◌≡◌, ℕ, ◌+◌, ◌-◌, ◌<◌, ◌≤◌, ◌∷◌, ◌++◌, length, replicate, slice_index};
 ghost use Rattle.utf_lanes.specs.Lanes.{end_byte};
 
 use crate::shuffles::PADDED_ROWS;
 use std::simd::prelude::*;
 
-// The bytes after so many NULs that all are sixteen.
+// The bytes, padded with NULs at the front to sixteen.
 #[inline(always)]
 pub(crate) fn padded_text(bytes: &[u8]) -> u8x16
     requires some { 4 ≤ length bytes.now }
@@ -44,7 +44,7 @@ pub(crate) fn fours(bytes: &[u8]) -> u8x16
     first.shuffle(last, [0, 1, 2, 3, 4, 5, 6, 7, 0, 1, 2, 3, 4, 5, 6, 7])
 }
 
-// What stands one, two and three places before each lane, with NULs before the first.
+// The elements one, two and three offsets before each lane, with NULs before the first.
 #[inline(always)]
 pub(crate) fn before_lanes(here: u8x16) -> (u8x16, u8x16, u8x16)
     ensures first_len { length result.0 ≡ 16 }

@@ -1,18 +1,20 @@
-//! Bytes and units judged in lanes, and blocks of one form of text made from blocks of another.
+//! Bytes and units validated with SIMD, and blocks of one encoding converted to another.
 //!
-//! - Judged: `text_blocks` says how far bytes are text, `unit_blocks` and `paired_units` how far units are well-formed, and
-//!   `ascii_texts` whether bytes are ASCII. `look_ups` has what depends on the number of lanes there.
-//! - Made: `text_puts` and `text_units` make units of text in UTF-8, `utf16_blocks` text in UTF-8 of sixteen or thirty-two units,
-//!   and `byte_pairs` units in the other order of bytes; what stays in its form is only judged.
-//! - `text_front` gives one character at the front of bytes, and `byte_order` has the orders of the bytes of a unit, as types.
+//! - Validation: `text_blocks` returns the length of the text at the front of bytes, `unit_blocks` and `paired_units`
+//!   that of well-formed units, and `ascii_texts` whether bytes are ASCII. `look_ups` has the code that depends on the
+//!   vector width there.
+//! - Conversion: `text_puts` and `text_units` convert text in UTF-8 to units, `utf16_blocks` sixteen or thirty-two units
+//!   to UTF-8, and `byte_pairs` units to the other byte order; text that keeps its encoding is only validated.
+//! - `text_front` decodes one character at the front of bytes, and `byte_order` has the byte orders of a unit, as types.
 //!
-//! It is an addition of this project, and no part of the Rust crate. Nothing here takes memory, and nothing knows of a form of
-//! text but by which byte of a unit is the high one.
+//! It is an addition of this project, and no part of the Rust crate. Nothing here allocates, and nothing knows an
+//! encoding except by which byte of a unit is the high one.
 #![tactic(auto)]
 
 pub mod ascii_texts;
 pub mod byte_order;
 pub mod byte_pairs;
+pub mod fault_masks;
 mod few_bytes;
 mod look_ups;
 pub mod paired_units;

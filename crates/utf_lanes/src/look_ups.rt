@@ -4,7 +4,7 @@ ghost use Rattle.utf_lanes.specs.Lanes.{ArePlaces, AreLookedUp};
 use std::simd::prelude::*;
 
 pub(crate) trait LookUp<const N: usize> {
-    // What the row has at the place in each lane.
+    // The elements of the row at the offsets in the lanes.
     fn look_up(row: &[u8; 16], places: Simd<u8, N>) -> Simd<u8, N>
         requires { ArePlaces N places }
         ensures { AreLookedUp N row.now places.entry result };
@@ -21,7 +21,7 @@ impl LookUp<16> for u8x16 {
 }
 
 impl LookUp<32> for u8x32 {
-    // The row stands in a vector twice, since a look-up reads only the half that its lane is in.
+    // The row is in a vector twice, since a look-up reads only the half that its lane is in.
     #[inline(always)]
     fn look_up(row: &[u8; 16], places: u8x32) -> u8x32
         requires { ArePlaces 32 places }

@@ -1,4 +1,5 @@
-//! How far units are well-formed, judged eight at once: each ends a pair just where the one before it begins one.
+//! The length of the well-formed front of units, validated eight in one step: each ends a pair if and only if
+//! the one before it begins one.
 ghost use Rattle.std.specs.Prelude.{ℕ, ◌+◌, ◌<◌, ◌≤◌, IsTrue, false, length, take};
 ghost use Rattle.utf_lanes.specs.UnitBlocks.{AllPaired, AreCodes, AreJudged};
 
@@ -9,7 +10,7 @@ use std::simd::prelude::*;
 use utf_base::elements::is_trailing_surrogate;
 use utf_base::traits::U16UtfExt;
 
-/// How many units at the front are well-formed: nearly all that are, where there are more than a few.
+/// The number of well-formed units at the front: nearly all of them, if there are more than a few.
 #[inline]
 pub fn paired_len(units: &[u16]) -> usize
     ensures within { result ≤ length units.now }
@@ -27,7 +28,7 @@ pub fn paired_len(units: &[u16]) -> usize
     }
 }
 
-// How far the units after the first each pair with the one before them, in blocks of 32.
+// The offset up to which the units after the first each pair with the one before them, in blocks of 32.
 #[inline(always)]
 fn paired_end(units: &[u16]) -> usize
     requires { 0 < length units.now }
@@ -46,7 +47,7 @@ fn paired_end(units: &[u16]) -> usize
     place
 }
 
-// Whether each of the 32 units from the place on pairs with the one before it.
+// Returns true if each of the 32 units from the offset on pairs with the one before it.
 #[inline(always)]
 fn is_paired_block(units: &[u16], place: usize) -> bool
     requires start { 1 ≤ place }
@@ -62,7 +63,8 @@ fn is_paired_block(units: &[u16], place: usize) -> bool
     )
 }
 
-// The eight units from the place on, each after the one before it: in the lane of its high byte, 0 where they pair.
+// The eight units from the offset on, each after the one before it: in the lane of its high byte, 0 if they
+// pair.
 #[inline(always)]
 fn unpaired(units: &[u16], place: usize) -> u8x16
     requires start { 1 ≤ place }

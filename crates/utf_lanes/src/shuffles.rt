@@ -1,4 +1,5 @@
-//! Tables of shuffles: the places of the bytes of a vector that a mask keeps, in order, and then any. Four rows a line.
+//! Tables of shuffles: the offsets of the bytes of a vector that a mask keeps, in order, followed by any.
+//! Four rows a line.
 
 // Of eight units: row m lists the set bits of m, each as the two bytes of a unit.
 #[rattlefmt::skip]
@@ -69,7 +70,7 @@ pub(crate) static COMPRESS_PAIRS: [[u8; 16]; 256] = [
     [4,5,6,7,8,9,10,11,12,13,14,15,0,0,0,0], [0,1,4,5,6,7,8,9,10,11,12,13,14,15,0,0], [2,3,4,5,6,7,8,9,10,11,12,13,14,15,0,0], [0,1,2,3,4,5,6,7,8,9,10,11,12,13,14,15],
 ];
 
-// Of eight pairs: of each the second byte, and the first where row m has its bit.
+// Of eight pairs: of each the second byte, and the first if row m has its bit.
 #[rattlefmt::skip]
 pub(crate) static COMPRESS_ENDS: [[u8; 16]; 256] = [
     [1,3,5,7,9,11,13,15,0,0,0,0,0,0,0,0], [0,1,3,5,7,9,11,13,15,0,0,0,0,0,0,0], [1,2,3,5,7,9,11,13,15,0,0,0,0,0,0,0], [0,1,2,3,5,7,9,11,13,15,0,0,0,0,0,0],
@@ -138,8 +139,8 @@ pub(crate) static COMPRESS_ENDS: [[u8; 16]; 256] = [
     [1,3,4,5,6,7,8,9,10,11,12,13,14,15,0,0], [0,1,3,4,5,6,7,8,9,10,11,12,13,14,15,0], [1,2,3,4,5,6,7,8,9,10,11,12,13,14,15,0], [0,1,2,3,4,5,6,7,8,9,10,11,12,13,14,15],
 ];
 
-// Of four slots of four bytes: of each the first where row m has the lower of its two bits, the third where m has the higher, and
-// the second.
+// Of four slots of four bytes: of each the first if row m has the lower of its two bits, the third if m has the
+// higher, and the second.
 #[rattlefmt::skip]
 pub(crate) static COMPRESS_LANES: [[u8; 16]; 256] = [
     [1,5,9,13,0,0,0,0,0,0,0,0,0,0,0,0], [0,1,5,9,13,0,0,0,0,0,0,0,0,0,0,0], [2,1,5,9,13,0,0,0,0,0,0,0,0,0,0,0], [0,2,1,5,9,13,0,0,0,0,0,0,0,0,0,0],
@@ -208,7 +209,8 @@ pub(crate) static COMPRESS_LANES: [[u8; 16]; 256] = [
     [1,4,6,5,8,10,9,12,14,13,0,0,0,0,0,0], [0,1,4,6,5,8,10,9,12,14,13,0,0,0,0,0], [2,1,4,6,5,8,10,9,12,14,13,0,0,0,0,0], [0,2,1,4,6,5,8,10,9,12,14,13,0,0,0,0],
 ];
 
-// Of the first and the last bytes of some: row n puts n + 4 bytes after NULs. Up to seven there are four at either end, else eight.
+// Of the first and the last bytes of some: row n puts n + 4 bytes after NULs. Up to seven there are four at
+// either end, otherwise eight.
 #[rattlefmt::skip]
 pub(crate) static PADDED_ROWS: [[u8; 16]; 13] = [
     [128,128,128,128,128,128,128,128,128,128,128,128,0,1,2,3], [128,128,128,128,128,128,128,128,128,128,128,0,1,2,3,7], [128,128,128,128,128,128,128,128,128,128,0,1,2,3,6,7], [128,128,128,128,128,128,128,128,128,0,1,2,3,5,6,7],

@@ -1,4 +1,5 @@
-//! The bytes of sixteen or thirty-two slots, written into room from a place on, by rows: vectors of which the first bytes count.
+//! The bytes of sixteen or thirty-two slots, written into a buffer from an offset on, by rows: vectors of
+//! which the first bytes count.
 ghost use Rattle.std.specs.Prelude.{◌≡◌, ℕ, ◌+◌, ◌*◌, ◌<◌, ◌≤◌, length, slice_index, false, true, ◌++◌, take, drop};
 ghost use Rattle.utf_lanes.specs.UnitCodes.{Writes, short_slots_of, slots_of, lanes_of, row_given, row_most, row_of, row_places, row_slots, rows_given};
 ghost use Rattle.utf_lanes.specs.Utf8ToUtf16.{IsRow};
@@ -7,13 +8,14 @@ ghost use Rattle.utf_lanes.specs.Lanes.{ArePairs, pair_of_lanes};
 use crate::shuffles::{COMPRESS_ENDS, COMPRESS_LANES};
 use std::simd::prelude::*;
 
-// What is done at each width: writes the bytes of N slots from the place on, and answers where they end.
+// The operations that depend on the vector width: they write the bytes of N slots from the offset on, and
+// return the offset after them.
 pub(crate) trait SlotWriter<const N: usize> {
-    // Each lane one place later.
+    // Each lane one offset later.
     fn one_later(lanes: Simd<u8, N>) -> Simd<u8, N>
         ensures { (k : ℕ) → k + 1 < N → slice_index result (k + 1) ≡ slice_index lanes.entry k };
 
-    // Of slots in which none has three bytes.
+    // Writes the bytes of slots in which none has three.
     fn write_short(middle: Simd<u8, N>, last: Simd<u8, N>, room: &mut [u8], at: usize) -> usize
         requires { at + (3 * N + 16) ≤ length room.old }
         ensures written { Writes room.old room.new at result (short_slots_of N middle.entry last.entry) }
@@ -32,7 +34,7 @@ pub(crate) trait SlotWriter<const N: usize> {
         ensures most { result ≤ at + 3 * N };
 }
 
-// By vectors of sixteen lanes.
+// Vectors of sixteen lanes.
 pub(crate) struct Sixteen;
 
 impl SlotWriter<16> for Sixteen {
@@ -65,7 +67,7 @@ impl SlotWriter<16> for Sixteen {
     }
 }
 
-// By vectors of thirty-two.
+// Vectors of thirty-two lanes.
 pub(crate) struct ThirtyTwo;
 
 impl SlotWriter<32> for ThirtyTwo {
@@ -102,21 +104,21 @@ impl SlotWriter<32> for ThirtyTwo {
     }
 }
 
-// A vector of which the first bytes count, so many.
+// A vector whose first `len` bytes count.
 #[derive(Drop)]
 struct Row {
     bytes: u8x16,
     len: usize,
 }
 
-// Two of them, one after the other.
+// Two rows, one after the other.
 #[derive(Drop)]
 struct Rows {
     low: Row,
     high: Row,
 }
 
-// Writes the bytes of two rows from the place on. Answers where they end.
+// Writes the bytes of two rows from the offset on. Returns the offset after them.
 #[inline(always)]
 fn write_rows(rows: Rows, room: &mut [u8], at: usize) -> usize
     requires low { rows.low.len ≤ 16 }
@@ -129,7 +131,7 @@ fn write_rows(rows: Rows, room: &mut [u8], at: usize) -> usize
     write_row(rows.high, room, middle)
 }
 
-// The same of one row.
+// Writes the bytes of one row from the offset on. Returns the offset after them.
 #[inline(always)]
 fn write_row(row: Row, room: &mut [u8], at: usize) -> usize
     requires few { row.len ≤ 16 }
@@ -142,8 +144,8 @@ fn write_row(row: Row, room: &mut [u8], at: usize) -> usize
     at + row.len
 }
 
-// The bytes of sixteen slots in which none has three, or of eight of which one vector has the first two bytes of each and the
-// other the last.
+// The bytes of sixteen slots in which none has three, or of eight of which one vector has the first two bytes of each
+// and the other the last.
 #[inline(always)]
 fn rows_of(short: bool, fronts: u8x16, lasts: u8x16) -> Rows
     ensures bytes { rows_given result ≡ lanes_of short fronts lasts }
@@ -158,7 +160,7 @@ fn rows_of(short: bool, fronts: u8x16, lasts: u8x16) -> Rows
     }
 }
 
-// The same of the slots of one vector, of which the mask says which bytes are kept.
+// The row of the slots of one vector, of which the mask says which bytes are kept.
 #[inline(always)]
 fn compressed_row(short: bool, lanes: u8x16, mask: usize) -> Row
     requires { mask < 256 }
@@ -172,7 +174,7 @@ fn compressed_row(short: bool, lanes: u8x16, mask: usize) -> Row
     }
 }
 
-// Where these bytes are: their places, and then any. Answers of how many too.
+// The offsets of the kept bytes, followed by any, and their number.
 #[inline(always)]
 fn compress_row(short: bool, mask: usize) -> ([u8; 16], usize)
     requires { mask < 256 }
@@ -188,7 +190,7 @@ fn compress_row(short: bool, mask: usize) -> ([u8; 16], usize)
     }
 }
 
-// The rows of either half: of the slots whose bytes stand in these two vectors.
+// The rows of either half of the slots whose bytes are in these two vectors.
 #[inline(always)]
 fn wide_rows_of(short: bool, fronts: u8x32, lasts: u8x32) -> (Rows, Rows)
     ensures front { rows_given result.0 ≡ lanes_of short (take 16 fronts) (take 16 lasts) }
@@ -284,7 +286,7 @@ fn low_pairs(first: u8x32, second: u8x32) -> u8x32
     )
 }
 
-// The last eight.
+// The last eight lanes of either half, in pairs of both vectors.
 #[inline(always)]
 fn high_pairs(first: u8x32, second: u8x32) -> u8x32
     ensures front { ArePairs (take 16 result) (λ k. pair_of_lanes (take 16 first) (take 16 second) (8 + k)) }

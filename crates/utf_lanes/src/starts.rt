@@ -1,14 +1,16 @@
-//! Bytes that begin a code, counted in parts and in blocks: of text, how many characters it has, and where one of them begins.
+//! Bytes that begin a code, counted in parts and in blocks: of text, the number of characters, and the offset of one
+//! of them.
 ghost use Rattle.std.specs.Prelude.{◌≡◌, ◌+◌, ◌^◌, ◌<◌, ◌≤◌, MatchOption, length, slice_range, take};
 ghost use Rattle.utf_lanes.specs.Starts.{IsStartOf, start_count};
 
 use std::simd::prelude::*;
 use utf_base::elements::is_continuation;
 
-// How many bytes are counted in one loop: no more than a byte can count, and as many as three blocks have.
+// The number of bytes that are counted in one loop: no more than a `u8` can count, and as many as three
+// blocks have.
 const PART: usize = 192;
 
-/// How many of the bytes are no continuation byte: of text, how many characters it has.
+/// The number of bytes that are no continuation byte: of text, the number of characters.
 #[inline]
 pub fn starts_in(bytes: &[u8]) -> usize
     ensures { result ≡ start_count bytes.now }
@@ -19,7 +21,8 @@ pub fn starts_in(bytes: &[u8]) -> usize
     front.starts + (counted.starts + short_starts(&rest[counted.place..]))
 }
 
-/// Where the byte with this number stands, counted from 0, of those that are no continuation byte. `None` if there are no more.
+/// The offset of the byte with this number, counted from 0, among those that are no continuation byte. `None` if
+/// there are no more.
 #[inline]
 pub fn nth_start(bytes: &[u8], number: usize) -> Option<usize>
     ensures { MatchOption result (start_count bytes.now ≤ number) (IsStartOf bytes.now number) }
@@ -39,14 +42,14 @@ pub fn nth_start(bytes: &[u8], number: usize) -> Option<usize>
     None
 }
 
-// A place, and how many bytes before it begin a code.
+// An offset, and the number of bytes before it that begin a code.
 #[derive(Clone, Copy, Drop)]
 struct Counted {
     place: usize,
     starts: usize,
 }
 
-// Parts from the front on, as many as there are.
+// Counts whole parts from the front on.
 #[inline(always)]
 fn parts_counted(bytes: &[u8]) -> Counted
     ensures within { result.place ≤ length bytes.now }
@@ -63,8 +66,8 @@ fn parts_counted(bytes: &[u8]) -> Counted
     counted
 }
 
-// How many bytes of a part begin a code. A byte counts them: so a compiler compares and adds as many at once as a vector has lanes,
-// and makes one number of the lanes for each part, where a mask is one for each vector.
+// The number of bytes of a part that begin a code. The counter is a `u8`: so the compiler compares and adds as many
+// in one instruction as a vector has lanes, and sums the lanes once for each part, if a mask is one for each vector.
 #[inline(always)]
 fn part_starts(bytes: &[u8]) -> u8
     requires { length bytes.now ≡ 192 }
@@ -79,7 +82,7 @@ fn part_starts(bytes: &[u8]) -> u8
     starts
 }
 
-// Blocks of 64 from the front on, as long as no more than so many of their bytes begin a code.
+// Counts blocks of 64 from the front on, while at most `most` of their bytes begin a code.
 #[inline(always)]
 fn counted_up_to(bytes: &[u8], most: usize) -> Counted
     ensures within { result.place ≤ length bytes.now }
@@ -101,7 +104,7 @@ fn counted_up_to(bytes: &[u8], most: usize) -> Counted
     counted
 }
 
-// How many of the 64 bytes from the place on begin a code.
+// The number of the 64 bytes from the offset on that begin a code.
 #[inline(always)]
 fn block_starts(bytes: &[u8], place: usize) -> usize
     requires { place + 64 ≤ length bytes.now }
@@ -110,7 +113,8 @@ fn block_starts(bytes: &[u8], place: usize) -> usize
     lane_starts::<32>(bytes, place) + lane_starts::<32>(bytes, place + 32)
 }
 
-// The same of as many as a vector has lanes. A continuation byte is below 0x40, once 0x80 is added.
+// The number of the N bytes from the offset on that begin a code. A continuation byte plus 0x80 is below
+// 0x40.
 #[inline(always)]
 fn lane_starts<const N: usize>(bytes: &[u8], place: usize) -> usize
     requires few { N ≤ 64 }
@@ -121,7 +125,7 @@ fn lane_starts<const N: usize>(bytes: &[u8], place: usize) -> usize
     lanes.simd_ge(Simd::splat(0x40)).to_bitmask().count_ones() as usize
 }
 
-// The same of few blocks of sixteen, and what is left.
+// The number of bytes that begin a code, in a few blocks of sixteen and the rest.
 #[inline(always)]
 fn short_starts(bytes: &[u8]) -> usize
     ensures { result ≡ start_count bytes.now }
@@ -135,7 +139,7 @@ fn short_starts(bytes: &[u8]) -> usize
     starts + few_starts(&bytes[place..])
 }
 
-// The same of all, one by one.
+// The number of bytes that begin a code, counted one by one.
 #[inline(always)]
 fn few_starts(bytes: &[u8]) -> usize
     ensures { result ≡ start_count bytes.now }

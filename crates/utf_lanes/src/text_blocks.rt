@@ -1,9 +1,9 @@
-//! How far bytes are text, judged sixteen at once, and in blocks of 64 by 32.
+//! The length of the text at the front of bytes, validated in blocks of sixteen, and of 64 by vectors of 32.
 //!
-//! A byte is judged by the three before it: three look-ups tell whether it may follow the one before it, and
-//! the two before that tell whether a code of three or four bytes has to go on (Keiser and Lemire, "Validating
-//! UTF-8 in less than one instruction per byte", 2021).
-ghost use Rattle.std.specs.Prelude.{◌≡◌, ℕ, ◌+◌, ◌<◌, ◌≤◌, ◌∷◌, length, take, slice_index, IsTrue, IsUtf8};
+//! A byte is validated by the three before it: three look-ups decide whether it may follow the one before it,
+//! and the two before that decide whether a code of three or four bytes has to continue (Keiser and Lemire,
+//! "Validating UTF-8 in less than one instruction per byte", 2021).
+ghost use Rattle.std.specs.Prelude.{◌≡◌, ℕ, ◌+◌, ◌<◌, ◌≤◌, ◌∷◌, length, take, slice_index, slice_range, IsTrue, IsUtf8};
 ghost use Rattle.utf_lanes.specs.AsciiTexts.{AreAscii};
 ghost use Rattle.utf_lanes.specs.TextBlocks.{AllMayFollow, ArePairsLeft, EndsCharacter, ZeroLanesFollow, ZerosFollow};
 
@@ -14,7 +14,7 @@ use crate::text_front::front_of_text;
 use std::simd::prelude::*;
 use utf_base::elements::is_continuation;
 
-// What may be wrong with a byte after the one before it. A bit is left where all three tables have it.
+// The faults of a byte after the one before it. A bit is left if all three tables have it.
 const MISSING: u8 = 0x01;
 
 const STRAY: u8 = 0x02;
@@ -28,10 +28,10 @@ const SURROGATE: u8 = 0x10;
 const TOO_HIGH: u8 = 0x20;
 
 const OVERLONG_FOUR: u8 = 0x40;
-// Two continuation bytes, which is wrong but where a code of three or four bytes goes on.
+// Two continuation bytes, which is a fault unless a code of three or four bytes continues.
 const SECOND: u8 = 0x80;
 
-// By the upper half of the byte before.
+// Indexed by the upper half of the byte before.
 const BEFORE_HIGH: [u8; 16] = [
     STRAY,
     STRAY,
@@ -51,13 +51,13 @@ const BEFORE_HIGH: [u8; 16] = [
     MISSING | TOO_HIGH | OVERLONG_FOUR,
 ];
 
-// What the lower half of the byte before leaves open.
+// The faults that the lower half of the byte before does not exclude.
 const ANY: u8 = MISSING | STRAY | SECOND;
 
-// What is too high after a first byte from 0xf5 on, whatever follows it.
+// The faults after a first byte from 0xf5 on, which is too high whatever follows it.
 const BEYOND: u8 = ANY | TOO_HIGH | OVERLONG_FOUR;
 
-// By the lower half of the byte before.
+// Indexed by the lower half of the byte before.
 const BEFORE_LOW: [u8; 16] = [
     ANY | OVERLONG_TWO | OVERLONG_THREE | OVERLONG_FOUR,
     ANY | OVERLONG_TWO,
@@ -77,10 +77,10 @@ const BEFORE_LOW: [u8; 16] = [
     BEYOND,
 ];
 
-// What any continuation byte may be wrong by.
+// The faults that any continuation byte may have.
 const CONTINUATION: u8 = STRAY | SECOND | OVERLONG_TWO;
 
-// By the upper half of the byte.
+// Indexed by the upper half of the byte.
 const HERE_HIGH: [u8; 16] = [
     MISSING,
     MISSING,
@@ -100,7 +100,7 @@ const HERE_HIGH: [u8; 16] = [
     MISSING,
 ];
 
-/// How many bytes at the front are text: nearly all that are, where there are more than a few.
+/// The length of the text at the front in bytes: of nearly all of it, if there are more than a few bytes.
 #[inline]
 pub fn text_len(bytes: &[u8]) -> usize
     ensures within { result ≤ length bytes.now }
@@ -120,7 +120,7 @@ pub fn text_len(bytes: &[u8]) -> usize
     last_code_start(bytes, end)
 }
 
-// The same of a few bytes.
+// The length of the text at the front of a few bytes.
 #[inline(always)]
 fn few_len(bytes: &[u8]) -> usize
     ensures within { result ≤ length bytes.now }
@@ -135,7 +135,7 @@ fn few_len(bytes: &[u8]) -> usize
     few_chars(bytes, 3)
 }
 
-// How many bytes the first characters have, so that after them no more than sixteen are left where no fault is among them.
+// The length of the first characters, so that at most sixteen bytes are left after them if there is no fault.
 #[inline(always)]
 fn last_start(bytes: &[u8]) -> usize
     ensures within { result ≤ length bytes.now }
@@ -150,7 +150,7 @@ fn last_start(bytes: &[u8]) -> usize
     few_chars(bytes, bytes.len() - 16)
 }
 
-/// Whether the bytes are text, judged at once; no where they are more than sixteen.
+/// Returns true if the bytes are text, validated in one step; false if they are more than sixteen.
 #[inline(always)]
 pub fn are_text(bytes: &[u8]) -> bool
     ensures text { IsTrue result → IsUtf8 bytes.now }
@@ -166,7 +166,7 @@ pub fn are_text(bytes: &[u8]) -> bool
     first_fault(faults_at_front(padded_text(bytes))) == 16 && ends_character(bytes, bytes.len())
 }
 
-// How many bytes the first characters have, until they have `least`, and as far as no fault.
+// The length of the first characters: until they have `least` bytes, and up to the first fault.
 #[inline(never)]
 fn few_chars(bytes: &[u8], least: usize) -> usize
     ensures within { result ≤ length bytes.now }
@@ -184,7 +184,22 @@ fn few_chars(bytes: &[u8], least: usize) -> usize
     place
 }
 
-// How far the bytes may each follow the three before them: to the first that may not, or the end. NULs stand before the first.
+/// Returns where the valid text ends that begins at an offset, as far as blocks of 64 bytes show, less its last character.
+#[inline(always)]
+pub fn text_end(bytes: &[u8], start: usize) -> usize
+    requires start { 3 ≤ start }
+    requires within { start ≤ length bytes.now }
+    requires closed { EndsCharacter bytes.now start }
+    ensures least { start ≤ result }
+    ensures within { result ≤ length bytes.now }
+    ensures text { IsUtf8 (slice_range bytes.now start result) }
+{
+    let end = valid_len_in_batches(bytes, start);
+    start + last_code_start(&bytes[start..], end - start)
+}
+
+// The offset of the first byte that may not follow the three before it, or the length. NULs are taken to precede the
+// first.
 #[inline(always)]
 fn valid_len(bytes: &[u8]) -> usize
     requires { 19 ≤ length bytes.now }
@@ -199,8 +214,9 @@ fn valid_len(bytes: &[u8]) -> usize
     valid_len_by_lanes(bytes, valid_len_in_blocks(bytes))
 }
 
-// The same from the first sixteen bytes on, as far as blocks of 64 go. In a longer text they begin at 32: where it lies in
-// memory at a multiple of 64, as a file that is mapped does, a processor reads vectors of 32 lanes faster from there.
+// The offset up to which bytes from the first sixteen on may follow the three before them, in blocks of 64. In a
+// longer text the blocks begin at 32: if the text is 64-byte aligned in memory, as a mapped file is, a CPU reads
+// 32-byte vectors faster from there.
 #[inline(always)]
 fn valid_len_in_blocks(bytes: &[u8]) -> usize
     requires { 19 ≤ length bytes.now }
@@ -217,7 +233,8 @@ fn valid_len_in_blocks(bytes: &[u8]) -> usize
     valid_len_in_batches(bytes, 32)
 }
 
-// The same from a place on, in blocks of 64, to the first in which some byte may not follow.
+// The offset up to which bytes from `start` on may follow the three before them, in blocks of 64, up to the
+// first block in which some byte may not.
 #[inline(always)]
 fn valid_len_wide(bytes: &[u8], start: usize) -> usize
     requires start { 3 ≤ start }
@@ -239,8 +256,9 @@ fn valid_len_wide(bytes: &[u8], start: usize) -> usize
     place
 }
 
-// The same of a longer text. Whether a block is ASCII is asked between batches of text alone: after one block of it, then after
-// two more, and so on up to sixteen. So text with some ASCII blocks in it is not asked for each, which a processor cannot foresee.
+// The offset up to which bytes of a longer text may follow the three before them. Blocks are tested for ASCII only
+// between batches of text: after one block, then after two more, and so on up to sixteen. So text with some ASCII
+// blocks skips a test that would mispredict.
 #[inline(always)]
 fn valid_len_in_batches(bytes: &[u8], start: usize) -> usize
     requires start { 3 ≤ start }
@@ -267,8 +285,8 @@ fn valid_len_in_batches(bytes: &[u8], start: usize) -> usize
     end
 }
 
-// Where the blocks of 64 end in which each byte may follow, of those that begin at the start and up to `last`. The first stands
-// before the loop: so a compiler that takes nothing out of loops has the tables in registers there.
+// The end of the 64-byte blocks in which each byte may follow, of those from the start up to `last`. The first block
+// precedes the loop: so a compiler that hoists nothing out of loops has the tables in registers there.
 #[inline(always)]
 fn batch_end(bytes: &[u8], start: usize, last: usize) -> usize
     requires start { 3 ≤ start }
@@ -291,7 +309,8 @@ fn batch_end(bytes: &[u8], start: usize, last: usize) -> usize
     place
 }
 
-// The same in blocks of sixteen, of which the last ends with the bytes.
+// The offset up to which bytes may follow the three before them, in blocks of sixteen, of which the last ends
+// with the bytes.
 #[inline(always)]
 fn valid_len_by_lanes(bytes: &[u8], start: usize) -> usize
     requires enough { 19 ≤ length bytes.now }
@@ -313,8 +332,8 @@ fn valid_len_by_lanes(bytes: &[u8], start: usize) -> usize
     place
 }
 
-// Whether each of the 64 bytes from the place on may follow the three before it. A place that waits for no judgement
-// lets the processor judge some blocks at once, so the loop above branches on this answer.
+// Returns true if each of the 64 bytes from the offset on may follow the three before it. The next offset does not
+// depend on this result, so that the CPU overlaps several blocks: the loop above branches on it.
 #[inline(always)]
 fn follows_block(bytes: &[u8], place: usize) -> bool
     requires start { 3 ≤ place }
@@ -326,7 +345,7 @@ fn follows_block(bytes: &[u8], place: usize) -> bool
     either.simd_ne(u8x32::splat(0)).to_bitmask() == 0
 }
 
-/// Whether the three bytes before the place ask for no more.
+/// Returns true if no sequence is still open at `place`.
 #[inline(always)]
 pub fn ends_character(bytes: &[u8], place: usize) -> bool
     requires start { 3 ≤ place }
@@ -337,7 +356,8 @@ pub fn ends_character(bytes: &[u8], place: usize) -> bool
     bytes[place - 1] < 0xc0 && bytes[place - 2] < 0xe0 && bytes[place - 3] < 0xf0
 }
 
-// How many of the sixteen bytes from the place on may follow the three before them, up to the first that may not.
+// The number of the sixteen bytes from the offset on that may follow the three before them, up to the first that
+// may not.
 #[inline(always)]
 fn valid_lanes(bytes: &[u8], place: usize) -> usize
     requires start { 3 ≤ place }
@@ -349,7 +369,7 @@ fn valid_lanes(bytes: &[u8], place: usize) -> usize
     first_fault(faults_at::<16>(bytes, place))
 }
 
-// How many lanes are 0, up to the first that is not.
+// The number of lanes that are 0, up to the first that is not.
 #[inline(always)]
 fn first_fault(faults: u8x16) -> usize
     ensures most { result ≤ 16 }
@@ -364,8 +384,8 @@ fn first_fault(faults: u8x16) -> usize
     }
 }
 
-// What is wrong with each byte from the place on, as many as a vector has lanes, after the three before it: 0 where
-// nothing is.
+// The fault of each byte from the offset on, as many as a vector has lanes, after the three before it: 0 if there
+// is none.
 #[inline]
 fn faults_at<const N: usize>(bytes: &[u8], place: usize) -> Simd<u8, N>
 where
@@ -382,7 +402,7 @@ where
     faults_after(third, second, first, here)
 }
 
-// The same of sixteen bytes that NULs stand before.
+// The fault of each of sixteen bytes that NULs precede.
 #[inline(always)]
 fn faults_at_front(here: u8x16) -> u8x16
     ensures len { length result ≡ 16 }
@@ -392,7 +412,7 @@ fn faults_at_front(here: u8x16) -> u8x16
     faults_after(three, two, one, here)
 }
 
-// The same of as many bytes as a vector has lanes, by the vectors that have the three before each.
+// The fault of each byte of a vector, by the vectors that have the three bytes before each.
 #[inline(always)]
 fn faults_after<const N: usize>(
     third: Simd<u8, N>,
@@ -411,9 +431,9 @@ where
     (long & Simd::splat(SECOND)) ^ left
 }
 
-// What the tables leave of each byte after the one before it.
+// The bits that the tables leave of each byte after the one before it.
 #[inline(always)]
-fn pairs<const N: usize>(before: Simd<u8, N>, here: Simd<u8, N>) -> Simd<u8, N>
+pub(crate) fn pairs<const N: usize>(before: Simd<u8, N>, here: Simd<u8, N>) -> Simd<u8, N>
 where
     Simd<u8, N>: LookUp<N>,
     ensures len { length result ≡ N }
@@ -424,7 +444,7 @@ where
     high & low & Simd::<u8, N>::look_up(&HERE_HIGH, here >> Simd::splat(4))
 }
 
-// The last place before the end at which a code begins, or the first place of all.
+// The last offset before the end at which a code begins, or 0.
 #[inline(always)]
 fn last_code_start(bytes: &[u8], end: usize) -> usize
     requires within { end ≤ length bytes.now }

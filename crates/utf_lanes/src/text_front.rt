@@ -1,4 +1,4 @@
-//! The character at the front of bytes that are text for the most part.
+//! The character at the front of mostly well-formed bytes.
 ghost use Rattle.std.specs.Prelude.{◌≡◌, ◌+◌, ◌-◌, ◌*◌, ◌≤◌, ◌<◌, length, slice_index, IfSome, IfNone, None, Ok, true};
 ghost use Rattle.utf_base.specs.Code.{utf8};
 ghost use Rattle.utf_base.specs.Decoded.{decoded};
@@ -8,11 +8,11 @@ ghost use Rattle.utf_lanes.specs.TextBlocks.{IsBegun};
 
 use utf_base::elements::is_continuation;
 
-/// The character that begins the bytes: (character, length in bytes), the length 1 to 4. `None`
-/// where no character begins them, and where they are fewer than four.
+/// The character that begins the bytes: (character, length in bytes), the length 1 to 4. `None` if no
+/// character begins them, or if they are fewer than four.
 ///
-/// It is the quicker way through bytes that are text for the most part. Whether and why other bytes
-/// are invalid, `CharExt::from_utf8_slice_start` says.
+/// Fast path for mostly valid input. Whether and why other bytes are invalid,
+/// `CharExt::from_utf8_slice_start` says.
 #[inline(always)]
 #[tactic(auto, using(utf_base::proofs::DecodedLemmas::decoded_code, utf_base::proofs::DecodedLemmas::front_len_utf8))]
 pub fn front_of_text(src: &[u8]) -> Option<(char, usize)>
@@ -37,7 +37,7 @@ pub fn front_of_text(src: &[u8]) -> Option<(char, usize)>
     if src[0] < 0xf0 { three(src) } else { four(src) }
 }
 
-// The character of two bytes, or none where the first is below 0xc2.
+// The character of two bytes, or `None` if the first is below 0xc2.
 #[inline(always)]
 fn two(src: &[u8]) -> Option<(char, usize)>
     requires enough { 4 ≤ length src.now }
@@ -50,7 +50,7 @@ fn two(src: &[u8]) -> Option<(char, usize)>
     if second >= 0x40 {
         return None;
     }
-    // The mark of the first byte is taken off after it was tested: so the compiler keeps both tests apart.
+    // The marker bits of the first byte are removed after the test: so the compiler keeps both tests apart.
     let marked = with_low_bits(src[0] as u32, second as u32);
     if marked < 0xc2 << 6 {
         return None;
@@ -58,7 +58,7 @@ fn two(src: &[u8]) -> Option<(char, usize)>
     Some((unsafe { char::from_u32_unchecked(marked - (0xc0 << 6)) }, 2))
 }
 
-// The character of three.
+// The character of three bytes.
 #[inline(always)]
 fn three(src: &[u8]) -> Option<(char, usize)>
     requires { IsBegun 0xE0 0xF0 src.now }
@@ -66,8 +66,9 @@ fn three(src: &[u8]) -> Option<(char, usize)>
     ensures none { IfNone result (NoneBegins utf8 src.now) }
 {
     let front = with_payload((src[0] & 0x0f) as u32, src[1]);
-    // Surrogates are told by the bits that they share: comparing with both ends makes a branch hard to foresee. That the third byte
-    // is judged between the two tests of the value keeps a compiler from making one of both, which takes more instructions.
+    // Surrogates are recognised by the bits that they share: comparing with both ends makes a branch that predicts
+    // badly. Testing the third byte between the two tests of the value keeps the compiler from merging these, which
+    // would take more instructions.
     if front >> 5 == 0xd800 >> 11 {
         return None;
     }
@@ -81,7 +82,7 @@ fn three(src: &[u8]) -> Option<(char, usize)>
     Some((unsafe { char::from_u32_unchecked(value) }, 3))
 }
 
-// The character of four, or none where the first byte is above 0xf4.
+// The character of four bytes, or `None` if the first byte is above 0xf4.
 #[inline(always)]
 fn four(src: &[u8]) -> Option<(char, usize)>
     requires { IsBegun 0xF0 0x100 src.now }
@@ -99,7 +100,7 @@ fn four(src: &[u8]) -> Option<(char, usize)>
     Some((unsafe { char::from_u32_unchecked(value) }, 4))
 }
 
-// The payload of a byte that continues, after what those before it add up to.
+// Appends the payload of a continuation byte to the value so far.
 #[inline(always)]
 fn with_payload(front: u32, byte: u8) -> u32
     requires front { front < 0x8000 }
@@ -109,7 +110,7 @@ fn with_payload(front: u32, byte: u8) -> u32
     with_low_bits(front, (byte & 0x3f) as u32)
 }
 
-// A number and the six bits after it.
+// Appends six bits to a number.
 #[inline(always)]
 fn with_low_bits(front: u32, low: u32) -> u32
     requires front { front < 0x8000 }

@@ -1,4 +1,4 @@
-//! Text in UTF-8 as units of UTF-16, written into room from a place on.
+//! Text in UTF-8 as units of UTF-16, written into a buffer from an offset on.
 ghost use Rattle.std.specs.Prelude.{◌≡◌, ◌+◌, ◌-◌, ◌*◌, ◌<◌, ◌≤◌, length, take};
 ghost use Rattle.utf_lanes.specs.UnitCodes.{Writes};
 ghost use Rattle.utf_lanes.specs.Utf8ToUtf16.{given, utf16_bytes};
@@ -8,7 +8,7 @@ use crate::few_bytes::padded_text;
 use crate::text_units::{UnitBytes, block_units, front_units};
 use std::simd::prelude::*;
 
-/// Writes the units of the first sixteen places. Answers where they end.
+/// Writes the units of the first sixteen offsets. Returns the offset after them.
 #[inline(always)]
 pub fn write_first<E: ByteOrder>(text: &[u8], room: &mut [u8], at: usize) -> usize
     requires long { 16 ≤ length text.now }
@@ -21,7 +21,8 @@ pub fn write_first<E: ByteOrder>(text: &[u8], room: &mut [u8], at: usize) -> usi
     write_half(&right, room, middle)
 }
 
-/// Writes the units of four to sixteen bytes, which are all of some text, to the front of the room. Answers where they end.
+/// Writes the units of four to sixteen bytes, which are all of some text, to the front of the buffer. Returns
+/// the offset after them.
 #[inline(always)]
 pub fn write_few<E: ByteOrder>(text: &[u8], room: &mut [u8]) -> usize
     requires some { 4 ≤ length text.now }
@@ -37,7 +38,7 @@ pub fn write_few<E: ByteOrder>(text: &[u8], room: &mut [u8]) -> usize
     write_half(&right, room, middle)
 }
 
-/// Writes the units of 64 places. Answers where they end.
+/// Writes the units of 64 offsets. Returns the offset after them.
 #[inline(always)]
 pub fn write_64<E: ByteOrder>(text: &[u8], place: usize, room: &mut [u8], at: usize) -> usize
     requires start { 3 ≤ place }
@@ -52,8 +53,8 @@ pub fn write_64<E: ByteOrder>(text: &[u8], place: usize, room: &mut [u8], at: us
     write_block::<E>(text, place + 48, 0, room, third)
 }
 
-/// Writes the units of the places from one on to the end, in blocks of sixteen, of which the last ends with the text. Answers
-/// where they end.
+/// Writes the units of the offsets from one on to the end, in blocks of sixteen, of which the last ends with the
+/// text. Returns the offset after them.
 #[inline(always)]
 pub fn write_rest<E: ByteOrder>(text: &[u8], start: usize, room: &mut [u8], at: usize) -> usize
     requires start { 16 ≤ start }
@@ -77,7 +78,7 @@ pub fn write_rest<E: ByteOrder>(text: &[u8], start: usize, room: &mut [u8], at: 
     end
 }
 
-// Writes the units of sixteen places, but those of the first `skipped` of them. Answers where they end.
+// Writes the units of sixteen offsets, except those of the first `skipped`. Returns the offset after them.
 #[inline(always)]
 fn write_block<E: ByteOrder>(
     text: &[u8],
@@ -99,7 +100,8 @@ fn write_block<E: ByteOrder>(
     write_half(&second, room, middle)
 }
 
-// Writes the units of half a block, and then any bytes. Answers where the units end.
+// Writes a full vector with the units of half a block; the next write overwrites the rest of it. Returns the
+// offset after the units.
 #[inline(always)]
 fn write_half(units: &UnitBytes, room: &mut [u8], at: usize) -> usize
     requires few { units.now.len ≤ 16 }

@@ -1,4 +1,4 @@
-//! Text in UTF-8 as UTF-16, sixteen bytes at once, and 64 where they are ASCII.
+//! Text in UTF-8 as UTF-16, in blocks of sixteen bytes, and of 64 if they are ASCII.
 ghost use Rattle.std.specs.Prelude.{◌≡◌, ℕ, ◌+◌, ◌-◌, ◌*◌, ◌<◌, ◌≤◌, ◌&&◌, ◌++◌, ◌∷◌, List, nat_le, length, take, slice_index, count_ones};
 ghost use Rattle.utf_lanes.specs.Lanes.{AreBits, AreLanes, ArePairs, lane_of_two, lane_of_three, lane_of_four};
 ghost use Rattle.utf_lanes.specs.Utf8ToUtf16.{AreLoaded, utf16_bytes, concat_range, IsRow, block_bytes, ends_unit, given, halves, halves_at, low_half, high_half, unit_low, unit_high, pair_at, places_at, leading_low, leading_high, trailing_high};
@@ -9,16 +9,16 @@ use crate::few_bytes::before_lanes;
 use crate::shuffles::COMPRESS_PAIRS;
 use std::simd::prelude::*;
 
-// The bytes of the units that half a block gives: as many of these as `len` says.
+// The bytes of the units of half a block: the first `len`.
 #[derive(Drop)]
 pub(crate) struct UnitBytes {
-    // These bytes, and then any.
+    // The bytes of the units, followed by any.
     pub(crate) bytes: [u8; 16],
-    // How many they are.
+    // The number of bytes.
     pub(crate) len: usize,
 }
 
-// The units that the sixteen bytes from the place on give, but those of the first `skipped` of them.
+// The units of the sixteen bytes from the offset on, except those of the first `skipped`.
 #[inline(always)]
 pub(crate) fn block_units<E: ByteOrder>(
     bytes: &[u8],
@@ -39,7 +39,8 @@ pub(crate) fn block_units<E: ByteOrder>(
     lane_units::<E>(third, second, first, here, skipped)
 }
 
-// The same of sixteen bytes that NULs stand before. No copy of them is loaded, for which a processor would wait.
+// The units of sixteen bytes that NULs precede. They are not loaded again, which would stall on store
+// forwarding.
 #[inline(always)]
 pub(crate) fn front_units<E: ByteOrder>(here: u8x16, skipped: usize) -> (UnitBytes, UnitBytes)
     requires few { skipped < 16 }
@@ -51,7 +52,7 @@ pub(crate) fn front_units<E: ByteOrder>(here: u8x16, skipped: usize) -> (UnitByt
     lane_units::<E>(third, second, first, here, skipped)
 }
 
-// The same of the bytes in the last of four vectors, by those that stand before them.
+// The units of the bytes in the last of four vectors, by the bytes before them in the others.
 #[inline(always)]
 fn lane_units<E: ByteOrder>(
     third: u8x16,
@@ -75,7 +76,7 @@ fn lane_units<E: ByteOrder>(
     )
 }
 
-// The two bytes of each unit, one beside the other: of the first eight units, and of the others.
+// The two bytes of each unit, side by side: of the first eight units, and of the others.
 #[inline(always)]
 fn paired<E: ByteOrder>(low: u8x16, high: u8x16) -> (u8x16, u8x16)
     ensures front { ArePairs result.0 (halves_at E.HIGH_FIRST low high) }
@@ -88,7 +89,7 @@ fn paired<E: ByteOrder>(low: u8x16, high: u8x16) -> (u8x16, u8x16)
     }
 }
 
-// Which of the lanes from `skipped` on give a unit, each as a bit.
+// The lanes from `skipped` on that give a unit, each as a bit.
 #[inline(always)]
 fn mask_of_unit_ends(before: u8x16, here: u8x16, skipped: usize) -> usize
     requires few { skipped < 16 }
@@ -189,7 +190,7 @@ fn compressed_pairs(pairs: u8x16, mask: usize) -> UnitBytes
     }
 }
 
-// Where these pairs are: the places of their bytes, two for each bit that the mask has, and then any.
+// The offsets of these pairs: two for each bit that the mask has, followed by any.
 #[inline(always)]
 fn compress_places(mask: usize) -> [u8; 16]
     requires { mask < 256 }

@@ -1,7 +1,7 @@
-//! How far bytes are well-formed units, judged eight at once.
+//! The length of the well-formed UTF-16 at the front of bytes, validated eight units in one step.
 //!
-//! A unit is judged by the one before it: it ends a pair just where that begins one. Six bits of its high byte tell
-//! either.
+//! A unit is validated by the one before it: it ends a pair if and only if that begins one. Six bits of its high
+//! byte determine either.
 ghost use Rattle.std.specs.Prelude.{◌≡◌, ℕ, ◌+◌, ◌-◌, ◌*◌, ◌<◌, ◌≤◌, ◌∷◌, Bool, IsTrue, List, false, length, take, slice_index};
 ghost use Rattle.utf_base.specs.Units.{is_trailing_surrogate};
 ghost use Rattle.utf_lanes.specs.Lanes.{AreLanes, ones_where};
@@ -13,7 +13,7 @@ use crate::byte_pairs::unit;
 use std::simd::prelude::*;
 use utf_base::traits::U16UtfExt;
 
-// The bits that tell a surrogate.
+// A mask of the bits that identify a surrogate.
 const HIGH_IS_FIRST: [u8; 16] = [
     0xfc, 0, 0xfc, 0, 0xfc, 0, 0xfc, 0, 0xfc, 0, 0xfc, 0, 0xfc, 0, 0xfc, 0,
 ];
@@ -22,8 +22,8 @@ const HIGH_IS_SECOND: [u8; 16] = [
     0, 0xfc, 0, 0xfc, 0, 0xfc, 0, 0xfc, 0, 0xfc, 0, 0xfc, 0, 0xfc, 0, 0xfc,
 ];
 
-/// How many units at the front of the bytes are well-formed: all that are, but for a leading surrogate at the end, where
-/// there are more than a few.
+/// The number of well-formed units at the front of the bytes: all of them, except for a leading surrogate at the end,
+/// if there are more than a few.
 #[inline]
 pub fn units_len<E: ByteOrder>(bytes: &[u8]) -> usize
     ensures within { 2 * result ≤ length bytes.now }
@@ -46,8 +46,8 @@ pub fn units_len<E: ByteOrder>(bytes: &[u8]) -> usize
     }
 }
 
-// How far the units each pair with the one before them: to the first that does not, or the end. Before the first stands
-// a NUL, as it were.
+// The offset of the first unit that does not pair with the one before it, or the length. Treats the unit before the
+// first as 0.
 #[inline(always)]
 fn paired_end<E: ByteOrder>(bytes: &[u8]) -> usize
     requires { 16 ≤ length bytes.now }
@@ -75,7 +75,7 @@ fn padded_units(bytes: &[u8]) -> [u8; 18]
     front
 }
 
-// The same in blocks of 32, to the first in which some unit does not pair.
+// The offset up to which units pair, in blocks of 32, up to the first in which some unit does not.
 #[inline(always)]
 fn paired_wide<E: ByteOrder>(bytes: &[u8], start: usize) -> usize
     requires start { 1 ≤ start }
@@ -92,7 +92,7 @@ fn paired_wide<E: ByteOrder>(bytes: &[u8], start: usize) -> usize
     place
 }
 
-// The same in blocks of eight, of which the last ends with the last unit.
+// The offset up to which units pair, in blocks of eight, of which the last ends with the last unit.
 #[inline(always)]
 fn paired_lane_by_lane<E: ByteOrder>(bytes: &[u8], start: usize) -> usize
     requires start { 8 ≤ start }
@@ -114,7 +114,7 @@ fn paired_lane_by_lane<E: ByteOrder>(bytes: &[u8], start: usize) -> usize
     place
 }
 
-// Whether each of the 32 units from the place on pairs with the one before it.
+// Returns true if each of the 32 units from the offset on pairs with the one before it.
 #[inline(always)]
 fn is_paired_block<E: ByteOrder>(bytes: &[u8], place: usize) -> bool
     requires start { 1 ≤ place }
@@ -129,7 +129,7 @@ fn is_paired_block<E: ByteOrder>(bytes: &[u8], place: usize) -> bool
     )
 }
 
-// Whether 32 units pair that were judged, eight in each vector.
+// Returns true if the 32 units pair that these four vectors, of eight each, have validated.
 #[inline(always)]
 pub(crate) fn all_pair(first: u8x16, second: u8x16, third: u8x16, fourth: u8x16) -> bool
     ensures paired { (high_first : Bool) (us : List ℕ) (i : ℕ) → BlockIsJudged high_first us i first second third fourth →
@@ -143,7 +143,8 @@ pub(crate) fn all_pair(first: u8x16, second: u8x16, third: u8x16, fourth: u8x16)
         == 0
 }
 
-// How many of the eight units from the place on pair with the one before them, up to the first that does not.
+// The number of the eight units from the offset on that pair with the one before them, up to the first that
+// does not.
 #[inline(always)]
 fn paired_lanes<E: ByteOrder>(bytes: &[u8], place: usize) -> usize
     requires start { 1 ≤ place }
@@ -162,7 +163,8 @@ fn paired_lanes<E: ByteOrder>(bytes: &[u8], place: usize) -> usize
     }
 }
 
-// The eight units from the place on, each after the one before it: in the lane of its high byte, 0 where they pair.
+// The eight units from the offset on, each after the one before it: in the lane of its high byte, 0 if they
+// pair.
 #[inline(always)]
 fn unpaired<E: ByteOrder>(bytes: &[u8], place: usize) -> u8x16
     requires start { 1 ≤ place }
@@ -174,7 +176,8 @@ fn unpaired<E: ByteOrder>(bytes: &[u8], place: usize) -> u8x16
     unpaired_lanes::<E>(before, here)
 }
 
-// The same of the eight units of one vector, each after that in another.
+// The eight units of one vector, each after the unit in another: in the lane of its high byte, 0 if they
+// pair.
 #[inline(always)]
 pub(crate) fn unpaired_lanes<E: ByteOrder>(before: u8x16, here: u8x16) -> u8x16
     ensures { JudgesPairs E.HIGH_FIRST before here result }
@@ -183,7 +186,7 @@ pub(crate) fn unpaired_lanes<E: ByteOrder>(before: u8x16, here: u8x16) -> u8x16
     where_equal(here & bits, 0xdc) ^ where_equal(before & bits, 0xd8)
 }
 
-// Six bits of each high byte, and none of the low bytes.
+// A mask of six bits of each high byte, and of none of the low bytes.
 #[inline(always)]
 fn upper_bits<E: ByteOrder>() -> u8x16
     ensures len { length result ≡ 16 }
@@ -197,7 +200,7 @@ fn upper_bits<E: ByteOrder>() -> u8x16
     }
 }
 
-// 255 in each lane that is this byte, and 0 in the others.
+// 255 in each lane that equals this byte, and 0 in the others.
 #[inline(always)]
 fn where_equal(lanes: u8x16, byte: u8) -> u8x16
     ensures { AreLanes 16 result (ones_where 255 lanes byte) }

@@ -1,4 +1,4 @@
-//! Units of UTF-16 as bytes of UTF-8, as many at once as vectors have lanes.
+//! Units of UTF-16 as bytes of UTF-8, one vector in each step.
 ghost use Rattle.std.specs.Prelude.{◌≡◌, ℕ, ◌+◌, ◌*◌, ◌<◌, ◌≤◌, IsTrue, length, slice_index, nat_eq, false, ◌/◌, ◌^◌};
 ghost use Rattle.utf_lanes.specs.Lanes.{AreBits, AreLanes, crossed_lane};
 ghost use Rattle.utf_lanes.specs.UnitCodes.{AreCharacters, lane_unit, lane_after, first_byte, middle_byte, last_byte, first_in_text, middle_in_text, last_in_text, lead_byte, second_byte, third_byte};
@@ -8,7 +8,7 @@ use crate::byte_order::ByteOrder;
 use crate::slots::joined;
 use std::simd::prelude::*;
 
-/// Whether all units are ASCII.
+/// Returns true if all units are ASCII.
 #[inline(always)]
 pub fn are_ascii<const N: usize>(low: Simd<u8, N>, high: Simd<u8, N>) -> bool
     requires { N ≤ 64 }
@@ -20,7 +20,7 @@ pub fn are_ascii<const N: usize>(low: Simd<u8, N>, high: Simd<u8, N>) -> bool
         == 0
 }
 
-// Whether no unit has three bytes.
+// Returns true if no unit has three bytes.
 #[inline(always)]
 pub(crate) fn are_short<const N: usize>(high: Simd<u8, N>) -> bool
     requires { N ≤ 64 }
@@ -30,7 +30,7 @@ pub(crate) fn are_short<const N: usize>(high: Simd<u8, N>) -> bool
     upper.simd_ne(Simd::splat(0)).to_bitmask() == 0
 }
 
-/// Whether no unit is a surrogate.
+/// Returns true if no unit is a surrogate.
 #[inline(always)]
 pub fn are_characters<const N: usize>(high: Simd<u8, N>) -> bool
     requires { N ≤ 64 }
@@ -40,7 +40,7 @@ pub fn are_characters<const N: usize>(high: Simd<u8, N>) -> bool
     eighths.simd_eq(Simd::splat(0x1b)).to_bitmask() == 0
 }
 
-// Which units have these six bits at the top, each as a bit.
+// The units that have these six bits at the top, each as a bit.
 #[inline(always)]
 pub(crate) fn mask_of_top_bits<const N: usize>(high: Simd<u8, N>, top: u8) -> usize
     requires { N ≤ 64 }
@@ -52,7 +52,7 @@ pub(crate) fn mask_of_top_bits<const N: usize>(high: Simd<u8, N>, top: u8) -> us
         .to_bitmask() as usize
 }
 
-// The bytes of units that are characters: the first, where there are three.
+// The bytes of units that are characters: the first, if there are three.
 #[inline(always)]
 pub(crate) fn first_bytes<const N: usize>(high: Simd<u8, N>) -> Simd<u8, N>
     ensures { AreLanes N result (λ k. first_byte (slice_index high.entry k * 256)) }
@@ -61,7 +61,7 @@ pub(crate) fn first_bytes<const N: usize>(high: Simd<u8, N>) -> Simd<u8, N>
     high.simd_lt(Simd::splat(8)).select(Simd::splat(0), long)
 }
 
-// The one before the last, where there are two or three.
+// The last byte but one of units that are characters, if there are two or three.
 #[inline(always)]
 pub(crate) fn middle_bytes<const N: usize>(low: Simd<u8, N>, high: Simd<u8, N>) -> Simd<u8, N>
     ensures { AreLanes N result (λ k. middle_byte (lane_unit low.entry high.entry k)) }
@@ -74,7 +74,7 @@ pub(crate) fn middle_bytes<const N: usize>(low: Simd<u8, N>, high: Simd<u8, N>) 
         .select(lead, bits + Simd::splat(0x80))
 }
 
-// The last.
+// The last byte of units that are characters.
 #[inline(always)]
 pub(crate) fn last_bytes<const N: usize>(low: Simd<u8, N>, high: Simd<u8, N>) -> Simd<u8, N>
     ensures { AreLanes N result (λ k. last_byte (lane_unit low.entry high.entry k)) }
@@ -85,7 +85,7 @@ pub(crate) fn last_bytes<const N: usize>(low: Simd<u8, N>, high: Simd<u8, N>) ->
         .select(low, rest)
 }
 
-// The same of units in text, by the low halves of those before them.
+// The first bytes of units in text, by the low halves of the units before them.
 #[inline(always)]
 pub(crate) fn text_first_bytes<const N: usize>(high: Simd<u8, N>) -> Simd<u8, N>
     ensures { AreLanes N result (λ k. first_in_text (slice_index high.entry k * 256)) }
@@ -120,7 +120,7 @@ pub(crate) fn text_last_bytes<const N: usize>(low: Simd<u8, N>, high: Simd<u8, N
         .select(second_bytes(low), last_bytes(low, high))
 }
 
-// The first of four bytes, which leading surrogates give.
+// The first of four bytes, which a leading surrogate gives.
 #[inline(always)]
 fn lead_bytes<const N: usize>(low: Simd<u8, N>, high: Simd<u8, N>) -> Simd<u8, N>
     ensures { AreLanes N result (λ k. lead_byte (lane_unit low.entry high.entry k)) }
@@ -131,7 +131,7 @@ fn lead_bytes<const N: usize>(low: Simd<u8, N>, high: Simd<u8, N>) -> Simd<u8, N
     (high & Simd::splat(3)) + carry
 }
 
-// The second, which they give too.
+// The second of four bytes, which a leading surrogate gives too.
 #[inline(always)]
 fn second_bytes<const N: usize>(low: Simd<u8, N>) -> Simd<u8, N>
     ensures { AreLanes N result (λ k. second_byte (slice_index low.entry k)) }
@@ -140,7 +140,7 @@ fn second_bytes<const N: usize>(low: Simd<u8, N>) -> Simd<u8, N>
     six + Simd::splat(0x80)
 }
 
-// The third, which trailing surrogates give.
+// The third of four bytes, which a trailing surrogate gives.
 #[inline(always)]
 fn third_bytes<const N: usize>(
     before: Simd<u8, N>,
@@ -203,7 +203,7 @@ fn even_and_odd(bytes: &[u8]) -> (u8x32, u8x32)
     (even_bytes(front, back), odd_bytes(front, back))
 }
 
-// The even bytes of the first halves of both vectors, and then those of the last.
+// The even bytes of the first halves of both vectors, followed by those of the last.
 #[inline(always)]
 fn even_bytes(front: u8x32, back: u8x32) -> u8x32
     ensures { AreLanes 32 result (λ k. crossed_lane front back (2 * k)) }
@@ -217,7 +217,7 @@ fn even_bytes(front: u8x32, back: u8x32) -> u8x32
     )
 }
 
-// The odd ones.
+// The odd bytes of the first halves of both vectors, followed by those of the last.
 #[inline(always)]
 fn odd_bytes(front: u8x32, back: u8x32) -> u8x32
     ensures { AreLanes 32 result (λ k. crossed_lane front back (2 * k + 1)) }

@@ -1,4 +1,5 @@
-//! Units that begin a piece, counted in blocks of 32: how many pieces units have, in a slice or in bytes, and where one of them begins.
+//! Units that begin a piece, counted in blocks of 32: the number of pieces of units, in a slice or in bytes, and the
+//! offset of one of them.
 ghost use Rattle.std.specs.Prelude.{◌≡◌, ◌+◌, ◌*◌, ◌<◌, ◌≤◌, MatchOption, length, slice_index};
 ghost use Rattle.utf_lanes.specs.BytePairs.{high_place, units_of};
 ghost use Rattle.utf_lanes.specs.UnitStarts.{IsUnitStartOf, are_pair, ends_pair, is_start_after, is_unit_start, place_count, unit_start_count};
@@ -9,10 +10,10 @@ use std::marker::PhantomData;
 use utf_base::elements::is_trailing_surrogate;
 use utf_base::traits::U16UtfExt;
 
-// How many units are counted at once.
+// The number of units that are counted in one step.
 const BLOCK: usize = 32;
 
-/// How many of the units end no pair: how many pieces they have.
+/// The number of units that end no pair: the number of pieces.
 #[inline]
 pub fn unit_starts_in(units: &[u16]) -> usize
     ensures { result ≡ unit_start_count units.now (length units.now) }
@@ -20,7 +21,7 @@ pub fn unit_starts_in(units: &[u16]) -> usize
     starts_of(units)
 }
 
-/// The same of the units that bytes make.
+/// The number of units in bytes that end no pair.
 #[inline]
 pub fn unit_byte_starts_in<E: ByteOrder>(bytes: &[u8]) -> usize
     ensures { result ≡ unit_start_count (units_of E.HIGH_FIRST bytes.now) (length (units_of E.HIGH_FIRST bytes.now)) }
@@ -31,7 +32,8 @@ pub fn unit_byte_starts_in<E: ByteOrder>(bytes: &[u8]) -> usize
     })
 }
 
-/// Where the unit with this number stands, counted from 0, of those that end no pair. `None` if there are no more.
+/// The offset of the unit with this number, counted from 0, among those that end no pair. `None` if there are no
+/// more.
 #[inline]
 pub fn nth_unit_start(units: &[u16], number: usize) -> Option<usize>
     ensures { MatchOption result (unit_start_count units.now (length units.now) ≤ number) (IsUnitStartOf units.now number) }
@@ -39,7 +41,8 @@ pub fn nth_unit_start(units: &[u16], number: usize) -> Option<usize>
     nth_start_of(units, number)
 }
 
-/// The same of the units that bytes make: the number of a unit, and not of a byte.
+/// The offset, in units, of the unit in bytes with this number among those that end no pair. `None` if there
+/// are no more.
 #[inline]
 pub fn nth_unit_byte_start<E: ByteOrder>(bytes: &[u8], number: usize) -> Option<usize>
     ensures { MatchOption result
@@ -64,12 +67,12 @@ trait UnitList: Copy {
     fn count(self) -> usize
         ensures { result ≡ length (list self) };
 
-    // The unit at the place.
+    // The unit at the offset.
     fn at(self, place: usize) -> u16
         requires { place < length (list self) }
         ensures { result ≡ slice_index (list self) place };
 
-    // How many of the 32 units from the place on end no pair.
+    // The number of the 32 units from the offset on that end no pair.
     fn block_starts(self, place: usize) -> usize
         requires start { 1 ≤ place }
         requires within { place + 32 ≤ length (list self) }
@@ -131,7 +134,7 @@ fn unit_in_bytes<E: ByteOrder>(bytes: &[u8], place: usize) -> u16
     unit::<E>(bytes[2 * place], bytes[2 * place + 1])
 }
 
-// How many of the units end no pair.
+// The number of units that end no pair.
 #[inline(always)]
 fn starts_of<U: UnitList>(units: U) -> usize
     ensures { result ≡ unit_start_count (U.list units) (length (U.list units)) }
@@ -144,7 +147,7 @@ fn starts_of<U: UnitList>(units: U) -> usize
     starts
 }
 
-// Where the one with this number stands.
+// The offset of the unit with this number among those that end no pair.
 #[inline(always)]
 fn nth_start_of<U: UnitList>(units: U, number: usize) -> Option<usize>
     ensures { MatchOption result (unit_start_count (U.list units) (length (U.list units)) ≤ number)
@@ -161,14 +164,14 @@ fn nth_start_of<U: UnitList>(units: U, number: usize) -> Option<usize>
     None
 }
 
-// A place, and how many units before it end no pair.
+// An offset, and the number of units before it that end no pair.
 #[derive(Clone, Copy, Drop)]
 struct CountedUnits {
     place: usize,
     starts: usize,
 }
 
-// The first unit, and blocks from there on, as long as no more than so many of their units end no pair.
+// Counts the first unit, and blocks from there on, while at most `most` of their units end no pair.
 #[inline(always)]
 fn units_counted_up_to<U: UnitList>(units: U, most: usize) -> CountedUnits
     ensures within { result.place ≤ length (U.list units) }
@@ -191,7 +194,8 @@ fn units_counted_up_to<U: UnitList>(units: U, most: usize) -> CountedUnits
     counted
 }
 
-// How many of the 32 units from the place on end no pair. Nothing here branches, so that LLVM goes by lanes.
+// The number of the 32 units from the offset on that end no pair. Nothing here branches, so that LLVM
+// vectorises it.
 #[inline(always)]
 fn unit_block_starts(units: &[u16], place: usize) -> usize
     requires start { 1 ≤ place }
@@ -206,7 +210,7 @@ fn unit_block_starts(units: &[u16], place: usize) -> usize
     starts as usize
 }
 
-// The same of units in bytes.
+// The number of the 32 units in bytes from the offset on that end no pair.
 #[inline(always)]
 fn byte_block_starts<E: ByteOrder>(bytes: &[u8], place: usize) -> usize
     requires start { 1 ≤ place }
@@ -218,8 +222,8 @@ fn byte_block_starts<E: ByteOrder>(bytes: &[u8], place: usize) -> usize
     BLOCK - block_pairs(high_place::<E>(), bytes, 2 * place) as usize
 }
 
-// How many pairs end in the 64 bytes from the place on. It goes over all of these, and every other one is the high byte of a unit: so
-// LLVM goes by lanes here too, as it does not where it has to pick those.
+// The number of pairs that end in the 64 bytes from the offset on. It iterates over all of these, and every other one
+// is the high byte of a unit: so LLVM vectorises this too, which it does not if it has to pick those.
 #[inline(always)]
 fn block_pairs(high: usize, bytes: &[u8], place: usize) -> u8
     requires start { 2 ≤ place }
@@ -234,7 +238,7 @@ fn block_pairs(high: usize, bytes: &[u8], place: usize) -> u8
     pairs
 }
 
-// Which byte of a unit is the high one.
+// The offset of the high byte in a unit.
 #[inline(always)]
 fn high_place<E: ByteOrder>() -> usize
     ensures { result ≡ high_place E.HIGH_FIRST }
@@ -242,7 +246,7 @@ fn high_place<E: ByteOrder>() -> usize
     if E::HIGH_FIRST { 0 } else { 1 }
 }
 
-// Whether two units are a pair, told by the high byte of each.
+// Returns true if two units are a pair, by the high byte of each.
 #[inline(always)]
 fn are_pair(first: u8, second: u8) -> bool
     ensures { result ≡ are_pair first second }
@@ -250,7 +254,7 @@ fn are_pair(first: u8, second: u8) -> bool
     (first & 0xfc == 0xd8) & (second & 0xfc == 0xdc)
 }
 
-// Whether the unit at the place ends no pair.
+// Returns true if the unit at the offset ends no pair.
 #[inline(always)]
 fn is_start<U: UnitList>(units: U, place: usize) -> bool
     requires { place < length (U.list units) }
@@ -259,7 +263,7 @@ fn is_start<U: UnitList>(units: U, place: usize) -> bool
     place == 0 || is_start_after(units.at(place - 1), units.at(place))
 }
 
-// Whether a unit after another ends no pair with it.
+// Returns true if a unit after another ends no pair with it.
 #[inline(always)]
 fn is_start_after(before: u16, unit: u16) -> bool
     ensures { result ≡ is_start_after before unit }

@@ -1,4 +1,4 @@
-//! Sixteen or thirty-two units of UTF-16 as bytes of UTF-8, written into room from a place on.
+//! Sixteen or thirty-two units of UTF-16 as bytes of UTF-8, written into a buffer from an offset on.
 ghost use Rattle.std.specs.Prelude.{◌≡◌, ℕ, ◌+◌, ◌-◌, ◌*◌, ◌<◌, ◌≤◌, true, length, slice_index};
 ghost use Rattle.utf_lanes.specs.UnitCodes.{lane_unit, AreCharacters, AreText, WritesUnits};
 ghost use Rattle.utf_base.specs.Units.{is_leading_surrogate};
@@ -10,7 +10,8 @@ use crate::unit_bytes::{
 };
 use std::simd::prelude::*;
 
-/// Writes the bytes of sixteen units, or of fifteen, or none. Answers of how many, and where they end.
+/// Writes the UTF-8 of sixteen units, or of fifteen, or none. Returns the number of units, and the offset
+/// after the bytes.
 #[inline(always)]
 pub fn write_sixteen(low: u8x16, high: u8x16, room: &mut [u8], at: usize) -> (usize, usize)
     requires { at + 64 ≤ length room.old }
@@ -22,7 +23,7 @@ pub fn write_sixteen(low: u8x16, high: u8x16, room: &mut [u8], at: usize) -> (us
     write_others(low, high, room, at)
 }
 
-/// The same where they are not all ASCII.
+/// Writes the UTF-8 of sixteen units that are not all ASCII, or of fifteen, or none.
 #[inline(always)]
 pub fn write_others(low: u8x16, high: u8x16, room: &mut [u8], at: usize) -> (usize, usize)
     requires { at + 64 ≤ length room.old }
@@ -37,7 +38,7 @@ pub fn write_others(low: u8x16, high: u8x16, room: &mut [u8], at: usize) -> (usi
     write_text::<16, Sixteen>(low, high, room, at)
 }
 
-/// Writes the bytes of thirty-two units that are characters. Answers where they end.
+/// Writes the UTF-8 of thirty-two units that are characters. Returns the offset after the bytes.
 #[inline(always)]
 pub fn write_characters(low: u8x32, high: u8x32, room: &mut [u8], at: usize) -> usize
     requires room { at + 112 ≤ length room.old }
@@ -53,7 +54,8 @@ pub fn write_characters(low: u8x32, high: u8x32, room: &mut [u8], at: usize) -> 
     write_short_units::<32, ThirtyTwo>(low, high, room, at)
 }
 
-/// Writes the bytes of thirty-two units, or of thirty-one, or none. Answers of how many, and where they end.
+/// Writes the UTF-8 of thirty-two units, or of thirty-one, or none. Returns the number of units, and the
+/// offset after the bytes.
 #[inline(always)]
 pub fn write_thirty_two(low: u8x32, high: u8x32, room: &mut [u8], at: usize) -> (usize, usize)
     requires { at + 112 ≤ length room.old }
@@ -65,7 +67,7 @@ pub fn write_thirty_two(low: u8x32, high: u8x32, room: &mut [u8], at: usize) -> 
     (32, write_characters(low, high, room, at))
 }
 
-/// Writes the bytes of N units of ASCII. Answers where they end.
+/// Writes the bytes of N units of ASCII. Returns the offset after them.
 #[inline(always)]
 pub fn write_ascii_units<const N: usize>(
     low: Simd<u8, N>,
@@ -82,7 +84,7 @@ pub fn write_ascii_units<const N: usize>(
     at + N
 }
 
-// The same of units of which none has three bytes.
+// Writes the UTF-8 of N units of which none has three bytes. Returns the offset after the bytes.
 #[inline(always)]
 fn write_short_units<const N: usize, W: SlotWriter<N>>(
     low: Simd<u8, N>,
@@ -97,7 +99,7 @@ fn write_short_units<const N: usize, W: SlotWriter<N>>(
     W::write_short(middle_bytes(low, high), last_bytes(low, high), room, at)
 }
 
-// The same of any characters.
+// Writes the UTF-8 of N units that are any characters. Returns the offset after the bytes.
 #[inline(always)]
 fn write_long_units<const N: usize, W: SlotWriter<N>>(
     low: Simd<u8, N>,
@@ -114,7 +116,8 @@ fn write_long_units<const N: usize, W: SlotWriter<N>>(
     W::write_slots(first_bytes(high), middle, last, room, at)
 }
 
-// The same where some units may be surrogates. Answers of how many these are, all or one less or none, and where they end.
+// Writes the UTF-8 of N units, some of which may be surrogates. Returns the number of units, which is all, or
+// one less, or none, and the offset after the bytes.
 #[inline(always)]
 fn write_text<const N: usize, W: SlotWriter<N>>(
     low: Simd<u8, N>,
@@ -140,7 +143,7 @@ fn write_text<const N: usize, W: SlotWriter<N>>(
     (N - 1, end - 2)
 }
 
-// How many units are text: all, or all but a leading surrogate that is the last, or none where that is not so.
+// The number of units that are text: all, or all but a leading surrogate at the end, or otherwise none.
 #[inline(always)]
 fn paired_units<const N: usize>(low: Simd<u8, N>, high: Simd<u8, N>) -> usize
     requires least { 2 ≤ N }

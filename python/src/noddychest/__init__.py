@@ -23,8 +23,8 @@ from ._version import __version__
 from ._parts import Decoder, stream_faults, stream_pieces
 from ._pieces import (
     Ends,
-    ErrorKind,
     FaultError,
+    FaultKind,
     Piece,
     Pieces,
     boundary_after,
@@ -50,8 +50,8 @@ __all__ = [
     "Counts",
     "Decoder",
     "Ends",
-    "ErrorKind",
     "FaultError",
+    "FaultKind",
     "Faults",
     "Piece",
     "Pieces",
@@ -80,7 +80,7 @@ __all__ = [
     "undecided_len",
 ]
 
-for _it in (ChangedError, Counts, Decoder, Ends, ErrorKind, FaultError, Faults, Piece, Pieces, Recoded, Recoder, Shard):
+for _it in (ChangedError, Counts, Decoder, Ends, FaultError, FaultKind, Faults, Piece, Pieces, Recoded, Recoder, Shard):
     _it.__module__ = __name__  # where users find them
 
 _codecs.register()

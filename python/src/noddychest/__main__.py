@@ -17,8 +17,9 @@ from collections.abc import Iterator
 from io import BufferedReader, TextIOWrapper
 from typing import NamedTuple, Optional
 
-from . import ErrorKind, FaultError, Faults, Recoder, Shard, _noddychest, boundary_before, parallel, pieces, shards
+from . import FaultKind, FaultError, Faults, Recoder, Shard, _noddychest, boundary_before, parallel, pieces, shards
 from ._names import form_of
+from ._parts import waits
 from ._shards import arrays, taken
 
 _SIZE = 1 << 20
@@ -50,7 +51,7 @@ def _arguments() -> argparse.ArgumentParser:
         it.add_argument("--encoding", type=_encoding, default="utf8", metavar="NAME", help="utf8, utf16le or utf16be")
     convert.add_argument("--from", dest="from_", type=_encoding, required=True, metavar="NAME", help="utf8, utf16le or utf16be")
     convert.add_argument("--to", type=_encoding, required=True, metavar="NAME")
-    convert.add_argument("--errors", choices=["replace", "strict", "maximal"], default="replace")
+    convert.add_argument("--errors", choices=["replace", "strict", "lossy"], default="replace")
     for it in (check, convert):
         it.add_argument("--jobs", type=_jobs, default=1, metavar="N", help="how many threads read at once (1)")
     convert.add_argument("-o", "--output", metavar="OUT", help="a file, which is replaced once all is written; --jobs needs it, and FILE")
@@ -130,7 +131,16 @@ def _open(name: str) -> BufferedReader:
 
 
 def _parts(file: BufferedReader) -> Iterator[bytes]:
-    return iter(lambda: file.read1(_SIZE), b"")
+    """The blocks of a file. One that does not wait and has no data now raises BlockingIOError: `read1` returns an empty block then."""
+    while True:
+        part = file.read1(_SIZE)
+        if not part and not waits(file):
+            part = file.read(1)
+            if part is None:
+                raise BlockingIOError(errno.EAGAIN, os.strerror(errno.EAGAIN))
+        if not part:
+            return
+        yield part
 
 
 def _blocks(file: BufferedReader, encoding: str) -> Iterator[tuple[int, bytes, int]]:
@@ -148,7 +158,7 @@ def _blocks(file: BufferedReader, encoding: str) -> Iterator[tuple[int, bytes, i
 
 
 class _Place(NamedTuple):
-    """A place in text, from another one: so many lines, and then so many characters and invalid bytes in the line."""
+    """A position in text, relative to another one: a number of lines, and then of characters and invalid bytes in the last line."""
 
     lines: int = 0
     columns: int = 0
@@ -167,7 +177,7 @@ def _line_start(form: int, data: bytes) -> int:
 
 
 def _passed(form: int, data: bytes) -> _Place:
-    """The place after bytes that begin and end between pieces."""
+    """The position after bytes that begin and end between pieces."""
     columns, lines = _noddychest.counts(form, data)
     return _Place(lines, _noddychest.char_count(form, data[_line_start(form, data) :]) if lines else columns)
 
@@ -182,7 +192,7 @@ class _Found(NamedTuple):
     end: _Place
 
     def places(self, front: _Place) -> Iterator[tuple[int, int, _Place]]:
-        """The offset, the kind and the place of each, by the place at which the block begins."""
+        """The offset, the kind and the position of each, from the position at which the block begins."""
         for offset, kind, lines, columns in zip(self.faults.offsets, self.faults.kinds, self.lines, self.columns):
             yield offset, kind, front.plus(_Place(lines, columns))
 
@@ -213,8 +223,8 @@ def _found(name: str, encoding: str, jobs: int) -> Iterator[_Found]:
 
 
 def _told(shown: bytes, offset: int, kind: int, place: _Place) -> bytes:
-    """FILE:LINE:COLUMN: offset N: reason, as nody(1) tells of an invalid byte."""
-    return b"%s:%d:%d: offset %d: %s" % (shown, place.lines + 1, place.columns + 1, offset, ErrorKind(kind).reason.encode())
+    """FILE:LINE:COLUMN: offset N: reason, as nody(1) reports an invalid byte."""
+    return b"%s:%d:%d: offset %d: %s" % (shown, place.lines + 1, place.columns + 1, offset, FaultKind(kind).reason.encode())
 
 
 # ---- jobs ----
@@ -224,7 +234,7 @@ def _summary(encoding: str, count: int) -> bytes:
     """What is said of a file at the end of its check."""
     form = form_of(encoding)
     noun = ("byte" if form == 0 else "unit") + ("" if count == 1 else "s")
-    return f"not valid {_NAMES[form]}: {count} invalid {noun}".encode() if count else f"valid {_NAMES[form]}".encode()
+    return f"not valid {_NAMES[form]}: {count:,} invalid {noun}".encode() if count else f"valid {_NAMES[form]}".encode()
 
 
 def _check(out: _Output, name: str, asked: argparse.Namespace) -> int:
@@ -270,7 +280,7 @@ def _recode(out: _Output, name: str, asked: argparse.Namespace) -> int:
 
 
 def _recode_strictly(out: _Output, name: str, from_: str, to: str) -> int:
-    """Writes what stands before the first invalid byte, and tells of that as `check` does."""
+    """Writes what is before the first invalid byte, and reports that byte as `check` does."""
     recoder, front = Recoder(from_, to), _Place()
     with _open(name) as file:
         for offset, data, cut in _blocks(file, from_):
@@ -286,7 +296,7 @@ def _recode_strictly(out: _Output, name: str, from_: str, to: str) -> int:
 
 
 def _place_of(name: str, encoding: str, offset: int) -> _Place:
-    """The place of an offset in a file."""
+    """The position of an offset in a file."""
     place = _Place()
     for shard in shards(name, parallel.SIZE, encoding):
         for start, data, cut in shard.blocks():
@@ -308,7 +318,7 @@ def _recode_into(asked: argparse.Namespace) -> int:
 
 
 def _run_on(out: _Output, name: str, asked: argparse.Namespace) -> int:
-    """The status of a job for one input; one that cannot be read is told of."""
+    """The status of a job for one input; one that cannot be read is reported."""
     try:
         if asked.job == "check":
             return _check(out, name, asked)

@@ -14,10 +14,11 @@ if TYPE_CHECKING:
     from _typeshed import ReadableBuffer
 
 NAMES = ("noddychest-utf8", "noddychest-utf16le", "noddychest-utf16be")  # by the numbers of the C library
+_SUFFIXES = ("utf8", "utf16le", "utf16be")
 _ENCODERS = (codecs.utf_8_encode, codecs.utf_16_le_encode, codecs.utf_16_be_encode)
 
-# The interpreter's own handlers of errors that are not asked fault by fault, since what they do is known. What is registered under a
-# name may be another one, so they are told by what they are. The last is of UTF-8 alone.
+# The interpreter's own error handlers, which are not called for each fault, since what they do is known. Another handler may be
+# registered under such a name, so they are recognised by what they are. The last is only of UTF-8.
 _OWN = {"ignore_errors": 0, "replace_errors": 1, "backslashreplace_errors": 2, "surrogateescape": 3}
 
 
@@ -37,9 +38,9 @@ def _own_way(handler: Any, form: int) -> Optional[int]:
     return None if way == 3 and form != 0 else way
 
 
-def _decode(form: int, data: ReadableBuffer, errors: Optional[str], final: bool, before: int = 0) -> tuple[str, int]:
-    """The text, and how many bytes of it were read: what may yet become a character is left, unless no more follows. `before` is the
-    number of bytes of all input that were read before."""
+def _decode(form: int, data: ReadableBuffer, errors: Optional[str], final: bool, before: int = 0) -> tuple[str, bytes]:
+    """The text, and the bytes that are held: what may yet become a character, unless no more follows. `before` is the number of bytes of
+    all input that were read before."""
     made: Any = _noddychest.decode(form, data, final)
     if len(made) == 2:
         return made[0], made[1]
@@ -47,12 +48,12 @@ def _decode(form: int, data: ReadableBuffer, errors: Optional[str], final: bool,
     handler = codecs.lookup_error(errors or "strict")
     way = _own_way(handler, form)
     if way is not None:
-        return _noddychest.replaced(form, source, at, end, way), end
+        return _noddychest.replaced(form, source, at, end, way), source[end:]
     error = fault_error(NAMES[form], source, at, length, kind, offset=before + at)
     if errors == "surrogatepass":  # it knows encodings by name
         error.encoding = STANDARD[form]
     try:
-        return _noddychest.handled(form, source, at, end, before, error, handler, ERRORS, REASONS)
+        return _noddychest.handled(form, source, at, final, before, error, handler, ERRORS, REASONS)
     finally:
         error.encoding = NAMES[form]
 
@@ -65,7 +66,7 @@ class _Held(bytes):
 
 
 class _Decoder(codecs.BufferedIncrementalDecoder):
-    """Decodes parts. It takes one call at a time, also where a handler of errors calls it."""
+    """Decodes parts. It takes one call at a time, also if an error handler calls it."""
 
     form: int
 
@@ -80,14 +81,13 @@ class _Decoder(codecs.BufferedIncrementalDecoder):
 
     def _decode_part(self, input: ReadableBuffer, final: bool) -> str:
         data = self.buffer + input
-        text, read = _decode(self.form, data, self.errors, final, self._before)
-        held, before = data[read:], self._before + read
-        self.buffer, self._before = held, before  # (both, or none where a signal handler raises)
+        text, held = _decode(self.form, data, self.errors, final, self._before)
+        before = self._before + len(data) - len(held)
+        self.buffer, self._before = held, before  # (both, or none if a signal handler raises)
         return text
 
     def reset(self) -> None:
-        super().reset()
-        self._before = 0
+        self._turn.take(self._set, b"")
 
     def getstate(self) -> tuple[bytes, int]:
         held = _Held(self.buffer)
@@ -95,8 +95,12 @@ class _Decoder(codecs.BufferedIncrementalDecoder):
         return held, 0
 
     def setstate(self, state: tuple[bytes, int]) -> None:
-        super().setstate(state)
-        self._before = getattr(state[0], "before", 0)
+        if not isinstance(state[0], bytes):
+            raise TypeError(f"the state of a decoder begins with bytes, not {type(state[0])!r}")
+        self._turn.take(self._set, state[0])
+
+    def _set(self, held: bytes) -> None:
+        self.buffer, self._before = held, getattr(held, "before", 0)
 
     def __getstate__(self) -> dict[str, Any]:
         return {name: it for name, it in self.__dict__.items() if name != "_turn"}
@@ -110,7 +114,8 @@ class _Reader(codecs.StreamReader):
     _before = 0
 
     def decode(self, input: ReadableBuffer, errors: str = "strict") -> tuple[str, int]:
-        text, read = _decode(self.form, input, errors, False, self._before)
+        text, held = _decode(self.form, input, errors, False, self._before)
+        read = memoryview(input).nbytes - len(held)
         self._before += read
         return text, read
 
@@ -124,7 +129,7 @@ def _codec(number: int) -> codecs.CodecInfo:
         return _encode(number, input, errors)
 
     def decode(input: ReadableBuffer, errors: str = "strict") -> tuple[str, int]:
-        return _decode(number, input, errors, True)
+        return _decode(number, input, errors, True)[0], memoryview(input).nbytes
 
     class IncrementalEncoder(codecs.IncrementalEncoder):
         def encode(self, input: str, final: bool = False) -> bytes:
@@ -140,6 +145,10 @@ def _codec(number: int) -> codecs.CodecInfo:
     class StreamReader(_Reader):
         form = number
 
+    named: tuple[Any, ...] = (encode, decode, IncrementalEncoder, IncrementalDecoder, StreamWriter, StreamReader)
+    for it in named:
+        it.__name__ = it.__qualname__ = f"{it.__name__}_{_SUFFIXES[number]}"
+        globals()[it.__name__] = it  # (so that pickle finds it)
     return codecs.CodecInfo(
         encode=encode,
         decode=decode,
@@ -153,10 +162,13 @@ def _codec(number: int) -> codecs.CodecInfo:
 
 def _find(name: str) -> Optional[codecs.CodecInfo]:
     """Names are also found with other signs between their words, as `noddychest-utf-8` and `noddychest_utf_16_le`."""
-    for form, known in enumerate(NAMES):
-        if plain(name) == plain(known):
-            return _codec(form)
+    for codec in _CODECS:
+        if plain(name) == plain(codec.name):
+            return codec
     return None
+
+
+_CODECS = tuple(map(_codec, range(len(NAMES))))
 
 
 def register() -> None:

@@ -14,7 +14,7 @@ _LABELS = {
 
 
 def plain(name: str) -> str:
-    """A name without what may stand between its words."""
+    """A name without the characters that are allowed between its words."""
     return name.lower().replace("-", "").replace("_", "").replace(" ", "")
 
 

@@ -2,9 +2,11 @@
 from __future__ import annotations
 
 import functools
+import io
 import operator
+import os
 from collections.abc import Callable, Iterable, Iterator
-from typing import TYPE_CHECKING, Any, Protocol, TypeVar, Union
+from typing import TYPE_CHECKING, Any, Optional, Protocol, TypeVar, Union
 
 from . import _noddychest
 from ._names import STANDARD, form_of
@@ -14,8 +16,18 @@ if TYPE_CHECKING:
     from _typeshed import ReadableBuffer
 
 _PIECES, _FAULTS, _LAST = 1, 2, 3  # what a part is asked for, by the numbers of the extension
-_BLOCK = 1 << 16
 _Made = TypeVar("_Made")
+
+
+def attributes_for(it: object, more: object) -> dict[str, Any]:
+    """What an object of a subclass has of its own, from a state; it is checked that the object can have it."""
+    if more is None:
+        return {}
+    if not isinstance(more, dict) or not all(isinstance(name, str) for name in more):
+        raise TypeError(f"a dict of attributes is required, not {type(more)!r}")
+    if more and not hasattr(it, "__dict__"):
+        raise TypeError(f"{type(it)!r} has no attributes of its own")
+    return more
 
 
 class Decoder:
@@ -39,7 +51,7 @@ class Decoder:
     [(1, '€'), (4, 'NON_UTF8_BYTE')]
     []
     >>> decoder.offset, decoder.held, decoder.finish()
-    (5, b'\\xf0', [Piece(offset=5, char=None, length=1, error=<ErrorKind.TOO_FEW_BYTES: 1>)])
+    (5, b'\\xf0', [Piece(offset=5, char=None, length=1, error=<FaultKind.TOO_FEW_BYTES: 1>)])
     """
 
     __slots__ = ("_form", "_state", "_turn", "__weakref__")
@@ -50,16 +62,17 @@ class Decoder:
     def _begin(self, form: int, offset: int, held: bytes) -> None:
         if not 0 <= offset < 1 << 64:
             raise ValueError("the offset has to be from 0 to 2**64 - 1")
-        self._form, self._turn = form, _noddychest.Turn()
-        self._state = _noddychest.Part(form, b"", Piece, ERRORS).begin(_PIECES, offset, held)
+        state = _noddychest.Part(form, b"", Piece, ERRORS).begin(_PIECES, offset, held)
+        self._form, self._state, self._turn = form, state, _noddychest.Turn()
 
     def __getstate__(self) -> tuple[Any, ...]:
         return self._form, *self._state, getattr(self, "__dict__", None)
 
     def __setstate__(self, state: tuple[Any, ...]) -> None:
         form, offset, held, more = state
+        more = attributes_for(self, more)
         self._begin(form, offset, held)
-        if more:  # (what a subclass has)
+        if more:
             self.__dict__.update(more)
 
     def feed(self, data: ReadableBuffer) -> Iterator[Piece]:
@@ -82,7 +95,7 @@ class Decoder:
         return self._step(data, _PIECES, iter)
 
     def feed_faults(self, data: ReadableBuffer) -> Iterator[Piece]:
-        """Reads a part as `feed` does, and gives an iterator over the invalid bytes alone. Valid text is skipped as fast as it is
+        """Reads a part as `feed` does, and gives an iterator over only the invalid bytes. Valid text is skipped as fast as it is
         validated; while it is, from 64 KiB on, other threads run.
 
         >>> decoder = Decoder()
@@ -127,25 +140,48 @@ class Decoder:
 class _Readable(Protocol):
     """A binary file."""
 
-    def read(self, size: int, /) -> bytes: ...
+    def read(self, size: int, /) -> Optional[bytes]: ...
 
 
 Parts = Union["Iterable[ReadableBuffer]", _Readable]
 
 
+def waits(file: Any) -> bool:
+    """Whether a file surely waits until there is data. Then an empty block is its end, and it need not be asked again, which at a terminal
+    would wait for another end."""
+    try:
+        number = file.fileno()
+    except (AttributeError, OSError, ValueError):  # (many have none)
+        return False
+    try:
+        return os.get_blocking(number)
+    except (AttributeError, OSError, TypeError, ValueError):  # (Windows does not say)
+        return True
+
+
+def _readers(file: Any) -> Optional[_noddychest._File]:
+    """How a file is read: see next_block in parts.c. None for what is no file."""
+    read, read1 = getattr(file, "read", None), getattr(file, "read1", None)
+    if read1 is None or getattr(type(file), "read1", None) is io.BufferedIOBase.read1:  # (this one only raises)
+        return None if read is None else (read, functools.partial(waits, file), None)
+    return read1, functools.partial(waits, file), read
+
+
 def _stream(asked: int, parts: Parts, encoding: str) -> Iterator[Piece]:
     form = form_of(encoding)
-    read = getattr(parts, "read1", None) or getattr(parts, "read", None)
-    each = iter(functools.partial(read, _BLOCK), b"") if read is not None else iter(parts)  # type: ignore[arg-type]
+    each: Any = _readers(parts) or iter(parts)  # type: ignore[arg-type]
     return _noddychest.Stream(form, each, asked, Piece, ERRORS)
 
 
 def stream_pieces(parts: Parts, encoding: str = "utf8") -> Iterator[Piece]:
     """The pieces of input in parts, from the first to the last: what a Decoder gives for all of them.
 
-    parts: a binary file, which is read in blocks of 64 KiB or of what there is, or else any iterable of bytes-like objects.
-    Errors: LookupError for an unknown encoding, TypeError for what is no such thing, and what the file or the iterable raises: that ends the
-    pieces. RuntimeError for a step that is asked for while another one goes on, by another thread or by the file itself; nothing is lost then.
+    parts: a binary file, which is read in blocks of 64 KiB or of what there is, or otherwise any iterable of bytes-like objects.
+    Errors: LookupError for an unknown encoding, TypeError for what is no such thing, and what the file or the iterable raises.
+    BlockingIOError if a file that does not wait has no data now: one whose `read` returns None, as a pipe or a socket after
+    `os.set_blocking(fd, False)`. RuntimeError for a step that is asked for while another one goes on, by another thread or by the file
+    itself. None of these ends the pieces, and no byte is lost: the next step asks again. A part that is no bytes-like object stays the
+    next one, and each step raises TypeError.
     Cost: one part is in memory at a time, and a piece is made when it is asked for.
 
     >>> [(piece.offset, piece.char) for piece in stream_pieces([b"n\\xc3", b"\\xa9!"])]
@@ -155,7 +191,7 @@ def stream_pieces(parts: Parts, encoding: str = "utf8") -> Iterator[Piece]:
 
 
 def stream_faults(parts: Parts, encoding: str = "utf8") -> Iterator[Piece]:
-    """The invalid bytes alone, of input in parts; else as `stream_pieces`. Valid text is skipped as fast as it is validated.
+    """Only the invalid bytes, of input in parts; otherwise as `stream_pieces`. Valid text is skipped as fast as it is validated.
 
     >>> import io
     >>> [(piece.offset, piece.error.name) for piece in stream_faults(io.BytesIO(b"ab\\xff"))]

@@ -1,4 +1,4 @@
-"""Pieces of text, from the front and from both ends, and the invalid ones alone."""
+"""Pieces of text, from the front and from both ends, and only the invalid ones."""
 from __future__ import annotations
 
 import array
@@ -19,14 +19,14 @@ if TYPE_CHECKING:
 if not _noddychest.supported():
     raise ImportError("noddychest needs a processor with x86-64-v2 (SSE4.2 and POPCNT), and this one has less")
 
-# Of so many pieces one has its offset kept, once pieces are counted.
+# Once pieces are counted, the offset of every 64th one is kept.
 _EVERY = 64
 
 
-class ErrorKind(enum.Enum):
+class FaultKind(enum.Enum):
     """The reason why a byte is invalid; in UTF-16, why a 16-bit unit is, or a single byte at the end.
 
-    >>> ErrorKind.OVERLONG_ENCODING.reason
+    >>> FaultKind.OVERLONG_ENCODING.reason
     'overlong encoding: the value has a shorter code'
     """
 
@@ -49,7 +49,7 @@ class ErrorKind(enum.Enum):
 
 # The error of each number of the C library, and the reason in words, which is what its nody_kind_sentence says. 0 is a character, and
 # 11 that nothing is left.
-ERRORS: tuple[Optional[ErrorKind], ...] = (None, *ErrorKind, None)
+ERRORS: tuple[Optional[FaultKind], ...] = (None, *FaultKind, None)
 REASONS = tuple(map(_noddychest.kind_sentence, range(len(ERRORS))))
 
 
@@ -66,7 +66,7 @@ class Piece(NamedTuple):
     """The character, or None for an invalid byte."""
     length: int
     """How many bytes it has: 1 to 4; 1 for an invalid byte, and 2 for a lone surrogate of UTF-16."""
-    error: Optional[ErrorKind]
+    error: Optional[FaultKind]
     """The reason why the byte is invalid, or None for a character."""
 
 
@@ -79,26 +79,26 @@ class FaultError(UnicodeDecodeError):
     ...     b"ab\\xff".decode("noddychest-utf8")
     ... except UnicodeDecodeError as fault:
     ...     fault.start, fault.end, fault.error
-    (2, 3, <ErrorKind.NON_UTF8_BYTE: 2>)
+    (2, 3, <FaultKind.NON_UTF8_BYTE: 2>)
     """
 
     offset: int
-    error: ErrorKind
+    error: FaultKind
 
     def __reduce__(self) -> tuple[Any, ...]:
-        # (`args` are those of the first invalid byte that a handler of errors was asked for, and this may be a later one)
+        # (`args` are those of the first invalid byte that an error handler was asked for, and this may be a later one)
         return type(self), (self.encoding, self.object, self.start, self.end, self.reason), self.__dict__
 
 
 def fault_error(encoding: str, data: bytes, start: int, length: int, kind: int, offset: int) -> FaultError:
-    error = ErrorKind(kind)
+    error = FaultKind(kind)
     fault = FaultError(encoding, data, start, start + length, error.reason)
     fault.offset, fault.error = offset, error
     return fault
 
 
 def shard_of(data: object) -> Shard:
-    """A tuple that stands in place of data, which has to be a shard. (What has bytes is no tuple.)"""
+    """Returns data, which has to be a shard. (Objects with bytes were excluded before.)"""
     from ._shards import Shard
 
     if not isinstance(data, Shard):
@@ -115,7 +115,7 @@ class Pieces(Sequence[Piece]):
 
     >>> cut = Pieces(b"a\\xffb")
     >>> len(cut), cut[1], cut[-1].char
-    (3, Piece(offset=1, char=None, length=1, error=<ErrorKind.NON_UTF8_BYTE: 2>), 'b')
+    (3, Piece(offset=1, char=None, length=1, error=<FaultKind.NON_UTF8_BYTE: 2>), 'b')
     >>> [piece.offset for piece in reversed(cut)]
     [2, 1, 0]
     """
@@ -163,7 +163,7 @@ class Pieces(Sequence[Piece]):
         return self._at(range(place, place + 1))[0]
 
     def _at(self, places: range) -> list[Piece]:
-        """The pieces at places that go up."""
+        """The pieces at increasing offsets."""
         if not places:
             return []
         mark, before = divmod(places.start, _EVERY)
@@ -201,7 +201,7 @@ def offsets(data: ReadableBuffer, encoding: str = "utf8") -> array.array[int]:
 
 
 def faults(data: Union[ReadableBuffer, Shard], encoding: str = "utf8") -> Iterator[Piece]:
-    """The invalid bytes alone: an iterator over those of `pieces(data)` that have an error. Valid text is skipped as fast as it is
+    """Only the invalid bytes: an iterator over those of `pieces(data)` that have an error. Valid text is skipped as fast as it is
     validated. A Shard has an encoding of its own, and its offsets count in the whole source.
 
     >>> [(piece.offset, piece.error.name) for piece in faults(b"a\\xffb\\xe2\\x82")]
@@ -213,7 +213,7 @@ def faults(data: Union[ReadableBuffer, Shard], encoding: str = "utf8") -> Iterat
 
 
 class Ends(_noddychest.Ends):
-    """An iterator that takes pieces of text from both ends, in any order: each piece comes once. Why a byte is invalid is judged by
+    """An iterator that takes pieces of text from both ends, in any order: each piece comes once. Why a byte is invalid depends on
     the bytes that are left, which lie between the offsets `start` and `end`.
 
     >>> ends = Ends(b"a\\xc3\\xa9b")
@@ -233,7 +233,7 @@ class Ends(_noddychest.Ends):
         return super().next_back()
 
     def __reversed__(self) -> Iterator[Piece]:
-        """An iterator that takes the pieces from the back."""
+        """An iterator that takes the pieces from the end."""
         return iter(self.next_back, None)
 
 
@@ -241,7 +241,7 @@ def first_fault(data: Union[ReadableBuffer, Shard], encoding: str = "utf8") -> O
     """The first invalid byte, or None if there is none. Data may be a Shard, as for `faults`.
 
     >>> first_fault(b"ab\\xffc")
-    Piece(offset=2, char=None, length=1, error=<ErrorKind.NON_UTF8_BYTE: 2>)
+    Piece(offset=2, char=None, length=1, error=<FaultKind.NON_UTF8_BYTE: 2>)
     >>> first_fault(b"abc") is None
     True
     """
@@ -330,7 +330,7 @@ def boundary_before(data: ReadableBuffer, at: int, encoding: str = "utf8") -> in
 
 
 def boundary_after(data: ReadableBuffer, at: int, encoding: str = "utf8") -> int:
-    """The first offset from `at` on that is not inside a character, at most three bytes after `at`; else as boundary_before.
+    """The first offset from `at` on that is not inside a character, at most three bytes after `at`; otherwise as boundary_before.
 
     >>> boundary_after("a😀".encode(), 2)
     5
@@ -354,7 +354,7 @@ def undecided_len(data: ReadableBuffer, encoding: str = "utf8") -> int:
 
 
 def encoding_of_bom(data: ReadableBuffer) -> Optional[tuple[str, int]]:
-    """The encoding that a byte order mark at the front tells, and the length of the mark in bytes. None if no mark begins the data. Other
+    """The encoding by a byte order mark at the front, and the length of the mark in bytes. None if the data begins with none. Other
     calls do not look for a mark, and take it for the character U+FEFF.
 
     data: any bytes-like object; its first three bytes are enough.
@@ -367,5 +367,5 @@ def encoding_of_bom(data: ReadableBuffer) -> Optional[tuple[str, int]]:
     >>> encoding, mark, [piece.char for piece in pieces(data[mark:], encoding)]
     ('utf-16-le', 2, ['a'])
     """
-    found = _noddychest.form_of_bom(data)
+    found = _noddychest.encoding_of_bom(data)
     return None if found is None else (STANDARD[found[0]], found[1])

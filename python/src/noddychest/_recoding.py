@@ -5,6 +5,7 @@ from typing import TYPE_CHECKING, Any, Union
 
 from . import _noddychest
 from ._names import STANDARD, form_of
+from ._parts import attributes_for
 from ._pieces import fault_error, shard_of
 
 if TYPE_CHECKING:
@@ -12,13 +13,13 @@ if TYPE_CHECKING:
 
     from ._shards import Shard
 
-_ERRORS = {"replace": 0, "strict": 1, "maximal": 2}
+_ERRORS = {"replace": 0, "strict": 1, "lossy": 2}
 
 
 def _way(errors: str) -> int:
     found = _ERRORS.get(errors) if isinstance(errors, str) else None
     if found is None:
-        raise LookupError(f"unknown errors: {errors!r}; there are 'replace', 'strict' and 'maximal'")
+        raise LookupError(f"unknown errors: {errors!r}; there are 'replace', 'strict' and 'lossy'")
     return found
 
 
@@ -35,16 +36,16 @@ def recode(data: Union[ReadableBuffer, Shard], from_: str, to: str, errors: str 
     the other names that browsers take. (There `utf-16` is little-endian.) No byte order mark is looked for, and none is added.
 
     With `replace` each invalid byte becomes one U+FFFD, and so do each lone surrogate of UTF-16 and a single byte at its end. With
-    `strict` the first of them raises FaultError. With `maximal` one U+FFFD stands for each maximal subpart, which is one to three bytes
+    `strict` the first of them raises FaultError. With `lossy` one U+FFFD stands for each maximal subpart, which is one to three bytes
     that begin a character and do not end it, as browsers and Python's own codecs have it.
 
-    Data may be a Shard: what comes of all shards, joined, is what comes of the whole.
+    Data may be a Shard: the outputs of all shards, concatenated, are the output of the whole.
 
     >>> recode("né".encode(), "utf8", "utf16be")
     b'\\x00n\\x00\\xe9'
     >>> recode(b"a\\xffb", "utf8", "utf8")
     b'a\\xef\\xbf\\xbdb'
-    >>> len(recode(b"\\xe2\\x82", "utf8", "utf16le")), len(recode(b"\\xe2\\x82", "utf8", "utf16le", "maximal"))
+    >>> len(recode(b"\\xe2\\x82", "utf8", "utf16le")), len(recode(b"\\xe2\\x82", "utf8", "utf16le", "lossy"))
     (4, 2)
     >>> recode(b"a\\xc0\\xaf", "UTF-8", "UTF-16LE", "strict")
     Traceback (most recent call last):
@@ -74,7 +75,7 @@ def recoded_len(data: Union[ReadableBuffer, Shard], from_: str, to: str) -> int:
 
 class Recoder:
     """Converts text that comes in parts. The output does not depend on how the input was divided into parts. With `strict` a part with
-    an invalid byte raises FaultError, once the reason is decided, and the recoder is as it was before. `maximal` is as in `recode`.
+    an invalid byte raises FaultError, once the reason is decided, and the recoder is as it was before. `lossy` is as in `recode`.
 
     A Recoder takes one call at a time. If another thread calls it meanwhile, that raises RuntimeError, and no input is lost. `copy.copy`
     and `pickle` make a recoder that goes on by itself from the same state.
@@ -94,18 +95,22 @@ class Recoder:
         return self._from, self._to, self._errors, self._recoder.state(), getattr(self, "__dict__", None)
 
     def __setstate__(self, state: tuple[Any, ...]) -> None:
-        self._from, self._to, self._errors, inner, more = state
-        self._recoder = _noddychest.Recoder(self._from, self._to, self._errors)
-        self._recoder.set_state(*inner)
-        if more:  # (what a subclass has)
+        from_, to, errors, (held, replaced, fed), more = state
+        more = attributes_for(self, more)
+        recoder = _noddychest.Recoder(from_, to, errors)
+        if not 0 <= replaced <= fed - len(held):
+            raise ValueError("no Recoder has this state")
+        recoder.set_state(held, replaced, fed)
+        self._from, self._to, self._errors, self._recoder = from_, to, errors, recoder
+        if more:
             self.__dict__.update(more)
 
     def feed(self, data: ReadableBuffer) -> bytes:
-        """Reads a part, and returns what comes of it. At most three bytes are held until more comes."""
+        """Reads a part, and returns its output. At most three bytes are carried over."""
         return self._step(data, False)
 
     def finish(self) -> bytes:
-        """Ends the input, and returns what comes of the bytes that are held. After that you may feed the recoder again."""
+        """Ends the input, and returns the output of the bytes that were carried over. After that you may feed the recoder again."""
         return self._step(b"", True)
 
     def _step(self, data: ReadableBuffer, finish: bool) -> bytes:
@@ -118,5 +123,5 @@ class Recoder:
     @property
     def replaced(self) -> int:
         """How many invalid bytes (in UTF-16 lone surrogates, or single bytes at the end) were replaced by U+FFFD so far. With
-        `maximal` they are not counted."""
+        `lossy` they are not counted."""
         return self._recoder.replaced

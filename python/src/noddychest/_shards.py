@@ -1,26 +1,30 @@
-"""Large texts in shards: parts that are read apart, and whose answers put together are those of the whole."""
+"""Large texts in shards: parts that are read separately, and whose results together are those of the whole."""
 from __future__ import annotations
 
 import array
 import contextlib
+import errno
 import importlib
 import os
+import re
 import stat
 from collections.abc import Callable, Iterator
 from typing import TYPE_CHECKING, Any, NamedTuple, Optional, Protocol, Union
 
 from . import _noddychest
 from ._names import STANDARD, form_of
-from ._pieces import ErrorKind, Piece, boundary_before, fault_error
+from ._pieces import FaultKind, Piece, fault_error
 from ._pieces import faults as _faults
 
 if TYPE_CHECKING:
     from _typeshed import ReadableBuffer
 
-    Source = Union[str, os.PathLike[str], ReadableBuffer]
+    Path = Union[str, bytes, os.PathLike[str], os.PathLike[bytes]]
+    Source = Union[Path, ReadableBuffer]
 
 BLOCK = 1 << 20
-_AHEAD = 3  # so many bytes behind a shard tell where it ends, and why its last bytes are invalid
+_AHEAD = 3  # the bytes after a shard that decide where it ends, and why its last bytes are invalid
+_LONGEST_PATH = 4096  # bytes, on Linux
 
 
 class ChangedError(OSError):
@@ -32,7 +36,7 @@ class Faults(NamedTuple):
     """Invalid bytes as three arrays, which numpy and Arrow take without a copy: `numpy.asarray(found.offsets)`.
 
     >>> found = faults_array(b"a\\xffb\\xe2\\x82")
-    >>> found.offsets.tolist(), [ErrorKind(it).name for it in found.kinds]
+    >>> found.offsets.tolist(), [FaultKind(it).name for it in found.kinds]
     ([1, 3, 4], ['NON_UTF8_BYTE', 'TOO_FEW_BYTES', 'UNEXPECTED_CONTINUATION_BYTE'])
     """
 
@@ -41,12 +45,12 @@ class Faults(NamedTuple):
     lengths: array.array[int]
     """How many bytes each has: 1, or 2 for a lone surrogate of UTF-16. Numbers of 8 bits."""
     kinds: array.array[int]
-    """The number of the ErrorKind of each. Numbers of 8 bits."""
+    """The number of the FaultKind of each. Numbers of 8 bits."""
 
     def pieces(self) -> Iterator[Piece]:
-        """The same as pieces, one by one."""
+        """All of them as pieces, one by one."""
         for offset, length, kind in zip(self.offsets, self.lengths, self.kinds):
-            yield Piece(offset, None, length, ErrorKind(kind))
+            yield Piece(offset, None, length, FaultKind(kind))
 
     def extend(self, more: Faults) -> None:
         """Adds the invalid bytes of the next shard after these."""
@@ -92,8 +96,8 @@ class Counts(NamedTuple):
     """How many characters, without the invalid bytes."""
     lines: int = 0
     """How many line ends: characters U+000A."""
-    kinds: tuple[int, ...] = (0,) * len(ErrorKind)
-    """How many faults of each ErrorKind, in their order."""
+    kinds: tuple[int, ...] = (0,) * len(FaultKind)
+    """How many faults of each FaultKind, in their order."""
 
     @property
     def faults(self) -> int:
@@ -107,17 +111,35 @@ class Counts(NamedTuple):
 
 
 class Recoded(NamedTuple):
-    """What recoding made: see parallel.recode."""
+    """What transcoding made: see parallel.recode."""
 
     read: int
     """How many bytes were read."""
     written: int
     """How many bytes came of them."""
     replaced: int
-    """How many faults became U+FFFD. With `maximal` they are not counted, and it is 0."""
+    """How many faults became U+FFFD. With `lossy` they are not counted, and it is 0."""
 
 
 # ---- sources ----
+
+
+def path_of(path: Path) -> str:
+    """A path as text. `bytes` are a path, as for open(): so text in memory that is handed in as `bytes` is rejected, if it can be no path."""
+    if isinstance(path, bytes) and (b"\0" in path or len(path) > _LONGEST_PATH):
+        raise ValueError("bytes are taken for a path, as by open(): hand in text in memory as memoryview(text)")
+    return os.fsdecode(path)
+
+
+def place_of(source: Source) -> Union[str, memoryview]:
+    """Where a source is: the path or the URL as text, or the bytes in memory. A URL is a `str`."""
+    if isinstance(source, str):
+        return source
+    if isinstance(source, (bytes, os.PathLike)):
+        return re.sub(":/{2,}", ":/", path_of(source))  # (to the system this is the same path)
+    _noddychest.check(source)  # (its errors say more than those of memoryview)
+    view = memoryview(source)
+    return view.cast("B") if view.nbytes > 0 else memoryview(b"")  # (what has no items is not cast)
 
 
 class _Reading(Protocol):
@@ -145,14 +167,14 @@ class _Buffer:
 
 
 class _File:
-    """A file. Many read it at once."""
+    """A file, which many threads can read concurrently."""
 
     def __init__(self, path: str) -> None:
         self._path = path
         self._file = os.open(path, os.O_RDONLY | os.O_CLOEXEC | os.O_NONBLOCK)  # (a pipe is not waited for)
         if not stat.S_ISREG(os.fstat(self._file).st_mode):
             os.close(self._file)
-            raise OSError(f"{path}: shards are of files that can be read at any place, and this is none")
+            raise OSError(errno.ESPIPE, "shards are of files that can be read at any place, and this is none", path)
 
     def stamp(self) -> tuple[int, str]:
         about = os.fstat(self._file)
@@ -181,6 +203,10 @@ class _Url:
 
     def stamp(self) -> tuple[int, str]:
         about = self._system.info(self._path)
+        if about.get("type") in ("directory", "other"):
+            raise OSError(errno.ESPIPE, "shards are of files that can be read at any place, and this is none", self._path)
+        if about.get("size") is None:
+            raise OSError(errno.ESPIPE, "its length is not known, so it has no shards", self._path)
         changed = [str(about[it]) for it in ("ETag", "etag", "mtime", "last_modified", "LastModified", "updated", "created") if it in about]
         return int(about["size"]), " ".join(changed)
 
@@ -230,7 +256,7 @@ class Shard(NamedTuple):
     encoding: str
     """The encoding of the source."""
     stamp: tuple[int, str]
-    """The length of the source, and what tells whether it was changed."""
+    """The length of the source, and a stamp that changes if it is changed."""
 
     def blocks(self, size: int = BLOCK) -> Iterator[tuple[int, ReadableBuffer, int]]:
         """The bytes in blocks of about `size`: the offset of each, its bytes with up to three more that lie behind it, and how many are
@@ -258,7 +284,7 @@ class Shard(NamedTuple):
             yield from taken(_faults(data, self.encoding), offset, cut)
 
     def faults_array(self) -> Faults:
-        """The same as arrays: 10 bytes for each."""
+        """The invalid bytes as arrays: 10 bytes for each."""
         form, found = form_of(self.encoding), no_faults()
         for offset, data, cut in self.blocks():
             found.extend(arrays(form, data, cut, offset))
@@ -269,7 +295,7 @@ class Shard(NamedTuple):
         return next(self.faults(), None)
 
     def recode_into(self, write: Callable[[bytes], object], to: str, errors: str = "replace", size: int = BLOCK) -> Recoded:
-        """Recodes the shard, and calls `write` with the parts of what comes of it, in order. Memory: some times `size`.
+        """Transcodes the shard, and calls `write` with the parts of the output, in order. Memory: some times `size`.
 
         Errors: with `strict` a FaultError, with the offset of the first invalid byte of this shard in the whole source."""
         from ._recoding import Recoder
@@ -329,42 +355,32 @@ def taken(found: Iterator[Piece], offset: int, cut: int) -> Iterator[Piece]:
 
 
 def _cut(data: ReadableBuffer, at: int, form: int) -> int:
-    """The last place up to `at` where a shard may end: no character lies over it, and no row of invalid bytes that `maximal` makes one
-    U+FFFD. In UTF-8 such a row goes on with a byte from 80 to BF; and one that follows three others belongs to no character."""
-    view = memoryview(data).cast("B")
-    if form == 0:
-        for it in range(at, max(at - _AHEAD, 0) - 1, -1):
-            if it < len(view) and view[it] & 0xC0 != 0x80:
-                return boundary_before(view, it)
-    return boundary_before(view, at, STANDARD[form])
+    """The last offset up to `at` where a shard may end: it is inside no character, and inside no row of invalid bytes that `lossy`
+    makes one U+FFFD. Some bytes before `at` and `_AHEAD` bytes after it are enough."""
+    return _noddychest.shard_end(form, data, at)
 
 
 def shards(source: Source, size: int, encoding: str = "utf8") -> list[Shard]:
-    """Divides a large text into shards that can be read and recoded apart, in any order, by many threads, processes or machines.
+    """Divides a large text into shards that can be read and converted separately, in any order, by many threads, processes or machines.
 
-    source: a path; a URL, with `://`, which fsspec opens; or any bytes-like object, which is not copied. size: about how many bytes each
-    shard has, at least 1. encoding: the encoding of the source.
+    source: a path, as for open(): a `str`, `bytes` or a PathLike; a URL, a `str` with `://`, which fsspec opens; or text in memory, any
+    other bytes-like object, which is not copied: of a `bytes` its memoryview. size: about how many bytes each shard has, at least 1.
+    encoding: the encoding of the source.
     Result: the shards in order; together they are the whole source. An empty source has none. A shard ends at most three bytes before a
-    multiple of `size`, where no character lies over it, and no row of invalid bytes that `maximal` makes one U+FFFD.
-    Errors: ValueError for a size below 1, OSError if the source is no regular file or cannot be read, ImportError for a URL without fsspec.
+    multiple of `size`, where no character lies over it, and no row of invalid bytes that `lossy` makes one U+FFFD.
+    Errors: ValueError for a size below 1, and for `bytes` that can be no path; OSError if the source is no regular file or cannot be read, ImportError for a URL without fsspec.
     Cost: it reads seven bytes for each shard.
 
-    >>> [(it.start, it.end) for it in shards("aé€".encode(), 2)]
+    >>> text = memoryview("aé€".encode())
+    >>> [(it.start, it.end) for it in shards(text, 2)]
     [(0, 1), (1, 3), (3, 6)]
-    >>> b"".join(it.recode("utf16be") for it in shards("aé€".encode(), 2)) == "aé€".encode("utf-16-be")
+    >>> b"".join(it.recode("utf16be") for it in shards(text, 2)) == "aé€".encode("utf-16-be")
     True
     """
     form = form_of(encoding)
     if size < 1:
         raise ValueError("a shard has to have at least 1 byte")
-    place: Union[str, memoryview]
-    if isinstance(source, (str, os.PathLike)):
-        place = os.fspath(source)
-    else:
-        _noddychest.check(source)  # (its errors say more than those of memoryview)
-        view = memoryview(source)
-        place = view.cast("B") if view.nbytes > 0 else memoryview(b"")  # (what has no items is not cast)
-    ends = [0]
+    place, ends = place_of(source), [0]
     with opened(place) as it:
         stamp = it.stamp()
         total = stamp[0]
@@ -373,7 +389,7 @@ def shards(source: Source, size: int, encoding: str = "utf8") -> list[Shard]:
             front = max(end - 4, 0)
             window = it.read(front, min(end + _AHEAD, total))
             end = front + _cut(window, min(end - front, len(memoryview(window))), form)
-            if end > ends[-1] and (form == 0 or end + 1 < total):
+            if end > ends[-1]:
                 ends.append(end)
     ends += [total] if total > 0 else []
     return [Shard(place, start, end, encoding, stamp) for start, end in zip(ends, ends[1:])]

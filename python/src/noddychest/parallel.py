@@ -1,4 +1,4 @@
-"""The same calls on all cores of one machine: threads, each of which reads a shard and lets the interpreter's lock go.
+"""Calls that use all cores of one machine: threads, each of which reads a shard and lets the interpreter's lock go.
 
 >>> import os, tempfile
 >>> folder = tempfile.TemporaryDirectory()
@@ -27,24 +27,25 @@ from typing import TYPE_CHECKING, NamedTuple, Optional, TypeVar, Union
 
 from ._names import form_of
 from ._recoding import Recoder
-from ._shards import BLOCK, Counts, Faults, Recoded, Shard, no_faults, shards
+from ._shards import BLOCK, ChangedError, Counts, Faults, Recoded, Shard, no_faults, opened, path_of, place_of, shards
+from ._version import __version__
 
 if TYPE_CHECKING:
-    from ._shards import Source
+    from ._shards import Path, Source
 
     Progress = Union[bool, Callable[[int, int], object]]
 
 __all__ = ["check", "count", "recode"]
 
-SIZE = BLOCK  # of a shard; a job has one, and what came of three. Of larger ones the room is given back each time, at a high cost
+SIZE = BLOCK  # of a shard; a job has one, and what came of three. The memory of larger ones is returned each time, at a high cost
 _FAR = 4 * BLOCK  # of a shard that is asked for over a network
-_WINDOW = 64  # so many shards at most lie between the first that is not written yet and the last
+_WINDOW = 64  # the most shards from the first that is not written yet to the last that is being made
 
 _Answer = TypeVar("_Answer")
 
 
 def jobs_here() -> int:
-    """How many processors this process may use."""
+    """How many CPUs this process may use."""
     return len(os.sched_getaffinity(0))
 
 
@@ -69,7 +70,7 @@ def _is_watched() -> bool:
 
 
 class Bar:
-    """What a call tells of its progress: to a function, or as a line on standard error, if that is a terminal and it takes a while."""
+    """The progress of a call: passed to a function, or shown as a line on standard error, if that is a terminal and it takes a while."""
 
     def __init__(self, progress: Progress, total: int) -> None:
         self._call = progress if callable(progress) else self._show if progress and _is_watched() else None
@@ -92,7 +93,7 @@ class Bar:
 
 
 def each(function: Callable[[Shard], _Answer], them: list[Shard], jobs: Optional[int], progress: Progress) -> Iterator[_Answer]:
-    """The answers for all shards, in order. Few of them wait."""
+    """The results for all shards, in order. Few of them wait."""
     jobs = _some_jobs(jobs)
     bar = Bar(progress, sum(it.end - it.start for it in them))
     left, waiting = iter(them), []
@@ -112,16 +113,17 @@ def each(function: Callable[[Shard], _Answer], them: list[Shard], jobs: Optional
 
 
 def check(source: Source, encoding: str = "utf8", jobs: Optional[int] = None, progress: Progress = True) -> Faults:
-    """All invalid bytes of a large text, by some jobs at once.
+    """All invalid bytes of a large text, in several threads.
 
-    source: a path, a URL with `://` that fsspec opens, or any bytes-like object. jobs: how many threads; by default one for each processor.
+    source: a path, as for open(): a `str`, `bytes` or a PathLike; a URL, a `str` with `://`, that fsspec opens; or text in memory, any other
+    bytes-like object: of a `bytes` its memoryview. jobs: how many threads; by default one for each CPU.
     progress: whether to show a line on standard error, if that is a terminal, after a second; or a function that is called with the number
     of bytes that are done, and of all.
     Result: the offsets, the lengths and the kinds, as arrays: those of `faults_array` of the whole.
     Errors: LookupError, ValueError, OSError; ChangedError, an OSError, if the source was changed meanwhile. Cost: that of validation; a
     job has 1 MB and the faults of it, and the result takes 10 bytes for each fault.
 
-    >>> check(b"ab\\xff").offsets.tolist()
+    >>> check(memoryview(b"ab\\xff")).offsets.tolist()
     [2]
     """
     found = no_faults()
@@ -134,7 +136,7 @@ def count(source: Source, encoding: str = "utf8", jobs: Optional[int] = None, pr
     """How many bytes, characters, line ends, and invalid bytes of each kind a large text has. The arguments and the errors are those of
     `check`. Cost: some times that of validation; a job has 1 MB.
 
-    >>> count("né\\n".encode()).characters
+    >>> count(memoryview("né\\n".encode())).characters
     3
     """
     total = Counts()
@@ -147,7 +149,7 @@ def count(source: Source, encoding: str = "utf8", jobs: Optional[int] = None, pr
 
 
 class _Made(NamedTuple):
-    """What came of a shard, and where it belongs."""
+    """The output of a shard, and its offset."""
 
     number: int
     parts: list[bytes]
@@ -156,7 +158,7 @@ class _Made(NamedTuple):
 
 
 class _Line:
-    """Shards in a line: they are taken in order. What comes of one gets its place in the output once all before it are recoded, and then any
+    """Shards in a line: they are taken in order. What comes of one gets its place in the output once all before it are converted, and then any
     job may write it. Few are on their way at once."""
 
     def __init__(self, them: list[Shard], first: int, place: int, jobs: int, bar: Bar) -> None:
@@ -172,7 +174,7 @@ class _Line:
         self.replaced = 0
 
     def next(self) -> Union[_Made, int, None]:
-        """What is to be written, or else the number of a shard that is to be recoded; None at the end, or if a job failed."""
+        """What is to be written, or otherwise the number of a shard that is to be converted; None at the end, or if a job failed."""
         with self._changed:
             while not self._failures:
                 if self._placed:
@@ -268,29 +270,30 @@ def _run(line: _Line, jobs: int, them: list[Shard], file: int, to: str, errors: 
             it.join()
 
 
-def recode(source: Source, out: Union[str, os.PathLike[str]], from_: str, to: str, jobs: Optional[int] = None, progress: Progress = True,
+def recode(source: Source, out: Path, from_: str, to: str, jobs: Optional[int] = None, progress: Progress = True,
            *, errors: str = "replace", resume: bool = False) -> Recoded:
-    """Recodes a large text into a file, by some jobs at once. The file has the bytes of `recode` of the whole.
+    """Transcodes a large text into a file, in several threads. The file has the bytes of `recode` of the whole.
 
     source, jobs, progress: as for `check`. out: the file, which may be the source itself. from_, to, errors: as for `noddychest.recode`.
     resume: whether a run that was interrupted goes on. What such a run has written stands in `OUT.….partial` beside the file; the name
-    tells the source with its time of change and the arguments, so that only the same run finds it. By its length those shards are found
-    that need not be recoded again; they are read to know their lengths. After a crash of the machine begin anew.
-    Result: how many bytes were read and written, and how many invalid bytes were replaced (of the shards that this run recoded).
+    tells the source with its time of change, the arguments and the version of this package, so that only the same run finds it. By its length those shards are found
+    that need not be converted again; they are read to know their lengths. After a crash of the machine begin anew.
+    Result: how many bytes were read and written, and how many invalid bytes were replaced (of the shards that this run converted).
     The file is written under another name beside it, is brought to the disk, and gets its name then: under its own name there is never a
-    part of it. If anything fails, `out` is as it was; what was written goes away, but with `resume`.
+    part of it. If anything fails, `out` is as it was; what was written goes away, but with `resume`. Right before that the source is looked
+    at once more: so if it is the output too, nothing is lost that another process wrote to it meanwhile.
     Errors: as for `check`. With `strict` FaultError, with the offset of the first invalid byte of all. OSError if the disk is full.
-    BlockingIOError if another run with `resume` writes the same. Cost: each job has 1 MB, and what comes of three times as many.
+    BlockingIOError if another run with `resume` writes the same. Cost: each job has 1 MB, and the output of three times as many.
     """
     Recoder(from_, to, errors)  # (unknown names are found before anything is written)
     jobs = _some_jobs(jobs)
     them = shards(source, _size(source), from_)
-    if resume and not isinstance(source, (str, os.PathLike)):
+    if resume and not isinstance(source, (str, bytes, os.PathLike)):
         raise ValueError("resume is for a path or a URL")
-    target = os.path.realpath(os.fspath(out))
+    target = os.path.realpath(path_of(out))
     if os.path.exists(target) and not os.path.isfile(target):
         raise OSError(f"{target} is no file that can be replaced")
-    with partial(target, _run_name(them, to, errors) if resume else None) as file:
+    with partial(target, _run_name(them, to, errors) if resume else None, lambda: look_again(place_of(source), stamp_of(them))) as file:
         first, place = _standing(file, them, to, errors, jobs) if resume else (0, 0)
         os.ftruncate(file, place)
         bar = Bar(progress, sum(it.end - it.start for it in them))
@@ -302,15 +305,29 @@ def recode(source: Source, out: Union[str, os.PathLike[str]], from_: str, to: st
     return Recoded(sum(it.end - it.start for it in them), written, line.replaced)
 
 
+def stamp_of(them: list[Shard]) -> Optional[tuple[int, str]]:
+    """The stamp of a source. Of an empty one there are no shards, and None."""
+    return them[0].stamp if them else None
+
+
+def look_again(source: Union[str, memoryview], stamp: Optional[tuple[int, str]]) -> None:
+    """Raises ChangedError if the source is not as it was. (One that was removed meanwhile was read to its end before)"""
+    with contextlib.suppress(FileNotFoundError), opened(source) as it:
+        now = it.stamp()
+        if tuple(now) != tuple(stamp) if stamp is not None else now[0] != 0:
+            raise ChangedError(f"{source if isinstance(source, str) else 'the buffer'} was changed after it was read")
+
+
 def _run_name(them: list[Shard], to: str, errors: str) -> str:
-    """What tells a run from others: the source as it is, and the arguments."""
-    words = [(os.path.abspath(str(it.source)), *it.stamp, form_of(it.encoding), form_of(to), errors, SIZE) for it in them[-1:]]
+    """What distinguishes a run from others: the source as it is, the arguments, and the version of the package."""
+    words = [(os.path.abspath(str(it.source)), *it.stamp, form_of(it.encoding), form_of(to), errors, SIZE, __version__) for it in them[-1:]]
     return hashlib.sha256(repr(words).encode("utf-8", "surrogatepass")).hexdigest()[:16]
 
 
 @contextlib.contextmanager
-def partial(target: str, name: Optional[str]) -> Iterator[int]:
-    """A file beside the target, that gets its name at the end. Without a name of its own it goes away if anything fails."""
+def partial(target: str, name: Optional[str], last_look: Callable[[], None]) -> Iterator[int]:
+    """A file beside the target, that gets its name at the end, if the last look raises nothing. Without a name of its own it goes away if
+    anything fails."""
     path = f"{target}.{name or secrets.token_hex(8)}.partial"
     file = os.open(path, os.O_RDWR | os.O_CREAT | os.O_NOFOLLOW | os.O_CLOEXEC | (0 if name else os.O_EXCL), 0o666)
     try:
@@ -319,7 +336,8 @@ def partial(target: str, name: Optional[str]) -> Iterator[int]:
         if os.path.exists(target):
             os.fchmod(file, os.stat(target).st_mode & 0o7777)
         yield file
-        os.fsync(file)
+        os.fsync(file)  # (this takes long, so the look comes after it)
+        last_look()
         os.replace(path, target)
         path = ""
         sync_folder(os.path.dirname(target))
@@ -351,7 +369,7 @@ def sync_folder(path: str) -> None:
 
 
 def _standing(file: int, them: list[Shard], to: str, errors: str, jobs: int) -> tuple[int, int]:
-    """How many shards stand in the file of a run that was interrupted, and the length of what came of them. Those in the window before its
+    """How many shards are written in the file of a run that was interrupted, and the length of their output. Those in the window before its
     end may not be written yet."""
     size, ends = os.fstat(file).st_size, [0]
     lengths = each(lambda it: recoded_size(it, to, errors), them, jobs, False)

@@ -1,6 +1,6 @@
 //! Mergers and splitters over every iterator whose items lend what they take.
 //!
-//! The proved ones take the items themselves. So each stands over [`Owned`], which copies them out of what lends them.
+//! The proved ones take the items themselves. So each is built over [`Owned`], which copies the items out of what lends them.
 use crate::proved::encode_unicode::iterator as proved;
 use crate::proved::encode_unicode::{Utf16Char, Utf8Char};
 use crate::proved::utf_base::errors::{Utf16PairError, Utf8Error};
@@ -45,12 +45,12 @@ impl<I: Debug, T> Debug for Owned<I, T> {
 
 /// The units of an iterator, and the item that lent the last of them: a merger that holds a unit holds that one.
 #[derive(Clone)]
-pub(crate) struct Kept<B, I> {
+pub(crate) struct Lending<B, I> {
     iter: I,
     last: Option<B>,
 }
 
-impl<B: Borrow<u16>, I: Iterator<Item = B>> Iterator for Kept<B, I> {
+impl<B: Borrow<u16>, I: Iterator<Item = B>> Iterator for Lending<B, I> {
     type Item = u16;
 
     #[inline(always)]
@@ -67,7 +67,7 @@ impl<B: Borrow<u16>, I: Iterator<Item = B>> Iterator for Kept<B, I> {
     }
 }
 
-impl<B, I: Debug> Debug for Kept<B, I> {
+impl<B, I: Debug> Debug for Lending<B, I> {
     fn fmt(&self, f: &mut fmt::Formatter<'_>) -> fmt::Result {
         self.iter.fmt(f)
     }
@@ -150,9 +150,9 @@ adapter!(Utf8CharMerger, u8 => Result<Utf8Char, Utf8Error>, Owned<I, u8>, Owned:
 /// ```
 #[must_use = "iterators do nothing unless consumed"]
 pub struct Utf16CharMerger<B: Borrow<u16>, I: Iterator<Item = B>> {
-    inner: proved::Utf16CharMerger<Kept<B, I>>,
+    inner: proved::Utf16CharMerger<Lending<B, I>>,
 }
-adapter!(Utf16CharMerger, u16 => Result<Utf16Char, Utf16PairError>, Kept<B, I>, |iter| Kept { iter, last: None });
+adapter!(Utf16CharMerger, u16 => Result<Utf16Char, Utf16PairError>, Lending<B, I>, |iter| Lending { iter, last: None });
 
 // A merger does not ask its source again once that has ended; a splitter does.
 impl<B: Borrow<u8>, I: Iterator<Item = B>> FusedIterator for Utf8CharMerger<B, I> {}
@@ -161,7 +161,7 @@ impl<B: Borrow<Utf8Char>, I: FusedIterator<Item = B>> FusedIterator for Utf8Char
 impl<B: Borrow<Utf16Char>, I: FusedIterator<Item = B>> FusedIterator for Utf16CharSplitter<B, I> {}
 
 impl<B: Borrow<u16>, I: Iterator<Item = B>> Utf16CharMerger<B, I> {
-    /// What no answer has taken: the item that lent the unit which is held, and then what the source still gives.
+    /// What has not been decoded: the item that lent the buffered unit, and then what the source still gives.
     ///
     /// ```
     /// use noddychest::encode_unicode::IterExt;
@@ -171,7 +171,7 @@ impl<B: Borrow<u16>, I: Iterator<Item = B>> Utf16CharMerger<B, I> {
     /// ```
     pub fn into_remaining_units(self) -> Chain<option::IntoIter<B>, I> {
         let holds = self.inner.held.len() > 0;
-        let Kept { iter, last } = self.inner.into_inner();
+        let Lending { iter, last } = self.inner.into_inner();
         last.filter(|_| holds).into_iter().chain(iter)
     }
 }

@@ -1,6 +1,6 @@
 //! std's collections, made of characters and extended by them.
 //!
-//! The proved calls answer where memory is refused, and std's own end the process there: so do these.
+//! The proved calls return an error if an allocation fails; std's own abort the process, and so do these.
 use crate::proved::encode_unicode::{Utf16Char, Utf16CharIterExt, Utf8Char, Utf8CharIterExt};
 use crate::support::memory;
 use alloc::alloc::{handle_alloc_error, Layout};

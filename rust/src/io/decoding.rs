@@ -1,51 +1,51 @@
 //! The pieces of what a reader gives.
 
-use crate::{Decoder, Fault, Form, Piece, Progress};
+use crate::{Decoder, Encoding, Fault, Piece, Progress};
 use std::fmt;
 use std::io::{BufRead, ErrorKind, Result};
 use std::iter::FusedIterator;
 
-/// How many pieces are gathered at once.
+/// How many pieces are decoded by one call.
 const ROOM: usize = 64;
 
-/// What gathers them: all, or the faults alone.
+/// What gathers them: all, or only the faults.
 type Feed = fn(&mut Decoder, &[u8], &mut [Piece<u64>]) -> Progress;
 
 /// All pieces of what a reader gives, each with its offset from the first byte that is read: those of a [`Decoder`](crate::Decoder).
 ///
 /// ```
-/// use noddychest::{io, Form};
+/// use noddychest::{io, Encoding};
 /// let mut offsets = Vec::new();
-/// for piece in io::pieces(&b"na\xC3\xAFve \xFF"[..], Form::Utf8) {
+/// for piece in io::pieces(&b"na\xC3\xAFve \xFF"[..], Encoding::Utf8) {
 ///     offsets.push(piece?.offset);
 /// }
 /// assert_eq!(offsets, [0, 1, 2, 4, 5, 6, 7]);
 /// # Ok::<(), std::io::Error>(())
 /// ```
-pub fn pieces<R: BufRead>(reader: R, form: Form) -> Pieces<R> {
-    Pieces { source: Source::new(reader, form) }
+pub fn pieces<R: BufRead>(reader: R, encoding: Encoding) -> Pieces<R> {
+    Pieces { source: Source::new(reader, encoding) }
 }
 
-/// The invalid bytes alone, each as [`pieces`] gives it. What is text between them is passed as fast as it is validated. It needs the
+/// Only the invalid bytes, each as [`pieces`] gives it. Text between them is skipped as fast as it is validated. It needs the
 /// memory of what the reader holds, whatever the length of all input.
 ///
 /// ```
-/// use noddychest::{io, Form};
-/// for fault in io::faults(&b"ok\0\xD8!\0"[..], Form::Utf16Be) {
+/// use noddychest::{io, Encoding};
+/// for fault in io::faults(&b"ok\0\xD8!\0"[..], Encoding::Utf16Be) {
 ///     assert_eq!(fault?.to_string(), "invalid UTF-16 at offset 2: UnmatchedLeadingSurrogate");
 ///     # break;
 /// }
 /// # Ok::<(), std::io::Error>(())
 /// ```
-pub fn faults<R: BufRead>(reader: R, form: Form) -> Faults<R> {
-    Faults { source: Source::new(reader, form) }
+pub fn faults<R: BufRead>(reader: R, encoding: Encoding) -> Faults<R> {
+    Faults { source: Source::new(reader, encoding) }
 }
 
 /// A reader, and the pieces that were gathered of it and not given yet.
 struct Source<R> {
     reader: R,
     decoder: Decoder,
-    room: Box<[Piece<u64>]>,
+    buffer: Box<[Piece<u64>]>,
     begin: usize,
     end: usize,
     has_ended: bool,
@@ -61,15 +61,15 @@ impl<R: fmt::Debug> fmt::Debug for Source<R> {
 }
 
 impl<R> Source<R> {
-    fn new(reader: R, form: Form) -> Source<R> {
-        let room = vec![Piece::default(); ROOM].into_boxed_slice();
-        Source { reader, decoder: Decoder::new(form), room, begin: 0, end: 0, has_ended: false }
+    fn new(reader: R, encoding: Encoding) -> Source<R> {
+        let buffer = vec![Piece::default(); ROOM].into_boxed_slice();
+        Source { reader, decoder: Decoder::new(encoding), buffer, begin: 0, end: 0, has_ended: false }
     }
 
     /// The next piece of those that were gathered.
     #[inline(always)]
     fn take(&mut self) -> Option<Piece<u64>> {
-        let piece = self.room[..self.end].get(self.begin)?;
+        let piece = self.buffer[..self.end].get(self.begin)?;
         self.begin += 1;
         Some(*piece)
     }
@@ -103,10 +103,10 @@ impl<R: BufRead> Source<R> {
         };
         if part.is_empty() {
             self.has_ended = true;
-            self.end = self.decoder.finish(&mut self.room).written;
+            self.end = self.decoder.finish(&mut self.buffer).written;
             return Some(Ok(()));
         }
-        let did = feed(&mut self.decoder, part, &mut self.room);
+        let did = feed(&mut self.decoder, part, &mut self.buffer);
         self.end = did.written;
         self.reader.consume(did.read);
         Some(Ok(()))
@@ -115,12 +115,12 @@ impl<R: BufRead> Source<R> {
 
 /// The pieces of what a reader gives. [`pieces`] makes it.
 ///
-/// An error of the reader is passed on, and nothing is lost by it: the next call reads on. (It reads on by itself where a call was
+/// An error of the reader is passed on, and nothing is lost by it: the next call reads on. (It reads on without that if a call was
 /// [`Interrupted`](std::io::ErrorKind::Interrupted).) At the end of the reader it gives what is held, and then reads no more.
 ///
 /// ```
-/// use noddychest::{io, Form};
-/// let text = io::pieces(&b"\xAC\x20!\0"[..], Form::Utf16Le).map(|piece| Ok(piece?.char().unwrap_or('\u{FFFD}')));
+/// use noddychest::{io, Encoding};
+/// let text = io::pieces(&b"\xAC\x20!\0"[..], Encoding::Utf16Le).map(|piece| Ok(piece?.char().unwrap_or('\u{FFFD}')));
 /// assert_eq!(text.collect::<std::io::Result<String>>()?, "€!");
 /// # Ok::<(), std::io::Error>(())
 /// ```
@@ -134,8 +134,8 @@ impl<R> Pieces<R> {
     /// The reader.
     ///
     /// ```
-    /// use noddychest::{io, Form};
-    /// assert_eq!(io::pieces(&b"a"[..], Form::Utf8).get_ref(), b"a");
+    /// use noddychest::{io, Encoding};
+    /// assert_eq!(io::pieces(&b"a"[..], Encoding::Utf8).get_ref(), b"a");
     /// ```
     #[must_use]
     pub fn get_ref(&self) -> &R {
@@ -145,9 +145,9 @@ impl<R> Pieces<R> {
     /// The reader, to be changed. What is read of it here is missing among what comes, and offsets do not count it.
     ///
     /// ```
-    /// use noddychest::{io, Form};
+    /// use noddychest::{io, Encoding};
     /// use std::io::Read;
-    /// let mut pieces = io::pieces(&b"\xEF\xBB\xBF\xFF"[..], Form::Utf8);
+    /// let mut pieces = io::pieces(&b"\xEF\xBB\xBF\xFF"[..], Encoding::Utf8);
     /// pieces.get_mut().read_exact(&mut [0; 3])?; // past the byte order mark
     /// assert_eq!(pieces.next().unwrap()?.range(), 0..1);
     /// # Ok::<(), std::io::Error>(())
@@ -160,8 +160,8 @@ impl<R> Pieces<R> {
     /// The reader. What was read of it and not given yet is lost.
     ///
     /// ```
-    /// use noddychest::{io, Form};
-    /// assert_eq!(io::pieces(&b"a"[..], Form::Utf8).into_inner(), b"a");
+    /// use noddychest::{io, Encoding};
+    /// assert_eq!(io::pieces(&b"a"[..], Encoding::Utf8).into_inner(), b"a");
     /// ```
     #[must_use]
     pub fn into_inner(self) -> R {
@@ -183,8 +183,8 @@ impl<R: BufRead> FusedIterator for Pieces<R> {}
 /// The invalid bytes of what a reader gives. [`faults`] makes it. Errors of the reader are passed on as [`Pieces`] does.
 ///
 /// ```
-/// use noddychest::{io, FaultKind, Form};
-/// let fault = io::faults(&b"caf\xE9 noir"[..], Form::Utf8).next().unwrap()?;
+/// use noddychest::{io, FaultKind, Encoding};
+/// let fault = io::faults(&b"caf\xE9 noir"[..], Encoding::Utf8).next().unwrap()?;
 /// assert_eq!((fault.offset(), fault.kind()), (3, FaultKind::InterruptedSequence));
 /// # Ok::<(), std::io::Error>(())
 /// ```
@@ -198,8 +198,8 @@ impl<R> Faults<R> {
     /// The reader.
     ///
     /// ```
-    /// use noddychest::{io, Form};
-    /// assert_eq!(io::faults(&b"a"[..], Form::Utf8).get_ref(), b"a");
+    /// use noddychest::{io, Encoding};
+    /// assert_eq!(io::faults(&b"a"[..], Encoding::Utf8).get_ref(), b"a");
     /// ```
     #[must_use]
     pub fn get_ref(&self) -> &R {
@@ -209,9 +209,9 @@ impl<R> Faults<R> {
     /// The reader, to be changed. What is read of it here is missing among what comes, and offsets do not count it.
     ///
     /// ```
-    /// use noddychest::{io, Form};
+    /// use noddychest::{io, Encoding};
     /// use std::io::Read;
-    /// let mut faults = io::faults(&b"\xEF\xBB\xBF\xFF"[..], Form::Utf8);
+    /// let mut faults = io::faults(&b"\xEF\xBB\xBF\xFF"[..], Encoding::Utf8);
     /// faults.get_mut().read_exact(&mut [0; 3])?; // past the byte order mark
     /// assert_eq!(faults.next().unwrap()?.range(), 0..1);
     /// # Ok::<(), std::io::Error>(())
@@ -224,8 +224,8 @@ impl<R> Faults<R> {
     /// The reader. What was read of it and not given yet is lost.
     ///
     /// ```
-    /// use noddychest::{io, Form};
-    /// assert_eq!(io::faults(&b"a"[..], Form::Utf8).into_inner(), b"a");
+    /// use noddychest::{io, Encoding};
+    /// assert_eq!(io::faults(&b"a"[..], Encoding::Utf8).into_inner(), b"a");
     /// ```
     #[must_use]
     pub fn into_inner(self) -> R {

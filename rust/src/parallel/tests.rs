@@ -1,7 +1,7 @@
-//! Shards of a few bytes, by more threads than there are processors: the answers are those of one.
+//! Shards of a few bytes, by more threads than there are CPUs: the results are those of one thread.
 
 use super::{at_once, check_by, recode_by, Line};
-use crate::{faults, io, recode, Form};
+use crate::{faults, io, recode, Encoding};
 use std::num::NonZeroUsize;
 use std::panic::{catch_unwind, AssertUnwindSafe};
 
@@ -29,12 +29,12 @@ fn damaged(state: &mut u64) -> Vec<u8> {
 
 fn hold(bytes: &[u8], jobs: usize, size: usize) {
     let jobs = NonZeroUsize::new(jobs);
-    for from in Form::ALL {
-        for to in Form::ALL {
+    for &from in Encoding::ALL {
+        for &to in Encoding::ALL {
             assert_eq!(recode_by(from, to, bytes, jobs, size), recode(from, to, bytes), "{from} {to} {size} {bytes:x?}");
         }
         let found = check_by(from, bytes, jobs, size).into_iter().map(|it| (it.range(), it.kind()));
-        if from == Form::Utf8 {
+        if from == Encoding::Utf8 {
             assert!(found.eq(faults(bytes).map(|it| (it.range(), it.kind()))), "{size} {bytes:x?}");
         } else {
             let want = io::faults(bytes, from).map(|it| it.expect("a slice gives its bytes"));
@@ -54,7 +54,7 @@ fn small_shards() {
     }
 }
 
-/// The same text at each place beside the end of a shard.
+/// A text at each offset near the end of a shard.
 #[test]
 fn every_place_of_a_character() {
     for at in 0..24 {
@@ -71,7 +71,7 @@ fn every_place_of_a_character() {
 #[test]
 fn a_panic_ends_all() {
     let bytes = [b'a'; 1000];
-    let line = Line::new(Form::Utf8, &bytes, 10, 0);
+    let line = Line::new(Encoding::Utf8, &bytes, 10, 0);
     let told = catch_unwind(AssertUnwindSafe(|| {
         at_once(4, || {
             while let Some(shard) = line.take() {

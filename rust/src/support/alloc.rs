@@ -1,7 +1,7 @@
-//! That memory was refused, and whom it was asked of.
+//! That an allocation failed, and whom it was asked of.
 use core::fmt;
 
-/// That memory was refused, or that a `usize` cannot count what was asked for.
+/// That an allocation failed, or that a `usize` cannot count what was asked for.
 ///
 /// ```
 /// # #[cfg(feature = "alloc")] {
@@ -10,7 +10,8 @@ use core::fmt;
 /// assert_eq!(table.unwrap().pieces().count(), 2);
 /// # }
 /// ```
-#[derive(Clone, Copy, Debug, PartialEq, Eq)]
+#[derive(Clone, Copy, Debug, PartialEq, Eq, Hash)]
+#[non_exhaustive]
 pub struct AllocError;
 
 impl fmt::Display for AllocError {
@@ -20,6 +21,14 @@ impl fmt::Display for AllocError {
 }
 
 impl core::error::Error for AllocError {}
+
+/// An error of the kind [`OutOfMemory`](std::io::ErrorKind::OutOfMemory).
+#[cfg(feature = "std")]
+impl From<AllocError> for std::io::Error {
+    fn from(error: AllocError) -> std::io::Error {
+        std::io::Error::new(std::io::ErrorKind::OutOfMemory, error)
+    }
+}
 
 /// Whom memory is asked of. Stable Rust has one, the global one, so this is a mark alone.
 pub trait Allocator {}

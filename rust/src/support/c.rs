@@ -4,13 +4,14 @@
 ///
 /// # Safety
 ///
-/// Where the length is not 0, the pointer is valid for so many to be read, and none of them changes while the slice lives.
+/// If the length is not 0, the pointer is aligned and valid for reads of `len` items, no more than an object of C may have, and nothing
+/// changes them while the slice lives.
 #[inline(always)]
 pub(crate) unsafe fn slice<'a, T>(from: *const T, len: usize) -> &'a [T] {
     if len == 0 {
         &[]
     } else {
-        // SAFETY: the caller says so.
+        // SAFETY: the caller gives a pointer that is aligned and valid for `len` items, which nothing changes meanwhile.
         unsafe { core::slice::from_raw_parts(from, len) }
     }
 }
@@ -19,14 +20,14 @@ pub(crate) unsafe fn slice<'a, T>(from: *const T, len: usize) -> &'a [T] {
 ///
 /// # Safety
 ///
-/// Where the length is not 0, the pointer is valid for so many to be written, and nothing else uses them while the slice lives. C's memory
-/// there may hold nothing yet: the proved text reads none of it before it has written it.
+/// If the length is not 0, the pointer is aligned and valid for writes of `len` items, no more than an object of C may have, and nothing
+/// else uses them while the slice lives. C's memory may be uninitialised: the proved text reads none of it before it has written it.
 #[inline(always)]
 pub(crate) unsafe fn room<'a, T>(from: *mut T, len: usize) -> &'a mut [T] {
     if len == 0 {
         &mut []
     } else {
-        // SAFETY: the caller says so.
+        // SAFETY: the caller gives a pointer that is aligned and valid for `len` items to be written, which nothing else uses meanwhile.
         unsafe { core::slice::from_raw_parts_mut(from, len) }
     }
 }
@@ -41,10 +42,10 @@ pub(crate) struct Lent<T> {
 impl<T> Lent<T> {
     /// # Safety
     ///
-    /// As for [`slice`].
+    /// If the length is not 0, the cursor's pointer is aligned and valid for reads of that many, and nothing changes them while the slice lives.
     #[inline(always)]
     pub(crate) unsafe fn slice<'a>(&self) -> &'a [T] {
-        // SAFETY: the caller says so.
+        // SAFETY: the caller gives a cursor whose pointer is valid for its length.
         unsafe { slice(self.from, self.len) }
     }
 
@@ -52,7 +53,7 @@ impl<T> Lent<T> {
     ///
     /// # Safety
     ///
-    /// What is left is a part of what this was.
+    /// What is left is a part of what the cursor had: so its pointer stays valid for its length.
     #[inline(always)]
     pub(crate) unsafe fn keep(&mut self, left: &[T]) {
         if self.len != 0 {
@@ -63,21 +64,22 @@ impl<T> Lent<T> {
 }
 
 /// `by_c!(f(parameters) -> answer)` is the function `f` for C, under the same name. A slice is a pointer and a length, and all else that is
-/// no number a pointer. What a call writes for C goes to a place of its own first, which is then copied whole: C's memory may hold nothing
-/// yet. What it may leave as it is, C has filled before; a reference goes there only where the call gave one.
-// It goes over the parameters, and has collected what C gives; what comes before the call; what the call gets; and what comes after it.
+/// no number a pointer. A call writes its outputs to local variables first, which are then copied as a whole: C's memory may be
+/// uninitialised. What it may leave as it is, C has initialised; a reference is written only if the call returned one.
+// It walks the parameters, and collects what C passes; what comes before the call; the call's arguments; and what comes after it.
 macro_rules! by_c {
     ($name:ident($($parameters:tt)*) $($answer:tt)*) => {
         $crate::support::c::by_c!(@ ($name $($answer)*) () () () () $($parameters)*,);
     };
     (@ $call:tt ($($takes:tt)*) $before:tt ($($gets:tt)*) $after:tt $name:ident: &[$item:ty], $($rest:tt)*) => {
         $crate::support::c::by_c!(@ $call ($($takes)* $name: *const $item, len: usize,) $before
-            // SAFETY: c/noddychest.h asks C for it.
+            // SAFETY: `c/noddychest.h` asks C for a pointer that is valid for as many items as the number after it says.
             ($($gets)* unsafe { $crate::support::c::slice($name, len) },) $after $($rest)*);
     };
     (@ $call:tt ($($takes:tt)*) $before:tt ($($gets:tt)*) $after:tt $name:ident: &mut [$item:ty], $($rest:tt)*) => {
         $crate::support::c::by_c!(@ $call ($($takes)* $name: *mut $item, len: usize,) $before
-            // SAFETY: c/noddychest.h asks C for it.
+            // SAFETY: `c/noddychest.h` asks C for a pointer to room for as many items as the number after it says, apart from all that the call
+            // reads.
             ($($gets)* unsafe { $crate::support::c::room($name, len) },) $after $($rest)*);
     };
     (@ $call:tt $takes:tt $before:tt $gets:tt $after:tt $name:ident: &mut usize, $($rest:tt)*) => {
@@ -88,7 +90,7 @@ macro_rules! by_c {
     };
     (@written $call:tt ($($takes:tt)*) ($($before:tt)*) ($($gets:tt)*) ($($after:tt)*) ($name:ident $kind:ident $($none:tt)*) $($rest:tt)*) => {
         $crate::support::c::by_c!(@ $call ($($takes)* $name: *mut $kind,) ($($before)* let mut written = $($none)*;) ($($gets)* &mut written,)
-            // SAFETY: c/noddychest.h asks C for room.
+            // SAFETY: `c/noddychest.h` asks C for a pointer, not NULL, to room for one such value, apart from what else the call writes.
             ($($after)* unsafe { $name.write(written) };) $($rest)*);
     };
     (@ $call:tt $takes:tt $before:tt $gets:tt $after:tt $name:ident: &mut &'static $text:ident, $($rest:tt)*) => {
@@ -98,7 +100,7 @@ macro_rules! by_c {
         $crate::support::c::by_c!(@ $call ($($takes)* $name: *mut &'static $text,)
             ($($before)* static NONE: $text = $text { text: [0; size_of::<$text>()] }; let mut given = &NONE;) ($($gets)* &mut given,)
             ($($after)* if !core::ptr::eq(given, &NONE) {
-                // SAFETY: c/noddychest.h asks C for room.
+                // SAFETY: `c/noddychest.h` asks C for a pointer, not NULL, to room for the address of a text.
                 unsafe { $name.write(given) };
             }) $($rest)*);
     };
@@ -110,17 +112,17 @@ macro_rules! by_c {
     };
     (@lent $call:tt ($($takes:tt)*) ($($before:tt)*) ($($gets:tt)*) ($($after:tt)*) ($name:ident $item:ident $kind:ident $field:ident) $($rest:tt)*) => {
         $crate::support::c::by_c!(@ $call ($($takes)* $name: *mut $crate::support::c::Lent<$item>,)
-            // SAFETY: c/noddychest.h asks C for it.
+            // SAFETY: `c/noddychest.h` asks C for a pointer, not NULL, to a cursor whose pointer is valid for its length.
             ($($before)* let mut lent = $kind { $field: unsafe { (*$name).slice() } };) ($($gets)* &mut lent,)
-            // SAFETY: what the call left is a part of it.
+            // SAFETY: the call passes bytes at the ends of the cursor's slice, and leaves a part of it.
             ($($after)* unsafe { (*$name).keep(lent.$field) };) $($rest)*);
     };
     (@ $call:tt ($($takes:tt)*) $before:tt ($($gets:tt)*) $after:tt $name:ident: &mut $kind:ident, $($rest:tt)*) => {
-        // SAFETY: c/noddychest.h asks C for it.
+        // SAFETY: `c/noddychest.h` asks C for a pointer, not NULL, to a struct that another call has filled, and that no other thread uses.
         $crate::support::c::by_c!(@ $call ($($takes)* $name: *mut $kind,) $before ($($gets)* unsafe { &mut *$name },) $after $($rest)*);
     };
     (@ $call:tt ($($takes:tt)*) $before:tt ($($gets:tt)*) $after:tt $name:ident: &$kind:ident, $($rest:tt)*) => {
-        // SAFETY: c/noddychest.h asks C for it.
+        // SAFETY: `c/noddychest.h` asks C for a pointer, not NULL, to a struct that another call has filled, and that nothing changes meanwhile.
         $crate::support::c::by_c!(@ $call ($($takes)* $name: *const $kind,) $before ($($gets)* unsafe { &*$name },) $after $($rest)*);
     };
     (@ $call:tt ($($takes:tt)*) $before:tt ($($gets:tt)*) $after:tt $name:ident: $kind:ident, $($rest:tt)*) => {
@@ -130,7 +132,7 @@ macro_rules! by_c {
         const _: () = {
             /// # Safety
             ///
-            /// What c/noddychest.h asks.
+            /// Each pointer is valid for what `c/noddychest.h` says of it.
             #[no_mangle]
             unsafe extern "C" fn $name($($takes)*) $($answer)* {
                 $($before)*

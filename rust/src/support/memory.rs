@@ -1,4 +1,4 @@
-//! Vectors and strings that are passed an allocator, and answer where memory is refused: std's own inside.
+//! Vectors and strings that are passed an allocator, and return an error if an allocation fails: std's own inside.
 use super::alloc::{AllocError, Allocator, Global};
 #[cfg(not(feature = "alloc"))]
 use super::no_memory::{String as StdString, Vec as StdVec};
@@ -6,7 +6,7 @@ use super::no_memory::{String as StdString, Vec as StdVec};
 use alloc::{string::String as StdString, vec::Vec as StdVec};
 use core::ops::{Deref, DerefMut};
 
-/// A vector of std, whose calls answer where memory is refused.
+/// A vector of std, whose calls return an error if an allocation fails.
 #[derive(Clone, Debug, PartialEq, Eq)]
 #[repr(C)]
 pub struct Vec<T, A = Global>(StdVec<T>, A);
@@ -54,7 +54,7 @@ impl<T, A: Allocator> Vec<T, A> {
         Ok(())
     }
 
-    /// Adds one at the end where a proof shows that there is room. Where there is none, std takes it.
+    /// Adds one at the end where a proof shows that there is room. If there is none, std takes it.
     #[inline(always)]
     pub(crate) fn push_reserved(&mut self, x: T) {
         self.0.push(x);
@@ -101,7 +101,8 @@ impl<T> Vec<T, Global> {
     /// std's own vector, borrowed for calls that add to it.
     #[inline(always)]
     pub(crate) fn of(v: &mut StdVec<T>) -> &mut Vec<T, Global> {
-        // SAFETY: the type is laid out as C has it: first that vector, and then what has no size and the alignment 1.
+        // SAFETY: `#[repr(C)]` lays this type out as its fields in turn: that vector, and `Global`, which has no size and the alignment 1. So both
+        // types have one layout, and each value of one is a value of the other.
         unsafe { &mut *core::ptr::from_mut(v).cast() }
     }
 }
@@ -145,7 +146,8 @@ impl String<Global> {
     /// std's own string, borrowed for calls that add to it.
     #[inline(always)]
     pub(crate) fn of(s: &mut StdString) -> &mut String<Global> {
-        // SAFETY: as for a vector.
+        // SAFETY: `#[repr(C)]` lays this type out as its fields in turn: that string, and `Global`, which has no size and the alignment 1. So both
+        // types have one layout, and each value of one is a value of the other.
         unsafe { &mut *core::ptr::from_mut(s).cast() }
     }
 }

@@ -11,14 +11,14 @@ pub(crate) mod memory;
 mod no_memory;
 pub(crate) mod processor;
 pub(crate) mod simd;
-#[cfg(feature = "trusted")]
+#[cfg(noddychest_trusted)]
 pub(crate) mod trust;
 
 // What is the same in Rust.
 #[allow(unused_imports)]
 pub(crate) use core::{array, ascii, borrow, char, cmp, convert, error, fmt, hash, iter, marker, mem, num, ops, slice, str};
 
-/// The same for the copy of the proved text for processors with AVX2: its vectors go by thirty-two bytes.
+/// The names of this module for the copy of the proved text for CPUs with AVX2: its vectors have 32 bytes.
 #[cfg(all(target_arch = "x86_64", target_feature = "sse2", feature = "std"))]
 #[allow(unused_imports)]
 pub(crate) mod wide {

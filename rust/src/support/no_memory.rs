@@ -1,4 +1,4 @@
-//! Vectors and strings of std where there is no memory to be had: each stays empty, and refuses all room that is asked for.
+//! Vectors and strings of std without an allocator: each stays empty, and every allocation fails.
 //!
 //! So the proved text is the same with `alloc` and without; what then always fails has no public name. What std does to a vector that has
 //! room, `memory.rs` asks for only after that room was granted: here it is never asked for more than nothing.

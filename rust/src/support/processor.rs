@@ -1,7 +1,7 @@
-//! Which of the two copies of the proved text goes over a long input: on x86-64 with std, where the processor has AVX2 and what came with
-//! it (x86-64-v3), the one that is compiled for that. Compiled with `--cfg noddychest_narrow`, there is one copy alone, for tests of it.
+//! Which of the two copies of the proved text goes over a long input: on x86-64 with std, if the CPU has AVX2 and what came with
+//! it (x86-64-v3), the one that is compiled for that. Compiled with `--cfg noddychest_narrow`, there is only one copy, for tests of it.
 
-/// Whether the processor has what the copy for x86-64-v3 takes: it is asked once.
+/// Whether the CPU has what the copy for x86-64-v3 takes: it is asked once.
 #[cfg(all(target_arch = "x86_64", target_feature = "sse2", feature = "std", not(noddychest_narrow)))]
 #[inline(always)]
 pub(crate) fn is_wide() -> bool {
@@ -30,10 +30,10 @@ pub(crate) fn is_wide() -> bool {
     false
 }
 
-/// The fewest bytes for which the processor is asked.
+/// The fewest bytes for which the CPU is asked.
 pub(crate) const LONG: usize = 64;
 
-/// Where the input is long and the processor has it, the function that this stands in answers what the copy of it for x86-64-v3 does.
+/// In a function: if the input is long and the CPU supports it, returns the result of the function's copy for x86-64-v3.
 macro_rules! wide {
     ($len:expr, $answer:expr) => {
         #[cfg(all(target_arch = "x86_64", target_feature = "sse2", feature = "std", not(noddychest_narrow)))]
@@ -46,25 +46,26 @@ macro_rules! wide {
 }
 pub(crate) use wide;
 
-/// A call of what is compiled for that processor.
+/// A call of what is compiled for that CPU.
 #[cfg(all(target_arch = "x86_64", target_feature = "sse2", feature = "std", not(noddychest_narrow)))]
 macro_rules! apart {
     ($call:expr) => {
-        // SAFETY: only the copy for that processor has such calls, and who comes into it has asked.
+        // SAFETY: what it calls is compiled for AVX2. Only the copy of the proved text for such a CPU has such calls, and each call that
+        // leads into that copy asks the CPU first, by the macro `wide!`.
         unsafe { $call }
     };
 }
 #[cfg(all(target_arch = "x86_64", target_feature = "sse2", feature = "std", not(noddychest_narrow)))]
 pub(crate) use apart;
 
-/// Whether the library for C runs on this processor: always.
+/// Whether the library for C runs on this CPU: always.
 #[cfg(feature = "c")]
 #[export_name = "nody_supported"]
 extern "C" fn supported() -> i32 {
     1
 }
 
-/// How many lanes the calls go by that validate, count and recode.
+/// The vector width, in lanes, of the calls that validate, count and transcode.
 #[cfg(feature = "c")]
 #[export_name = "nody_lanes"]
 extern "C" fn lanes() -> i32 {

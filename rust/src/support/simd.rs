@@ -1,16 +1,16 @@
-//! Vectors of lanes, as Rattle's `std::simd` has them, on stable Rust.
+//! SIMD vectors, as Rattle's `std::simd` has them, on stable Rust.
 //!
-//! A vector is an array, and a call goes over it by blocks of sixteen bytes: through the vectors of the processor, where the target has those
-//! that are needed, and else lane by lane, as in kernels, which are compiled for no registers of vectors. The calls that the proofs ask for
-//! are those of Rattle's std, at the conditions that are asserted here in debug: all lanes are shifted by the same number, and a place of
+//! A vector is an array, and a call scans it in blocks of sixteen bytes: through the vectors of the CPU, if the target has those
+//! that are needed, and otherwise lane by lane, as in kernels, which are compiled without vector registers. The calls that the proofs need
+//! are those of Rattle's std, under the conditions that are asserted here in debug: all lanes are shifted by the same number, and an index of
 //! sixteen is below 16 or from 128 on.
 //!
-//! On x86-64 there is a second set of these types, in `wide`, whose calls go by thirty-two bytes where a vector has as many: for the copy
-//! of the proved text that runs where the processor has AVX2.
+//! On x86-64 there is a second set of these types, in `wide`, whose calls use blocks of thirty-two bytes if a vector is long enough: for the
+//! copy of the proved text that runs if the CPU has AVX2.
 #![allow(non_camel_case_types)]
 use core::ops::{Add, BitAnd, BitOr, BitXor, Shl, Shr};
 
-// Calls of the modules below, each put in line: what it takes, and what it makes of that.
+// Functions of the modules below, each inlined: the parameters, and the result.
 #[cfg(any(test, not(target_arch = "wasm32"), not(target_feature = "simd128")))]
 macro_rules! calls {
     ($($(#[$doc:meta])* $name:ident($($a:ident: $kind:ty),*) -> $out:ty = $made:expr;)*) => { $(
@@ -31,7 +31,8 @@ macro_rules! instructions {
     ($($name:ident = $by:ident;)*) => {
         calls! { $(
             $name(a: Block, b: Block) -> Block = {
-                // SAFETY: see the module.
+                // SAFETY: an instruction on two registers: of SSE2, which each x86-64 has, of NEON, which each ARM64 has, or of AVX2 in the
+                // module that only code calls which has asked the CPU.
                 unsafe { $by(a, b) }
             };
         )* }
@@ -44,13 +45,17 @@ macro_rules! others_of_x86 {
     ($and_not:ident, $high_bits:ident, $splat:ident, $left:ident, $right:ident) => {
         calls! {
             select(mask: Block, a: Block, b: Block) -> Block = or(and(mask, a), and_not(mask, b));
-            // SAFETY: see the module.
+            // SAFETY: an instruction on a register: of SSE2, which each x86-64 has, or of AVX2 in the module that only code calls which has asked
+            // the CPU.
             high_bits(a: Block) -> u64 = u64::from(unsafe { $high_bits(a) } as u32);
-            // SAFETY: see the module.
+            // SAFETY: an instruction that fills a register: of SSE2, which each x86-64 has, or of AVX2 in the module that only code calls which has
+            // asked the CPU.
             splat(a: u8) -> Block = unsafe { $splat(a as i8) };
-            // SAFETY: see the module.
+            // SAFETY: a shift of a register, by any number: of SSE2, which each x86-64 has, or of AVX2 in the module that only code calls which has
+            // asked the CPU.
             right(a: Block, n: u8) -> Block = and(unsafe { $right(a, _mm_cvtsi32_si128(i32::from(n))) }, splat((0xFF_u32 >> n) as u8));
-            // SAFETY: see the module.
+            // SAFETY: a shift of a register, by any number: of SSE2, which each x86-64 has, or of AVX2 in the module that only code calls which has
+            // asked the CPU.
             left(a: Block, n: u8) -> Block = and(unsafe { $left(a, _mm_cvtsi32_si128(i32::from(n))) }, splat((0xFF_u32 << n) as u8));
         }
         instructions! {
@@ -92,7 +97,7 @@ use neon as by;
 use simd128 as by;
 #[cfg(all(target_arch = "x86_64", target_feature = "sse2"))]
 use sse2 as by;
-// Elsewhere nothing is of the second set, and what it would go by is only named.
+// Elsewhere no type is of the second set, and its blocks are only named.
 #[cfg(all(target_arch = "x86_64", target_feature = "sse2"))]
 use avx2 as by_32;
 #[cfg(not(all(target_arch = "x86_64", target_feature = "sse2")))]
@@ -119,7 +124,7 @@ pub(crate) mod wide {
     names!(true);
 }
 
-/// So many lanes. `BY_32` tells the two sets apart.
+/// A vector of `N` lanes. `BY_32` is true in the second set of types.
 #[derive(Clone, Copy)]
 #[repr(transparent)]
 pub struct Simd<T, const N: usize, const BY_32: bool = false>([T; N]);
@@ -132,13 +137,29 @@ pub struct Mask<T, const N: usize, const BY_32: bool = false>([T; N]);
 use by::Block;
 use by_32::Block as Block32;
 
+const _: () = assert!(size_of::<Block>() == 16);
+
+/// What a lane may be.
+///
+/// # Safety
+///
+/// Any bits are a value of the type, and each of its bytes has a value: none is padding.
+pub unsafe trait Lane: Copy {}
+
+// SAFETY: any eight bits are a `u8`.
+unsafe impl Lane for u8 {}
+// SAFETY: any sixteen bits are a `u16`.
+unsafe impl Lane for u16 {}
+// SAFETY: any bits are sixteen bytes, which lie beside one another.
+unsafe impl Lane for [u8; 16] {}
+
 #[inline(always)]
 fn block_of(bytes: &[u8; 16]) -> Block {
-    // SAFETY: sixteen bytes are there, and a block takes any bits.
+    // SAFETY: the array has sixteen bytes, a block has as many and takes any bits, and the address need not be aligned.
     unsafe { bytes.as_ptr().cast::<Block>().read_unaligned() }
 }
 
-/// That all lanes are shifted by the same number, below that one. (Apart, since it stands in each place that shifts.)
+/// Tests that all lanes are shifted by the same number, below `end`. (The test is outlined, since each shift has this call.)
 #[inline(always)]
 fn is_one_shift<T: Copy + PartialEq + Into<u32>>(by: &[T], end: u32) {
     #[inline(never)]
@@ -153,9 +174,9 @@ fn is_one_shift<T: Copy + PartialEq + Into<u32>>(by: &[T], end: u32) {
 /// What is there, as the proofs say of each slice that a vector is taken of or put in: so it is not tested in the trusted mode.
 #[inline(always)]
 fn surely<T>(it: Option<T>) -> T {
-    #[cfg(feature = "trusted")]
+    #[cfg(noddychest_trusted)]
     return crate::support::trust::ByProof::by_proof(it);
-    #[cfg(not(feature = "trusted"))]
+    #[cfg(not(noddychest_trusted))]
     it.unwrap()
 }
 
@@ -222,17 +243,20 @@ impl<const M: usize, const N: usize, P: Places<M>> Rows<M, N, P> {
     };
 }
 
-// The blocks of a vector, those past its end being 0.
-impl<T: Copy, const N: usize, const BY_32: bool> Simd<T, N, BY_32> {
+// The blocks of a vector; what a block has past the end of the vector is 0.
+impl<T: Lane, const N: usize, const BY_32: bool> Simd<T, N, BY_32> {
     #[inline(always)]
     fn block(&self, k: usize) -> Block {
+        assert!(k < Self::BLOCKS);
         let size = size_of::<[T; N]>();
         if 16 * k + 16 <= size {
-            // SAFETY: sixteen bytes are there, and a block takes any bits.
+            // SAFETY: the lanes have `size` bytes, of which sixteen begin at `16 * k`; each has a value (`Lane`), a block takes any bits, and
+            // the address need not be aligned.
             unsafe { self.0.as_ptr().cast::<u8>().add(16 * k).cast::<Block>().read_unaligned() }
         } else {
             let mut few = [0u8; 16];
-            // SAFETY: so many bytes are there, fewer than sixteen.
+            // SAFETY: the lanes have `size` bytes, and `16 * k` is below it since `k` is below `BLOCKS`: fewer than sixteen are left, and each has a
+            // value (`Lane`). The array on the stack is apart from the lanes, and has room for sixteen.
             unsafe { core::ptr::copy_nonoverlapping(self.0.as_ptr().cast::<u8>().add(16 * k), few.as_mut_ptr(), size - 16 * k) };
             block_of(&few)
         }
@@ -240,12 +264,15 @@ impl<T: Copy, const N: usize, const BY_32: bool> Simd<T, N, BY_32> {
 
     #[inline(always)]
     fn put(&mut self, k: usize, block: Block) {
+        assert!(k < Self::BLOCKS);
         let size = size_of::<[T; N]>();
         if 16 * k + 16 <= size {
-            // SAFETY: there is room for sixteen bytes, and lanes take any bits.
+            // SAFETY: the lanes have `size` bytes, of which sixteen begin at `16 * k`; lanes take any bits (`Lane`), and the address need not be
+            // aligned.
             unsafe { self.0.as_mut_ptr().cast::<u8>().add(16 * k).cast::<Block>().write_unaligned(block) }
         } else {
-            // SAFETY: there is room for so many bytes, fewer than sixteen.
+            // SAFETY: the lanes have `size` bytes, and `16 * k` is below it since `k` is below `BLOCKS`: fewer than sixteen are left, and lanes take any
+            // bits (`Lane`). The block is apart from the lanes, and has sixteen bytes.
             unsafe {
                 core::ptr::copy_nonoverlapping(
                     core::ptr::addr_of!(block).cast::<u8>(),
@@ -258,21 +285,24 @@ impl<T: Copy, const N: usize, const BY_32: bool> Simd<T, N, BY_32> {
 
     const BLOCKS: usize = size_of::<[T; N]>().div_ceil(16);
 
-    // How many blocks of thirty-two bytes a vector is: none where it goes by sixteen.
+    // How many blocks of thirty-two bytes a vector is: none if it uses blocks of sixteen.
     const BLOCKS_32: usize =
         if BY_32 && size_of::<[T; N]>() % size_of::<Block32>() == 0 { size_of::<[T; N]>() / size_of::<Block32>() } else { 0 };
 
     #[inline(always)]
     fn block_32(&self, k: usize) -> Block32 {
         assert!(k < Self::BLOCKS_32);
-        // SAFETY: so many bytes are there, and a block takes any bits.
+        debug_assert!(crate::support::processor::is_wide());
+        // SAFETY: the lanes have `BLOCKS_32` blocks, and `k` is below that; each byte has a value (`Lane`), a block takes any bits, and the address
+        // need not be aligned.
         unsafe { self.0.as_ptr().cast::<Block32>().add(k).read_unaligned() }
     }
 
     #[inline(always)]
     fn put_32(&mut self, k: usize, block: Block32) {
         assert!(k < Self::BLOCKS_32);
-        // SAFETY: there is room for so many bytes, and lanes take any bits.
+        debug_assert!(crate::support::processor::is_wide());
+        // SAFETY: the lanes have `BLOCKS_32` blocks, and `k` is below that; lanes take any bits (`Lane`), and the address need not be aligned.
         unsafe { self.0.as_mut_ptr().cast::<Block32>().add(k).write_unaligned(block) }
     }
 
@@ -302,7 +332,7 @@ impl<T: Copy, const N: usize, const BY_32: bool> Simd<T, N, BY_32> {
     }
 }
 
-// A vector of what is said of the blocks of two, at either width. (No closure: it would be compiled for any processor. And no loop where
+// A vector of what is said of the blocks of two, at either width. (No closure: it would be compiled for any CPU. And no loop where
 // there is one block: a compiler would have to take it away each time.)
 macro_rules! each {
     ($one:expr, $two:expr, |$a:ident, $b:ident| $made:expr) => {{
@@ -337,7 +367,7 @@ macro_rules! each {
 
 macro_rules! by_bits {
     ($($tr:ident $call:ident $by:ident),*) => { $(
-        impl<T: Copy, const N: usize, const BY_32: bool> $tr for Simd<T, N, BY_32> {
+        impl<T: Lane, const N: usize, const BY_32: bool> $tr for Simd<T, N, BY_32> {
             type Output = Self;
             #[inline(always)]
             fn $call(self, other: Self) -> Self {
@@ -392,7 +422,7 @@ impl<const N: usize, const BY_32: bool> Simd<u8, N, BY_32> {
         simd_lt -> Mask: |a, b| xor(eq(max(a, b), a), splat(255));
     }
 
-    /// What stands at each place, of sixteen: no place is from 16 to 127, and from 128 on it is 0.
+    /// The byte at each index below 16, and 0 for an index of 128 or more. No index is from 16 to 127.
     #[inline(always)]
     pub fn swizzle_dyn(self, places: Self) -> Self {
         const { assert!(N == 16) };
@@ -402,7 +432,7 @@ impl<const N: usize, const BY_32: bool> Simd<u8, N, BY_32> {
         out
     }
 
-    /// The same in each sixteen lanes.
+    /// `swizzle_dyn` within each 16 lanes.
     #[inline(always)]
     pub fn swizzle_dyn_within<const K: usize>(self, places: Self) -> Self {
         const { assert!(K == 16) };
@@ -415,6 +445,7 @@ impl<const N: usize, const BY_32: bool> Simd<u8, N, BY_32> {
     fn at(a: Block, places: Block) -> Block {
         #[cfg(all(target_arch = "x86_64", target_feature = "sse2"))]
         if BY_32 {
+            debug_assert!(crate::support::processor::is_wide());
             return by_32::at_16(a, places);
         }
         by::at(a, places)
@@ -524,12 +555,12 @@ impl<const BY_32: bool> ToBytes for Simd<u16, 8, BY_32> {
         for lane in &mut bytes {
             *lane = lane.to_le();
         }
-        // SAFETY: eight lanes of two bytes are sixteen bytes, and a byte takes any bits.
+        // SAFETY: eight lanes of two bytes are sixteen bytes, each of which has a value, and a byte takes any bits.
         Simd(unsafe { core::mem::transmute::<[u16; 8], [u8; 16]>(bytes) })
     }
 }
 
-impl<T: Copy, const N: usize, const BY_32: bool> Mask<T, N, BY_32> {
+impl<T: Lane, const N: usize, const BY_32: bool> Mask<T, N, BY_32> {
     const BLOCKS: usize = Simd::<T, N, BY_32>::BLOCKS;
     const BLOCKS_32: usize = Simd::<T, N, BY_32>::BLOCKS_32;
 

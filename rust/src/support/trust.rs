@@ -3,7 +3,7 @@
 //! With debug assertions each is tested all the same.
 use core::ops::{Index, IndexMut, Range, RangeFrom, RangeFull, RangeInclusive, RangeTo};
 
-/// A place, or a range of places, that is in bounds. Of text it is also at boundaries of characters.
+/// An index, or a range, that is in bounds. Of text it is also at boundaries of characters.
 pub(crate) struct At<I>(pub(crate) I);
 
 macro_rules! places {
@@ -14,7 +14,7 @@ macro_rules! places {
             #[track_caller]
             fn index(&self, at: At<$kind>) -> &Self::Output {
                 debug_assert!(self.get(at.0.clone()).is_some());
-                // SAFETY: the proved text uses it, where a goal of its proof says that the place is in bounds.
+                // SAFETY: only the trusted copy of the proved text uses it, in places of which a goal of its proof says that they are in bounds.
                 unsafe { self.get_unchecked(at.0) }
             }
         }
@@ -23,7 +23,8 @@ macro_rules! places {
             #[track_caller]
             fn index_mut(&mut self, at: At<$kind>) -> &mut Self::Output {
                 debug_assert!(self.get(at.0.clone()).is_some());
-                // SAFETY: as above.
+                // SAFETY: only the trusted copy of the proved text writes by it, in places of which a goal of its proof says that they are in
+                // bounds.
                 unsafe { self.get_unchecked_mut(at.0) }
             }
         }
@@ -39,7 +40,8 @@ macro_rules! spans {
             #[track_caller]
             fn index(&self, at: At<$kind>) -> &str {
                 debug_assert!(self.get(at.0.clone()).is_some());
-                // SAFETY: as above; the goal also says that a character begins or ends there.
+                // SAFETY: only the trusted copy of the proved text uses it, where a goal of its proof says that the place is in bounds, and that a
+                // character begins or ends there.
                 unsafe { self.get_unchecked(at.0) }
             }
         }
@@ -57,7 +59,7 @@ impl<T> ByProof<T> for Option<T> {
     #[track_caller]
     fn by_proof(self) -> T {
         debug_assert!(self.is_some());
-        // SAFETY: the proved text uses it, where a goal of its proof says that there is a value.
+        // SAFETY: only the trusted copy of the proved text uses it, where a goal of its proof says that the option has a value.
         unsafe { self.unwrap_unchecked() }
     }
 }
@@ -67,7 +69,7 @@ impl<T, E> ByProof<T> for Result<T, E> {
     #[track_caller]
     fn by_proof(self) -> T {
         debug_assert!(self.is_ok());
-        // SAFETY: as above.
+        // SAFETY: only the trusted copy of the proved text uses it, where a goal of its proof says that the result is no error.
         unsafe { self.unwrap_unchecked() }
     }
 }
@@ -79,6 +81,6 @@ pub(crate) fn never() -> ! {
     if cfg!(debug_assertions) {
         unreachable!();
     }
-    // SAFETY: the proved text uses it, where a goal of its proof says that it is not reached.
+    // SAFETY: only the trusted copy of the proved text calls it, where a goal of its proof says that the call is not reached.
     unsafe { core::hint::unreachable_unchecked() }
 }

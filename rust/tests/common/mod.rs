@@ -1,7 +1,7 @@
 //! Inputs: damaged text, by a generator that gives the same on each run; and what std and the table of errors say of them.
 #![allow(dead_code)]
 
-use noddychest::{FaultKind, Form};
+use noddychest::{Encoding, FaultKind};
 
 /// Steps of splitmix64.
 pub struct Chance(pub u64);
@@ -77,7 +77,7 @@ pub fn of_hex(text: &str) -> Vec<u8> {
     digits.chunks(2).map(|pair| (pair[0] * 16 + pair[1]) as u8).collect()
 }
 
-/// How the end of UTF-8 is judged: as that of a slice, or as by who gets a byte at a time, whom a broken sequence tells first.
+/// How an error at the end of UTF-8 is named: as in a slice, or as by a reader of one byte at a time, who first sees the byte that breaks it.
 #[derive(Clone, Copy, PartialEq)]
 pub enum End {
     OfSlice,
@@ -139,11 +139,11 @@ pub fn of_units(units: &[u16]) -> Vec<Told> {
     out
 }
 
-/// The pieces of bytes in any form; offsets and lengths count bytes.
-pub fn of_form(form: Form, bytes: &[u8], end: End) -> Vec<Told> {
-    let unit = match form {
-        Form::Utf8 => return of_utf8(bytes, end),
-        Form::Utf16Le => u16::from_le_bytes,
+/// The pieces of bytes in any encoding; offsets and lengths count bytes.
+pub fn of_encoding(encoding: Encoding, bytes: &[u8], end: End) -> Vec<Told> {
+    let unit = match encoding {
+        Encoding::Utf8 => return of_utf8(bytes, end),
+        Encoding::Utf16Le => u16::from_le_bytes,
         _ => u16::from_be_bytes,
     };
     let units: Vec<u16> = bytes.chunks_exact(2).map(|it| unit([it[0], it[1]])).collect();
@@ -154,13 +154,13 @@ pub fn of_form(form: Form, bytes: &[u8], end: End) -> Vec<Told> {
     out
 }
 
-/// Damaged text of a form: at most about `most` bytes of UTF-8, or units.
-pub fn text_of(form: Form, chance: &mut Chance, most: usize) -> Vec<u8> {
-    let mut out = match form {
-        Form::Utf8 => chance.bytes(most),
-        Form::Utf16Le => chance.units(most).into_iter().flat_map(u16::to_le_bytes).collect(),
-        Form::Utf16Be => chance.units(most).into_iter().flat_map(u16::to_be_bytes).collect(),
-        _ => unreachable!("{form} is new"),
+/// Damaged text of an encoding: at most about `most` bytes of UTF-8, or units.
+pub fn text_of(encoding: Encoding, chance: &mut Chance, most: usize) -> Vec<u8> {
+    let mut out = match encoding {
+        Encoding::Utf8 => chance.bytes(most),
+        Encoding::Utf16Le => chance.units(most).into_iter().flat_map(u16::to_le_bytes).collect(),
+        Encoding::Utf16Be => chance.units(most).into_iter().flat_map(u16::to_be_bytes).collect(),
+        _ => unreachable!("{encoding} is new"),
     };
     if chance.below(4) == 0 {
         out.pop();
@@ -168,30 +168,30 @@ pub fn text_of(form: Form, chance: &mut Chance, most: usize) -> Vec<u8> {
     out
 }
 
-pub fn encoded(form: Form, text: impl Iterator<Item = char>) -> Vec<u8> {
+pub fn encoded(encoding: Encoding, text: impl Iterator<Item = char>) -> Vec<u8> {
     let text: String = text.collect();
-    match form {
-        Form::Utf8 => text.into_bytes(),
-        Form::Utf16Le => text.encode_utf16().flat_map(u16::to_le_bytes).collect(),
-        Form::Utf16Be => text.encode_utf16().flat_map(u16::to_be_bytes).collect(),
-        _ => unreachable!("{form} is new"),
+    match encoding {
+        Encoding::Utf8 => text.into_bytes(),
+        Encoding::Utf16Le => text.encode_utf16().flat_map(u16::to_le_bytes).collect(),
+        Encoding::Utf16Be => text.encode_utf16().flat_map(u16::to_be_bytes).collect(),
+        _ => unreachable!("{encoding} is new"),
     }
 }
 
 /// Long stretches of text, of one kind of character each, with a little damage between them.
-pub fn long_text_of(form: Form, chance: &mut Chance, len: usize) -> Vec<u8> {
+pub fn long_text_of(encoding: Encoding, chance: &mut Chance, len: usize) -> Vec<u8> {
     let mut out = Vec::new();
     while out.len() < len {
         let stretch = chance.below(300);
         match chance.below(3) {
-            0 => out.extend(encoded(form, (0..stretch).map(|k| char::from(b' ' + (k % 90) as u8)))),
+            0 => out.extend(encoded(encoding, (0..stretch).map(|k| char::from(b' ' + (k % 90) as u8)))),
             _ => {
                 let text: String = (0..stretch / 3).map(|_| chance.char()).collect();
-                out.extend(encoded(form, text.chars()));
+                out.extend(encoded(encoding, text.chars()));
             }
         }
         let most = chance.below(5);
-        out.extend(text_of(form, chance, most));
+        out.extend(text_of(encoding, chance, most));
     }
     out
 }

@@ -11,8 +11,7 @@ use utf_base::errors::{Utf8Error, Utf8ErrorKind};
 use utf_base::table::{State, class_of, step};
 use utf_chars::utf8_char::Utf8Char;
 
-/// The character whose code ends the bytes, and how many bytes the code has, else what is wrong with the
-/// last byte.
+/// The character whose code ends the bytes, and the length of the code, otherwise the fault of the last byte.
 #[inline(always)]
 #[tactic(auto, using(utf_base::proofs::BackLemmas::last_four_decide, crate::proofs::ScanLemmas::last_four, crate::proofs::ScanLemmas::last_four_scanned))]
 pub(crate) fn decode_end(bytes: &[u8], steps: &mut Steps) -> Result<(Utf8Char, usize), Utf8Error>
@@ -31,7 +30,7 @@ pub(crate) fn decode_end(bytes: &[u8], steps: &mut Steps) -> Result<(Utf8Char, u
     )
 }
 
-// The same of fewer than four bytes. They are few of all, and it is out of line: so the way of the others is short.
+// Decodes the end of fewer than four bytes. This is rare, and outlined: so the path of longer inputs is short.
 #[cold]
 #[inline(never)]
 fn decode_few(bytes: &[u8], steps: &mut Steps) -> Result<(Utf8Char, usize), Utf8Error>
@@ -57,9 +56,9 @@ fn padded(bytes: &[u8]) -> [u8; 4]
     }
 }
 
-// The scan itself. `bytes` are the last four bytes, with 00 for each place that is not there, and `count` is
-// how many are there: so there is nothing else that it could look at. It looks at one byte after another, from
-// the last one on, and ticks once for each, until one is no continuation byte or none is left.
+// Scans four bytes from the end. `bytes` are the last four, with 00 for each that does not exist, and `count`
+// is how many exist. It reads one byte after another, from the last one on, and ticks once for each, until one
+// is no continuation byte or none is left.
 #[inline(always)]
 fn scan(bytes: [u8; 4], count: usize, steps: &mut Steps) -> Result<(Utf8Char, usize), Utf8Error>
     requires some { 1 ≤ count }
@@ -92,8 +91,8 @@ fn scan(bytes: [u8; 4], count: usize, steps: &mut Steps) -> Result<(Utf8Char, us
     four_or_unexpected(bytes)
 }
 
-// The character whose code the two bytes are, else the error of a continuation byte. A first byte of two leads to one
-// state.
+// The character whose code the two bytes are, otherwise the error of a continuation byte. A lead byte of two leads
+// to a single state.
 #[inline(always)]
 fn two_or_unexpected(first: u8, second: u8) -> Result<(Utf8Char, usize), Utf8Error>
     ensures { IsWholeOrUnexpected (first ∷ second ∷ []) result }
@@ -108,7 +107,7 @@ fn two_or_unexpected(first: u8, second: u8) -> Result<(Utf8Char, usize), Utf8Err
     Ok((c, 2))
 }
 
-// The same of three bytes.
+// The character whose code the three bytes are, otherwise the error of a continuation byte.
 #[inline(always)]
 #[tactic(auto, using(utf_chars::proofs::Walked::second_runs))]
 fn three_or_unexpected(first: u8, second: u8, third: u8) -> Result<(Utf8Char, usize), Utf8Error>
@@ -129,7 +128,7 @@ fn three_or_unexpected(first: u8, second: u8, third: u8) -> Result<(Utf8Char, us
     Ok((c, 3))
 }
 
-// The same of four.
+// The character whose code the four bytes are, otherwise the error of a continuation byte.
 #[inline(always)]
 #[tactic(auto, using(utf_chars::proofs::Walked::second_runs))]
 fn four_or_unexpected(bytes: [u8; 4]) -> Result<(Utf8Char, usize), Utf8Error>

@@ -1,24 +1,24 @@
-//! What an edit changes of the pieces of a text.
+//! The pieces of a text that an edit changes.
 use crate::buffers::counts::Counts;
 
-/// What an edit changed, so that a view repaints that alone. All before `offset` is as it was. The
-/// pieces after those that came are the old ones after those that went, each at another offset.
+/// The effect of an edit, so that a view repaints only that. Everything before `offset` is as it was. The
+/// pieces after the new ones are those that followed the removed ones, each at another offset.
 ///
-/// For one letter in place of another this is about seven bytes: whether a byte is invalid, and why,
-/// may depend on the three after it.
+/// If one letter replaces another this is about seven bytes: whether a byte is invalid, and why, may depend
+/// on the three after it.
 #[derive(Clone, Copy, Debug, PartialEq, Eq, Drop)]
 pub struct Change {
-    /// Where the first piece begins that may have changed.
+    /// The offset of the first piece that may have changed.
     pub offset: usize,
-    /// How many pieces are before it.
+    /// The number of pieces before it.
     pub number: usize,
-    /// What went: so many bytes and pieces from there on.
+    /// The counts of the removed bytes and pieces from there on.
     pub gone: Counts,
-    /// What came in their place.
+    /// The counts of the bytes and pieces that replaced them.
     pub come: Counts,
 }
 
-// What was counted anew from a place on, and what had been counted there.
+// The previous and new counts of a window that was counted anew, and its offset.
 #[derive(Clone, Copy, Drop)]
 pub(crate) struct Recount {
     pub place: usize,

@@ -1,4 +1,4 @@
-//! A part of a text, of which is known what it counts.
+//! A part of a text, with its counts.
 ghost use Rattle.std.specs.List.{splice};
 ghost use Rattle.std.specs.Prelude.{◌≡◌, ◌+◌, ◌-◌, ◌≤◌, length, min, IfOk, OnOk, OnErr};
 ghost use Rattle.text_buffers.specs.Changes.{IsRecount};
@@ -8,12 +8,12 @@ ghost use Rattle.text_runs.specs.PieceBoundaries.{IsFirstBetween, IsLastBetween}
 
 use crate::buffers::changes::Recount;
 use crate::buffers::counts::Counts;
-use crate::piece_table::splice_in;
+use crate::lists::splice_in;
 use std::alloc::{AllocError, Allocator};
 use std::marker::Model;
 use text_runs::boundaries::{ceil, floor};
 
-// Bytes, and what they count.
+// Bytes, and their counts.
 #[derive(Drop)]
 pub struct Chunk<A: Allocator> {
     bytes: Vec<u8, A>,
@@ -32,7 +32,7 @@ impl<A: Allocator> Model for Chunk<A> {
 }
 
 impl<A: Allocator> Chunk<A> {
-    // One of a copy of the bytes, with room for so many.
+    // A chunk of a copy of the bytes, with capacity for `room` bytes.
     pub fn of(alloc: A, bytes: &[u8], room: usize) -> Result<Chunk<A>, AllocError>
         ensures { IfOk result (λ chunk. chunk ≡ bytes.now) }
     {
@@ -44,7 +44,7 @@ impl<A: Allocator> Chunk<A> {
         })
     }
 
-    // One of bytes that are counted.
+    // A chunk of bytes whose counts are known.
     pub fn of_counted(bytes: Vec<u8, A>, counts: Counts) -> Chunk<A>
         requires { counts ≡ counts_of bytes.items }
         ensures { result ≡ bytes.items }
@@ -59,14 +59,14 @@ impl<A: Allocator> Chunk<A> {
         self.bytes.as_slice()
     }
 
-    // How many these are.
+    // The length in bytes.
     pub fn len(&self) -> usize
         ensures { result ≡ length self.now }
     {
         self.bytes.len()
     }
 
-    // What the bytes count.
+    // The counts of the bytes.
     pub fn counts(&self) -> Counts
         ensures { result ≡ counts_of self.now }
     {
@@ -74,8 +74,8 @@ impl<A: Allocator> Chunk<A> {
         *counts
     }
 
-    // Replaces the bytes from `start` up to `end` by `new`. It counts anew only those near to these, and says what it counted.
-    // On an error all is as it was.
+    // Replaces the bytes from `start` up to `end` by `new`. It recounts only the bytes near these, and returns both
+    // counts. On an error the chunk is as it was.
     pub fn replace(&mut self, start: usize, end: usize, new: &[u8]) -> Result<Recount, AllocError>
         requires ordered { start ≤ end }
         requires within { end ≤ length self.old }
@@ -83,41 +83,21 @@ impl<A: Allocator> Chunk<A> {
         ensures recount { IfOk result (λ r. IsRecount self.old self.new start end r.place r.gone r.come) }
         ensures err { OnErr result (self.new ≡ self.old) }
     {
-        replace_counted(&mut self.bytes, &mut self.counts, start, end, new)
+        let held = self.bytes.as_slice();
+        let window = window_of(held, start, end);
+        let rest = held.len() - window.until;
+        let gone = Counts::of(&held[window.from..window.until]);
+        splice_in(&mut self.bytes, start, end, new)?;
+        let now = self.bytes.as_slice();
+        let until = now.len() - rest;
+        let come = Counts::of(&now[window.from..until]);
+        self.counts = self.counts.exchange(gone, come);
+        Ok(Recount {
+            place: window.from,
+            gone,
+            come,
+        })
     }
-}
-
-// Replaces a part of the bytes, and counts anew only those near to it.
-fn replace_counted<A: Allocator>(
-    bytes: &mut Vec<u8, A>,
-    counts: &mut Counts,
-    start: usize,
-    end: usize,
-    new: &[u8],
-) -> Result<Recount, AllocError>
-    requires ordered { start ≤ end }
-    requires within { end ≤ length bytes.old.items }
-    requires counted { counts.old ≡ counts_of bytes.old.items }
-    ensures ok { OnOk result (bytes.new.items ≡ splice bytes.old.items start end new.now) }
-    ensures recount { IfOk result (λ r.
-        IsRecount bytes.old.items bytes.new.items start end r.place r.gone r.come) }
-    ensures err { OnErr result (bytes.new.items ≡ bytes.old.items) }
-    ensures counted { counts.new ≡ counts_of bytes.new.items }
-{
-    let held = bytes.as_slice();
-    let window = window_of(held, start, end);
-    let rest = held.len() - window.until;
-    let gone = Counts::of(&held[window.from..window.until]);
-    splice_in(bytes, start, end, new)?;
-    let now = bytes.as_slice();
-    let until = now.len() - rest;
-    let come = Counts::of(&now[window.from..until]);
-    *counts = counts.exchange(gone, come);
-    Ok(Recount {
-        place: window.from,
-        gone,
-        come,
-    })
 }
 
 // The bytes from `from` up to `until`.
@@ -127,7 +107,7 @@ struct Window {
     until: usize,
 }
 
-// A window of the bytes, as small as can be, that has the pieces which an edit may change.
+// The smallest window of the bytes that has all pieces which an edit may change.
 fn window_of(bytes: &[u8], start: usize, end: usize) -> Window
     requires ordered { start ≤ end }
     requires within { end ≤ length bytes.now }

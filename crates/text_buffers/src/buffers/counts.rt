@@ -1,4 +1,4 @@
-//! How much there is of what a text is measured in.
+//! The counts of a text: bytes, pieces, faults and line feeds.
 ghost use Rattle.std.specs.Prelude.{◌≡◌, ◌<◌, length};
 ghost use Rattle.text_buffers.specs.Counts.{counts_of, sum_of, exchange_of, IsSmall, AreAmong};
 ghost use Rattle.text_buffers.specs.Measures.{measure_of};
@@ -6,13 +6,14 @@ ghost use Rattle.text_runs.specs.ShardRuns.{line_feed_count as feed_count};
 
 use text_runs::runs::steps::{COUNTED, next_step, piece_step};
 
-// How many bytes are compared in one loop: no more than a byte can count.
+// The number of bytes that are compared in one loop: no more than a `u8` can count.
 const PART: usize = 128;
 
-// Fewer bytes are decoded one by one: so those around an edit mostly are. To judge these at once takes longer.
+// Fewer bytes than this are decoded one by one, as mostly those around an edit: block validation would take
+// longer.
 const FEW: usize = 32;
 
-/// How many bytes, characters, invalid bytes and line feeds some bytes have.
+/// The numbers of bytes, characters, invalid bytes and line feeds in some bytes.
 #[derive(Clone, Copy, Debug, PartialEq, Eq, Drop)]
 pub struct Counts {
     /// The bytes.
@@ -26,7 +27,7 @@ pub struct Counts {
 }
 
 impl Counts {
-    /// How many some bytes have.
+    /// The counts of some bytes.
     ///
     /// Cost: O(n).
     pub fn of(bytes: &[u8]) -> Counts
@@ -52,7 +53,7 @@ impl Counts {
         }
     }
 
-    // Those of two parts together.
+    // The counts of two parts together.
     pub(crate) fn plus(self, other: Counts) -> Counts
         requires { IsSmall (sum_of self other) }
         ensures { result ≡ sum_of self other }
@@ -65,7 +66,7 @@ impl Counts {
         }
     }
 
-    // Those of a whole where one part came in place of another.
+    // The counts of a whole after one part replaced another.
     pub(crate) fn exchange(self, gone: Counts, come: Counts) -> Counts
         requires part { AreAmong gone self }
         requires small { IsSmall (exchange_of self gone come) }
@@ -80,7 +81,7 @@ impl Counts {
     }
 }
 
-// What is numbered, from 0 on.
+// The elements of a text that have numbers, from 0 on.
 #[derive(Clone, Copy, Drop)]
 pub(crate) enum Measure {
     Bytes,
@@ -89,7 +90,7 @@ pub(crate) enum Measure {
 }
 
 impl Measure {
-    // How many of these are counted.
+    // The number of these elements.
     pub(crate) fn count(self, counts: Counts) -> usize
         ensures { result ≡ measure_of self counts }
     {
@@ -101,7 +102,7 @@ impl Measure {
     }
 }
 
-// What a few bytes count.
+// The counts of a few bytes.
 fn few_counts(bytes: &[u8]) -> Counts
     requires { length bytes.now < 32 }
     ensures { result ≡ counts_of bytes.now }
@@ -123,7 +124,7 @@ fn few_counts(bytes: &[u8]) -> Counts
     }
 }
 
-// How many line feeds the bytes have.
+// The number of line feeds in the bytes.
 pub(crate) fn line_feed_count(bytes: &[u8]) -> usize
     ensures { result ≡ feed_count bytes.now }
 {
@@ -136,7 +137,8 @@ pub(crate) fn line_feed_count(bytes: &[u8]) -> usize
     feeds + part_feeds(&bytes[place..]) as usize
 }
 
-// The same of few bytes. A byte counts them: so a compiler compares and adds sixteen at once.
+// The number of line feeds in at most `PART` bytes. The counter is a `u8`, so the compiler compares and adds
+// sixteen of them in one instruction.
 #[inline(always)]
 fn part_feeds(bytes: &[u8]) -> u8
     requires { length bytes.now < 256 }

@@ -1,4 +1,4 @@
-//! A place between two pieces of a text, from which pieces are read forward and back.
+//! An offset between two pieces of a text, from which pieces are read forward and backward.
 ghost use Rattle.std.specs.Prelude.{◌≡◌, ◌+◌, Contains, MatchOption, length, min};
 ghost use Rattle.encode_unicode.specs.Pieces.{pieces};
 ghost use Rattle.text_runs.specs.PieceBoundaries.{IsBetween, IsLastBetween};
@@ -8,8 +8,8 @@ use std::alloc::Allocator;
 use std::marker::Model;
 use text_runs::runs::items::Item;
 
-/// A place between two pieces of a text, which goes from piece to piece, forward and back. Contracts see
-/// the text and the offset of the place.
+/// An offset between two pieces of a text, which moves from piece to piece, forward and backward. Contracts
+/// see the text and the offset.
 #[derive(Drop)]
 pub struct TextCursor<'a, A: Allocator + Copy> {
     text: &'a TextBuffer<A>,
@@ -31,7 +31,7 @@ impl<'a, A: Allocator + Copy> TextCursor<'a, A> {
     /// A cursor at the last boundary between two pieces that is not after this offset, or at the end of
     /// the text if the offset is not below its length.
     ///
-    /// Cost: as that of `TextBuffer::piece_at`.
+    /// Cost: that of `TextBuffer::piece_at`.
     pub fn at(text: &'a TextBuffer<A>, offset: usize) -> TextCursor<'a, A>
         ensures text { result.text ≡ text.now }
         ensures offset { IsLastBetween text.now (min offset (length text.now)) result.offset }
@@ -42,7 +42,7 @@ impl<'a, A: Allocator + Copy> TextCursor<'a, A> {
         }
     }
 
-    // One at this place, which lies between two pieces.
+    // A cursor at this offset, which lies between two pieces.
     fn between(text: &'a TextBuffer<A>, offset: usize) -> TextCursor<'a, A>
         requires { IsBetween text.now offset }
         ensures { result ≡ record { text = text.now; offset = offset } }
@@ -50,7 +50,7 @@ impl<'a, A: Allocator + Copy> TextCursor<'a, A> {
         TextCursor { text, offset }
     }
 
-    /// The offset of the place.
+    /// The offset of the cursor in the text.
     pub fn offset(&self) -> usize
         ensures { result ≡ self.now.offset }
     {
@@ -58,10 +58,10 @@ impl<'a, A: Allocator + Copy> TextCursor<'a, A> {
         *offset
     }
 
-    /// The piece after the place, and goes to its end: (offset, character or error, length). `None` at
-    /// the end of the text.
+    /// Returns the piece after the cursor, and moves to its end: (offset, character or error, length). `None`
+    /// at the end of the text.
     ///
-    /// Cost: as that of `TextBuffer::piece_at`.
+    /// Cost: that of `TextBuffer::piece_at`.
     pub fn next(&mut self) -> Option<Item>
         ensures text { self.new.text ≡ self.old.text }
         ensures piece { MatchOption result (self.old.offset ≡ length self.old.text)
@@ -69,17 +69,17 @@ impl<'a, A: Allocator + Copy> TextCursor<'a, A> {
         ensures offset { MatchOption result (self.new.offset ≡ self.old.offset)
             (λ x. self.new.offset ≡ x.0 + x.2) }
     {
-        // A length is a `usize`: this call is all that tells a proof so.
+        // Brings into scope that the length fits in a `usize`.
         let _len = self.text.len();
         let item = self.text.piece_at(self.offset)?;
         self.offset = item.0 + item.2;
         Some(item)
     }
 
-    /// The piece before the place, and goes to where it begins: (offset, character or error, length).
+    /// Returns the piece before the cursor, and moves to its beginning: (offset, character or error, length).
     /// `None` at the beginning of the text.
     ///
-    /// Cost: as that of `TextBuffer::piece_at`.
+    /// Cost: that of `TextBuffer::piece_at`.
     pub fn next_back(&mut self) -> Option<Item>
         ensures text { self.new.text ≡ self.old.text }
         ensures piece { MatchOption result (self.old.offset ≡ 0)

@@ -1,27 +1,30 @@
-//! How bytes are divided into chunks.
+//! Division of bytes into chunks.
 ghost use Rattle.std.specs.List.{concat};
-ghost use Rattle.std.specs.Prelude.{◌≡◌, ◌^◌, ◌<◌, ◌≤◌, length, IfOk};
+ghost use Rattle.std.specs.Prelude.{◌≡◌, ◌+◌, ◌<◌, ◌≤◌, length, All, IfOk};
 ghost use Rattle.utf_base.specs.Code.{utf8};
 ghost use Rattle.utf_base.specs.Piece.{Inside};
 ghost use Rattle.text_buffers.specs.Chunks.{EndOutside};
+ghost use Rattle.text_buffers.specs.CountedChunks.{AreChunks};
 ghost use Rattle.text_buffers.specs.Counts.{counts_of};
 
 use crate::buffers::chunk::Chunk;
 use crate::buffers::counts::Counts;
+use recoding::boundaries::boundary_before;
 use recoding::form::Form;
-use recoding::shards::shard_end;
 use std::alloc::{AllocError, Allocator};
 
-// The most bytes that a chunk has where it is edited. An edit moves half of them at most, and a piece is found by counting them.
+// The greatest length of a chunk, in bytes. An edit moves at most as many, and a piece is found by counting
+// them.
 pub const ROOM: usize = 2048;
 
-// How many a new chunk has: so it has room for some edits.
+// The length of a new chunk, in bytes: less than `ROOM`, so it can grow by some edits.
 const FILL: usize = 1792;
 
-// The bytes in chunks.
+// Divides the bytes into chunks.
 pub fn divide<A: Allocator + Copy>(alloc: A, bytes: &[u8]) -> Result<Vec<Chunk<A>, A>, AllocError>
     ensures bytes { IfOk result (λ chunks. concat chunks.items ≡ bytes.now) }
     ensures ends { IfOk result (λ chunks. EndOutside chunks.items) }
+    ensures few { IfOk result (λ chunks. All (λ x. length x ≤ 2048) chunks.items) }
 {
     let mut chunks = Vec::new(alloc);
     let mut place = 0;
@@ -33,23 +36,23 @@ pub fn divide<A: Allocator + Copy>(alloc: A, bytes: &[u8]) -> Result<Vec<Chunk<A
     Ok(chunks)
 }
 
-// Where the chunk ends that begins at the place.
+// The end of the chunk that begins at the offset.
 fn chunk_end(bytes: &[u8], place: usize) -> usize
     requires { place < length bytes.now }
     ensures some { place < result }
     ensures within { result ≤ length bytes.now }
+    ensures few { result ≤ place + 2048 }
     ensures outside { Inside utf8 bytes.now result → ⊥ }
 {
     if bytes.len() - place <= ROOM {
         return bytes.len();
     }
-    shard_end(Form::Utf8, bytes, place + FILL)
+    boundary_before(Form::Utf8, bytes, place + FILL)
 }
 
-// What the chunks count together.
+// The counts of the chunks together.
 pub fn total<A: Allocator>(chunks: &[Chunk<A>]) -> Counts
-    requires ends { EndOutside chunks.now }
-    requires fits { length (concat chunks.now) < 2 ^ 64 }
+    requires { AreChunks chunks.now }
     ensures { result ≡ counts_of (concat chunks.now) }
 {
     let mut sum = Counts::of(&[]);
@@ -59,10 +62,9 @@ pub fn total<A: Allocator>(chunks: &[Chunk<A>]) -> Counts
     sum
 }
 
-// One chunk that has the bytes of them all.
+// One chunk that has the bytes of all of them.
 pub fn one_chunk<A: Allocator>(alloc: A, chunks: &[Chunk<A>]) -> Result<Chunk<A>, AllocError>
-    requires ends { EndOutside chunks.now }
-    requires fits { length (concat chunks.now) < 2 ^ 64 }
+    requires { AreChunks chunks.now }
     ensures { IfOk result (λ chunk. chunk ≡ concat chunks.now) }
 {
     let bytes = joined_bytes(alloc, chunks)?;

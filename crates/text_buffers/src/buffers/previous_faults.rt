@@ -1,44 +1,44 @@
-//! The faults of a text in chunks, from a place back.
+//! The faults of a text in chunks, from an offset backward.
 ghost use Rattle.std.specs.List.{concat};
 ghost use Rattle.std.specs.Prelude.{◌≡◌, ◌-◌, ◌^◌, ◌<◌, ◌≤◌, IfSome, MatchOption, length};
-ghost use Rattle.text_buffers.specs.Chunks.{EndOutside};
-ghost use Rattle.text_buffers.specs.Rows.{AreSums, HasNoCleanRow, IsCleanRow};
+ghost use Rattle.text_buffers.specs.Rows.{HasNoCleanRow, IsCleanRow};
 ghost use Rattle.text_buffers.specs.TextLookups.{HasNoFaultBefore, IsPreviousFault};
 
 use crate::buffers::chunk::Chunk;
+use crate::buffers::chunks::Chunks;
 use crate::buffers::counts::Counts;
-use crate::buffers::rows::{ROW, clean_row};
-use crate::buffers::spots::{find, find_end};
+use crate::buffers::rows::clean_row;
+use crate::buffers::sums::ROW;
 use encode_unicode::Utf8Char;
 use std::alloc::Allocator;
 use text_runs::boundaries::ceil;
 
-// The last fault before this place. Rows and chunks that have none are not read.
-pub fn fault_before<A: Allocator>(chunks: &[Chunk<A>], sums: &[Counts], at: usize) -> Option<usize>
-    requires ends { EndOutside chunks.now }
-    requires fits { length (concat chunks.now) < 2 ^ 64 }
-    requires sums { AreSums chunks.now sums.now }
-    ensures { MatchOption result (HasNoFaultBefore (concat chunks.now) at)
-        (IsPreviousFault (concat chunks.now) at) }
-{
-    let mut spot = find_end(chunks, find(chunks, sums, at), at);
-    while 0 < spot.number {
-        if let Some(bytes) = clean_row_before(sums, spot.number) {
-            spot.place -= bytes;
-            spot.number -= ROW;
-        } else {
-            let chunk = &chunks[spot.number - 1];
-            spot.number -= 1;
-            spot.place -= chunk.len();
-            if let Some(place) = chunk_fault_before(chunk, at.saturating_sub(spot.place)) {
-                return Some(spot.place + place);
+impl<A: Allocator + Copy> Chunks<A> {
+    // The last fault before this offset. Rows and chunks that have none are not read.
+    pub fn fault_before(&self, at: usize) -> Option<usize>
+        ensures { MatchOption result (HasNoFaultBefore (concat self.now) at)
+            (IsPreviousFault (concat self.now) at) }
+    {
+        let sums = self.sums();
+        let mut spot = self.find_end(self.find(at), at);
+        while 0 < spot.number {
+            if let Some(bytes) = clean_row_before(sums, spot.number) {
+                spot.place -= bytes;
+                spot.number -= ROW;
+            } else {
+                let chunk = self.chunk(spot.number - 1);
+                spot.number -= 1;
+                spot.place -= chunk.len();
+                if let Some(place) = chunk_fault_before(chunk, at.saturating_sub(spot.place)) {
+                    return Some(spot.place + place);
+                }
             }
         }
+        None
     }
-    None
 }
 
-// How many bytes the row has that ends before this chunk, where one does and has no fault.
+// The length in bytes of the row that ends before this chunk, if one does and has no fault.
 fn clean_row_before(sums: &[Counts], number: usize) -> Option<usize>
     ensures row { MatchOption result (256 ≤ number → HasNoCleanRow sums.now (number - 256))
         (IsCleanRow sums.now (number - 256)) }
@@ -50,7 +50,7 @@ fn clean_row_before(sums: &[Counts], number: usize) -> Option<usize>
     clean_row(sums, number - ROW)
 }
 
-// The same of one chunk.
+// The last fault of one chunk before this offset.
 fn chunk_fault_before<A: Allocator>(chunk: &Chunk<A>, at: usize) -> Option<usize>
     ensures { MatchOption result (HasNoFaultBefore chunk.now at) (IsPreviousFault chunk.now at) }
 {

@@ -1,4 +1,5 @@
-//! Runs over bytes in any form: how far they are well-formed, how many pieces they have, and pieces by their numbers.
+//! Runs over bytes in any encoding: the length of the well-formed front, the number of pieces, and pieces by their
+//! numbers.
 ghost use Rattle.std.specs.Prelude.{◌≡◌, ◌≤◌, length, slice_get, option_map};
 ghost use Rattle.encode_unicode.specs.Window.{Placed};
 ghost use Rattle.recoding.specs.declared.faults.FaultKind.{FaultKind as AFaultKind};
@@ -14,8 +15,8 @@ use recoding::form::Form;
 use text_runs::runs::{counts, numbers, well_formed};
 use utf_lanes::byte_order::{BigEndian, LittleEndian};
 
-/// The offset of the first invalid byte, or the length if all bytes are valid in this encoding. In UTF-16 it is that of a lone
-/// surrogate, or of a single byte at the end.
+/// The offset of the first invalid byte, or the length if all bytes are valid in this encoding. In UTF-16 it is the
+/// offset of a lone surrogate, or of a single byte at the end.
 ///
 /// Cost: O(n).
 pub fn valid_up_to(form: Form, bytes: &[u8]) -> usize
@@ -29,8 +30,8 @@ pub fn valid_up_to(form: Form, bytes: &[u8]) -> usize
     }
 }
 
-/// How many pieces the bytes have in this encoding: a character is one, and so is each invalid byte. In UTF-16 each lone surrogate
-/// is one, and so is a single byte at the end. A `Decoder` gives these pieces.
+/// The number of pieces in the bytes in this encoding: a character is one, and so is each invalid byte. In UTF-16
+/// each lone surrogate is one, and so is a single byte at the end. A `Decoder` gives these pieces.
 ///
 /// Cost: O(n).
 pub fn char_count(form: Form, bytes: &[u8]) -> usize
@@ -45,7 +46,7 @@ pub fn char_count(form: Form, bytes: &[u8]) -> usize
 
 /// The offset in bytes of the piece with this number, counted from 0. `None` if the bytes have no more pieces.
 ///
-/// Cost: O(n) in the offset, and where the answer is `None` or the last byte, in the length.
+/// Cost: O(n) in the offset, or in the length if the result is `None` or the last byte.
 pub fn offset_of(form: Form, bytes: &[u8], number: usize) -> Option<usize>
     ensures { result ≡ option_map (λ (x : Placed AFaultKind). x.0) (slice_get (form_pieces form bytes.now) number) }
 {
@@ -56,8 +57,8 @@ pub fn offset_of(form: Form, bytes: &[u8], number: usize) -> Option<usize>
     }
 }
 
-/// How many pieces begin before this offset in bytes, or how many there are, if it is the length or more. If a piece begins at the
-/// offset, this is its number, counted from 0.
+/// The number of pieces that begin before this offset in bytes, or of all if it is the length or more. If a piece
+/// begins at the offset, this is its number, counted from 0.
 ///
 /// Cost: O(n) in the offset.
 pub fn number_of(form: Form, bytes: &[u8], offset: usize) -> usize

@@ -1,4 +1,4 @@
-//! Bytes of UTF-16: how far they are well-formed, how many pieces they have, and where one of these begins.
+//! Bytes of UTF-16: the length of the well-formed front, the number of pieces, and the offset of one of them.
 ghost use Rattle.std.specs.Prelude.{ℕ, ◌≡◌, ◌≤◌, IfSome, IfNone, length, option_map, slice_get};
 ghost use Rattle.encode_unicode.specs.Window.{Placed};
 ghost use Rattle.recoding.specs.NextScalars.{utf16_form};
@@ -12,8 +12,8 @@ use utf_lanes::byte_pairs::unit;
 use utf_lanes::unit_blocks::units_len;
 use utf_lanes::unit_starts::{nth_unit_byte_start, unit_byte_starts_in};
 
-/// The offset in bytes of the first lone surrogate in bytes of UTF-16, or the length where there is
-/// none. A single byte at the end is invalid too. `E` is `LittleEndian` or `BigEndian`.
+/// The offset in bytes of the first lone surrogate in bytes of UTF-16, or the length if there is none. A
+/// single byte at the end is invalid too. `E` is `LittleEndian` or `BigEndian`.
 ///
 /// Cost: O(n).
 pub fn unit_bytes_valid_up_to<E: ByteOrder>(bytes: &[u8]) -> usize
@@ -27,7 +27,7 @@ pub fn unit_bytes_valid_up_to<E: ByteOrder>(bytes: &[u8]) -> usize
     place
 }
 
-// How many bytes the character has that begins the bytes; `None` where none does.
+// The length in bytes of the character that begins the bytes; `None` if none does.
 #[inline(always)]
 fn first_len<E: ByteOrder>(bytes: &[u8]) -> Option<usize>
     ensures some { IfSome result (λ n. BeginsUnits E.HIGH_FIRST bytes.now n) }
@@ -50,7 +50,7 @@ fn first_len<E: ByteOrder>(bytes: &[u8]) -> Option<usize>
     }
 }
 
-// How many pieces the bytes have as UTF-16: those of their units, and an odd last byte.
+// The number of pieces in bytes of UTF-16: those of their units, and an odd last byte.
 pub(crate) fn unit_bytes_char_count<E: ByteOrder>(bytes: &[u8]) -> usize
     ensures { result ≡ length (form_pieces (utf16_form E.HIGH_FIRST) bytes.now) }
 {

@@ -16,7 +16,7 @@ use std::io::Write;
 use text_runs::counted::Counted;
 use text_runs::runs::items::Item;
 
-/// What has a line of its own.
+/// An entry, which has a line of its own.
 pub(crate) trait Entry: Copy {
     ghost line: { Self → List ℕ };
 
@@ -27,12 +27,12 @@ pub(crate) trait Entry: Copy {
         requires { length lines.old + LINE_ROOM ≤ ROOM }
         ensures { lines.new ≡ lines.old ++ line self };
 
-    /// Whether that is an error line.
+    /// Returns true if the entry's line is an error line.
     fn is_wrong(self) -> bool
         ensures { result ≡ wrong self };
 }
 
-// A piece: its offset, its length and its answer.
+// A piece: its offset, its length and its result.
 impl Entry for Item {
     ghost use Rattle.text_programs.specs.Lines.{item_line};
     ghost use Rattle.text_runs.specs.ForwardRuns.{is_fault};
@@ -53,7 +53,7 @@ impl Entry for Item {
     }
 }
 
-// What a merger answers.
+// A result of a merger.
 impl Entry for Result<Utf8Char, Utf8Error> {
     ghost use Rattle.std.specs.Prelude.{is_err};
     ghost use Rattle.text_programs.specs.Lines.{answer_line};
@@ -72,7 +72,7 @@ impl Entry for Result<Utf8Char, Utf8Error> {
     }
 }
 
-// What a walk answers: a piece, or none.
+// A result of a walk: a piece, or `None`.
 impl Entry for Option<Item> {
     ghost use Rattle.text_programs.specs.Lines.{step_line, is_fault_step};
 
@@ -95,8 +95,8 @@ impl Entry for Option<Item> {
     }
 }
 
-/// Adds the line of a piece whose offset was counted, and counts on to the next. Answers 1 where that is an error
-/// line, and 0 elsewhere.
+/// Adds the line of a piece at the counted offset, and counts on to the next. Returns 1 if that is an error
+/// line, otherwise 0.
 #[inline(always)]
 pub(crate) fn push_counted(item: Item, offset: &mut Offset, lines: &mut Lines) -> usize
     requires place { item.0 ≡ offset.old }
@@ -115,7 +115,7 @@ pub(crate) fn push_counted(item: Item, offset: &mut Offset, lines: &mut Lines) -
     if answer.is_err() { 1 } else { 0 }
 }
 
-// How many error lines an entry has: 1 where its line is one, and 0 elsewhere.
+// Returns the number of error lines of an entry, 0 or 1.
 #[inline(always)]
 fn error_lines<T: Entry>(entry: T) -> usize
     ensures count { result ≡ (if T.wrong entry then 1 else 0) }
@@ -124,7 +124,7 @@ fn error_lines<T: Entry>(entry: T) -> usize
     if entry.is_wrong() { 1 } else { 0 }
 }
 
-/// Writes the line of each entry, in order, and answers how many of them are error lines.
+/// Writes the line of each entry, in order, and returns how many of them are error lines.
 pub(crate) fn write_entries<T: Entry, W: Write>(
     entries: &[T],
     out: &mut Counted<W>,
@@ -149,7 +149,7 @@ pub(crate) fn write_entries<T: Entry, W: Write>(
     Ok(faults)
 }
 
-// Adds what follows the offset of a piece: its length and its answer, and the end of the line.
+// Adds what follows the offset of a piece: its length and its result, and the end of the line.
 #[inline(always)]
 fn push_piece(answer: Result<Utf8Char, Utf8Error>, len: usize, lines: &mut Lines)
     requires { length lines.old + 49 ≤ ROOM }
@@ -162,7 +162,7 @@ fn push_piece(answer: Result<Utf8Char, Utf8Error>, len: usize, lines: &mut Lines
     lines.push(b'\n');
 }
 
-// Adds a scalar in six hexadecimal digits, or the name of what is wrong.
+// Adds a scalar in six hexadecimal digits, or the name of the error.
 #[inline(always)]
 fn push_answer(answer: Result<Utf8Char, Utf8Error>, lines: &mut Lines)
     requires { length lines.old + 26 ≤ ROOM }

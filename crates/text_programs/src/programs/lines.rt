@@ -11,13 +11,13 @@ use std::marker::Model;
 use text_runs::counted::Counted;
 use text_runs::streams::write_whole;
 
-// How many bytes are gathered at most.
+// The capacity of the buffer, in bytes.
 pub(crate) const ROOM: usize = 65536;
 
-// How many bytes a line has at most.
+// The greatest length of a line, in bytes.
 pub(crate) const LINE_ROOM: usize = 80;
 
-// How many digits the largest `usize` has.
+// The number of digits of the largest `usize`.
 pub(crate) const DECIMAL_ROOM: usize = 20;
 
 // The two hexadecimal digits of each byte, sixteen a line.
@@ -40,7 +40,7 @@ static PAIRS: [u8; 512] = *b"\
     e0e1e2e3e4e5e6e7e8e9eaebecedeeef\
     f0f1f2f3f4f5f6f7f8f9fafbfcfdfeff";
 
-/// Lines that are gathered, at most `ROOM` bytes. Contracts see them as the list of their bytes.
+/// Buffered lines, at most `ROOM` bytes. Contracts see them as the list of their bytes.
 #[derive(Drop)]
 pub(crate) struct Lines {
     bytes: [u8; ROOM],
@@ -59,7 +59,7 @@ impl Model for Lines {
 }
 
 impl Lines {
-    /// No line.
+    /// An empty buffer.
     #[inline(always)]
     pub(crate) fn new() -> Lines
         ensures { result ≡ [] }
@@ -78,7 +78,7 @@ impl Lines {
         &self.bytes[..self.len]
     }
 
-    /// Whether one more line finds room.
+    /// Returns true if one more line fits.
     #[inline(always)]
     pub(crate) fn has_room(&self) -> bool
         ensures { IsTrue result ↔ (length self.now + LINE_ROOM ≤ ROOM) }
@@ -86,8 +86,8 @@ impl Lines {
         self.len <= ROOM - LINE_ROOM
     }
 
-    /// Writes the lines, in one call where the writer takes them all, and none where there are none. After `Ok`
-    /// there are none.
+    /// Writes the lines, in one call if the writer takes them all, and in none if there are none. After `Ok`
+    /// the buffer is empty.
     #[cold]
     #[inline(never)]
     pub(crate) fn write_to<W: Write>(&mut self, out: &mut Counted<W>) -> io::Result<()>
@@ -104,7 +104,7 @@ impl Lines {
         Ok(())
     }
 
-    // Each of these reads the length before it writes, since a compiler takes it that a write may change it.
+    // Each push reads the length before it writes, since the compiler assumes that a write may change it.
 
     /// Adds one byte.
     #[inline(always)]
@@ -144,7 +144,7 @@ impl Lines {
         }
     }
 
-    // Adds them as they are divided out.
+    // Adds the digits as they are divided out.
     #[inline(never)]
     #[tactic(auto, using(crate::proofs::Decimal::decimal_steps))]
     fn push_digits(&mut self, n: usize)
@@ -157,8 +157,8 @@ impl Lines {
         self.push_front(&buffer[start..start + DECIMAL_ROOM], DECIMAL_ROOM - start);
     }
 
-    /// Adds the first bytes of the source. The others are copied too, after the end of the lines, since a copy
-    /// of a length that the compiler knows is quicker.
+    /// Adds the first `count` bytes of the source. The others are copied too, past the end of the lines: a
+    /// copy whose length the compiler knows is faster.
     #[inline(always)]
     pub(crate) fn push_front(&mut self, source: &[u8], count: usize)
         requires source { length source.now ≡ DECIMAL_ROOM }
@@ -185,7 +185,7 @@ impl Lines {
     }
 }
 
-/// Writes the digits of the number at the end of the slice, and answers where they start.
+/// Writes the digits of the number at the end of the slice, and returns the offset of the first.
 #[tactic(auto, using(crate::proofs::Decimal::decimal_steps))]
 pub(crate) fn fill_decimal(n: usize, digits: &mut [u8]) -> usize
     requires { DECIMAL_ROOM ≤ length digits.old }

@@ -1,4 +1,4 @@
-//! What is written of the pieces of some bytes: a line for each entry of a list.
+//! The output for the pieces of some bytes: a line for each entry of a list.
 ghost use Rattle.std.specs.Prelude.{◌≡◌, ◌<◌, ◌↔◌, IfOk, OnOk, OnErr, count_by, is_err};
 ghost use Rattle.std.specs.Str.{IsUtf8};
 ghost use Rattle.encode_unicode.specs.Pieces.{pieces};
@@ -19,12 +19,11 @@ use std::io::Write;
 use text_runs::counted::Counted;
 use text_runs::runs::items::Item;
 
-/// Writes one line for each piece of the bytes, and gives the number of errors.
+/// Writes one line for each piece of the bytes, and returns the number of errors.
 ///
-/// A line is the offset and the length in decimal, and the code point in six hexadecimal digits or
-/// the name of the error. Lines are gathered, and written 64 KiB at a time: a write has whole lines.
-/// Where the writer gives an error, only the first lines were written, the last of them perhaps in
-/// part.
+/// A line is the offset and the length in decimal, and the code point in six hexadecimal digits or the name
+/// of the error. Lines are buffered, and written 64 KiB at a time: a write has whole lines. If the writer
+/// fails, only the first lines were written, the last of them perhaps in part.
 ///
 /// Cost: O(n).
 pub fn write_listing<W: Write>(src: &[u8], out: &mut Counted<W>) -> io::Result<usize>
@@ -50,10 +49,10 @@ pub fn write_listing<W: Write>(src: &[u8], out: &mut Counted<W>) -> io::Result<u
     Ok(faults)
 }
 
-/// Writes one line for each answer of a merger, and gives the number of errors.
+/// Writes one line for each result of a merger, and returns the number of errors.
 ///
-/// A line is the code point in six hexadecimal digits or the name of the error. An error of the
-/// writer is as with `write_listing`.
+/// A line is the code point in six hexadecimal digits or the name of the error. Errors of the writer are as
+/// for `write_listing`.
 ///
 /// Cost: O(n).
 pub fn write_merged<W: Write>(
@@ -71,10 +70,10 @@ pub fn write_merged<W: Write>(
     write_entries(results, out)
 }
 
-/// Writes one line for each answer of a walk, and gives the number of errors.
+/// Writes one line for each result of a walk, and returns the number of errors.
 ///
-/// A line is that of the piece as `write_listing` has it, or `none`, which is no error. An error of
-/// the writer is as with `write_listing`.
+/// A line is that of the piece as `write_listing` writes it, or `none`, which is no error. Errors of the
+/// writer are as for `write_listing`.
 ///
 /// Cost: O(n).
 pub fn write_walk<W: Write>(steps: &[Option<Item>], out: &mut Counted<W>) -> io::Result<usize>

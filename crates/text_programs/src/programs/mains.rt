@@ -1,4 +1,4 @@
-//! The programs `pieces` and `recode`, over any streams: all that `main` of each does.
+//! The programs `pieces` and `recode`, over any streams: the whole `main` of each.
 ghost use Rattle.std.specs.Prelude.{◌≡◌, ◌≢◌, ◌+◌, ◌<◌, ◌≤◌, [], ◌∷◌, ℕ, List, IsTrue, codes, map, drop, string_bytes, IfOk, IfErr, IsOkAnd};
 ghost use Rattle.std.specs.IoError.{error_kind};
 ghost use Rattle.text_programs.specs.Arguments.{Asked, HaveArguments, WordsAsk, WordsAreWrong, AreNotHad, WordsAskForms, WordsNameNoForms};
@@ -18,11 +18,11 @@ use std::{env, io};
 use text_runs::counted::Counted;
 use text_runs::streams::{Sink, Source};
 
-/// Runs the program `pieces` over the words that it was started with and over its streams, and
-/// gives its status.
+/// Runs the program `pieces` over the words that it was started with and over its streams, and returns its
+/// status.
 ///
-/// It is `run_pieces` on the arguments among the words, and then `finish_run`. An error in place of
-/// the words, other than `InvalidData`, is taken as refused memory.
+/// It is `run_pieces` on the arguments among the words, and then `finish_run`. An error in place of the
+/// words, other than `InvalidData`, is taken as a failed allocation.
 ///
 /// Cost: O(n), allocates for the whole input.
 pub fn pieces<R: Source, W: Write, E: Sink>(
@@ -62,11 +62,11 @@ pub fn pieces<R: Source, W: Write, E: Sink>(
     }
 }
 
-/// Runs the program `recode` over the words that it was started with and over its streams, and
-/// gives its status.
+/// Runs the program `recode` over the words that it was started with and over its streams, and returns its
+/// status.
 ///
 /// It is `run_recode` on the arguments among the words. An error in place of the words, other than
-/// `InvalidData`, is taken as refused memory.
+/// `InvalidData`, is taken as a failed allocation.
 ///
 /// Cost: O(n), allocates an amount that does not grow with the input.
 pub fn recode<R: Read, W: Write, E: Sink>(
@@ -111,10 +111,10 @@ pub fn words<R: Env + AllocGlobal>(rt: &R) -> io::Result<Vec<String>> {
 
 /// The arguments after the program's name, out of all its words.
 ///
-/// Where a word is not UTF-8, `words` is an error of the kind `InvalidData`, and the answer is one
-/// empty text in place of all arguments. Any other error says that memory was refused.
+/// If a word is not UTF-8, `words` is an error of the kind `InvalidData`, and the result is one empty text in
+/// place of all arguments. Any other error says that an allocation failed.
 ///
-/// Cost: O(n) in the number of words, allocates one place where a word is not UTF-8.
+/// Cost: O(n) in the number of words, allocates one text if a word is not UTF-8.
 pub fn arguments_of(alloc: Global, words: io::Result<Vec<String>>) -> Result<Vec<String>, Stop>
     ensures after_the_name { IfOk words (λ all. IsOkAnd result (λ args. args.items ≡ drop 1 all.items)) }
     ensures no_text { IfErr words (λ error. error_kind error ≡ ErrorKind.InvalidData →

@@ -1,4 +1,4 @@
-//! The offset of a piece in decimal digits, which is counted up from line to line.
+//! The offset of a piece in decimal digits, incremented from line to line.
 ghost use Rattle.std.specs.Prelude.{◌≡◌, ◌+◌, ◌/◌, ◌%◌, ◌<◌, ◌≤◌, ◌^◌, ◌++◌, [], ◌∷◌, length, take};
 ghost use Rattle.std.specs.Fmt.{decimal};
 ghost use Rattle.text_programs.specs.declared.programs.lines.TheConstants.{DECIMAL_ROOM, ROOM};
@@ -6,9 +6,9 @@ ghost use Rattle.text_programs.specs.declared.programs.lines.TheConstants.{DECIM
 use crate::programs::lines::{DECIMAL_ROOM, Lines, fill_decimal};
 use std::marker::Model;
 
-/// A number whose digits are had without a division for each. Contracts see it as the number.
+/// A number whose digits are kept, so that not each line needs a division. Contracts see it as the number.
 ///
-/// It keeps the digits of its hundreds, so these are found anew once in a hundred.
+/// It keeps the digits of its hundreds, which are computed anew only once in a hundred.
 #[derive(Drop)]
 pub(crate) struct Offset {
     hundreds: usize,
@@ -45,7 +45,7 @@ impl Offset {
         }
     }
 
-    /// Counts on by as many.
+    /// Adds a length.
     #[inline(always)]
     pub(crate) fn count_on(&mut self, len: usize)
         requires few { len ≤ 100 }
@@ -60,7 +60,7 @@ impl Offset {
         }
     }
 
-    /// Adds the decimal digits, with no leading zero.
+    /// Appends the decimal digits, with no leading zero.
     #[inline(always)]
     #[tactic(auto, using(crate::proofs::Decimal::decimal_steps))]
     pub(crate) fn push_to(&self, lines: &mut Lines)
@@ -77,7 +77,7 @@ impl Offset {
         }
     }
 
-    // The digits of the hundreds, with some bytes after them, and how many they are.
+    // The digits of the hundreds, followed by some bytes, and how many digits there are.
     #[inline(always)]
     fn hundreds_digits(&self) -> (&[u8], usize)
         ensures whole { length result.0.now ≡ DECIMAL_ROOM }

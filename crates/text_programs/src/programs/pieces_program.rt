@@ -23,21 +23,20 @@ use text_runs::runs::items::End;
 use text_runs::runs::walks::walk_utf8;
 use text_runs::streams::{Sink, Source};
 
-/// The name that `pieces` gives itself on standard error.
+/// The name that `pieces` prints on standard error.
 pub const PROGRAM: &str = "pieces";
 
-// How many bytes are read at a time.
+// The size of a read, in bytes.
 const PART: usize = 65536;
 
-/// Runs `pieces` on the arguments after the program's name, and gives its status.
+/// Runs `pieces` on the arguments after the program's name, and returns its status.
 ///
-/// With no argument it writes the listing of all that the reader gives; with `--merge` the lines of
-/// what a merger answers over it; with `--ends` and a word, of letters `F` and `B`, those of what
-/// the word's walk answers. The status 0 says that no line is an error line, 1 that one is. All
-/// other arguments are wrong, and then nothing is read or written, and the status is 2. Where
-/// reading or writing fails, or memory is refused, it is 3. Nothing is written before all is read,
-/// merged or walked. `stderr` takes the line for standard error, and nothing where the status is 0
-/// or 1.
+/// With no argument it writes the listing of all that the reader gives; with `--merge` the lines of a
+/// merger's results for it; with `--ends` and a word, of letters `F` and `B`, the lines of the word's walk.
+/// The status is 0 if no line is an error line, and 1 if one is. All other arguments are invalid: then
+/// nothing is read or written, and the status is 2. If reading, writing or allocation fails, it is 3. Nothing
+/// is written before all is read, merged or walked. `stderr` takes the line for standard error, and nothing
+/// if the status is 0 or 1.
 ///
 /// Cost: O(n), allocates for the whole input.
 pub fn run_pieces<A: Allocator + Copy, R: Source, W: Write, E: Sink>(
@@ -73,10 +72,10 @@ pub fn run_pieces<A: Allocator + Copy, R: Source, W: Write, E: Sink>(
     }
 }
 
-/// The status with which `pieces` ends, where `run_pieces` gave `status`.
+/// Returns the status with which `pieces` ends, after `run_pieces` returned `status`.
 ///
-/// Where `status` is 0 or 1 the output is flushed, once, and where that fails the answer is 3 and
-/// `stderr` takes the line for standard error. Any other status is the answer, and nothing is done.
+/// If `status` is 0 or 1 the output is flushed, once; if that fails the result is 3 and `stderr` takes the
+/// line for standard error. Any other status is returned, and nothing is done.
 ///
 /// Cost: one flush.
 pub fn finish_run<W: Write, E: Sink>(status: u8, out: &mut Counted<W>, stderr: &mut E) -> u8
@@ -102,8 +101,7 @@ pub fn finish_run<W: Write, E: Sink>(status: u8, out: &mut Counted<W>, stderr: &
     }
 }
 
-// Does what the arguments ask for with all that the reader gives, and answers how many of the lines are
-// errors.
+// Carries out the request for all that the reader gives, and returns how many of the lines are errors.
 fn run_request<A: Allocator + Copy, R: Source, W: Write>(
     alloc: A,
     args: &[String<A>],
@@ -132,7 +130,7 @@ fn run_request<A: Allocator + Copy, R: Source, W: Write>(
     write_asked(alloc, &request, bytes.as_slice(), out)
 }
 
-// Writes the lines of what is asked for of the bytes, and answers how many of them are errors.
+// Writes the lines of the request over the bytes, and returns how many of them are errors.
 fn write_asked<A: Allocator + Copy, W: Write>(
     alloc: A,
     request: &Request<A>,
@@ -154,7 +152,7 @@ fn write_asked<A: Allocator + Copy, W: Write>(
     }
 }
 
-// Writes the listing of the bytes. It is not in line, so that its loop has all registers.
+// Writes the listing of the bytes. It is not inlined, so that its loop has all registers.
 #[inline(never)]
 fn list_bytes<W: Write>(bytes: &[u8], out: &mut Counted<W>) -> Result<usize, Stop>
     ensures lines { IfOk result (Known W.contents (WritesRun forward_layout bytes.now) out.old out.new) }
@@ -170,7 +168,8 @@ fn list_bytes<W: Write>(bytes: &[u8], out: &mut Counted<W>) -> Result<usize, Sto
     }
 }
 
-// Writes the lines of what a merger answers over the bytes, once it has them all. It is not in line either.
+// Writes the lines of a merger's results for the bytes, once all are collected. It is not inlined, so that
+// its loop has all registers.
 #[inline(never)]
 fn merge_bytes<A: Allocator, W: Write>(
     alloc: A,
@@ -193,7 +192,7 @@ fn merge_bytes<A: Allocator, W: Write>(
     }
 }
 
-// All that a merger answers over the bytes.
+// All results of a merger for the bytes.
 fn merge_all<A: Allocator>(
     alloc: A,
     bytes: &[u8],
@@ -204,7 +203,7 @@ fn merge_all<A: Allocator>(
     Ok(answers)
 }
 
-// Writes the lines of what the walk of the word over the bytes answers, once it has them all.
+// Writes the lines of the word's walk over the bytes, once its results are collected.
 fn walk_bytes<A: Allocator, W: Write>(
     alloc: A,
     bytes: &[u8],
@@ -228,8 +227,8 @@ fn walk_bytes<A: Allocator, W: Write>(
     }
 }
 
-// All bytes that the reader still gives, read until it answers the end, and no more then. A read that is
-// interrupted is made again.
+// Reads all remaining bytes, until a read returns the end, and not after that. An interrupted read is
+// repeated.
 fn read_whole<A: Allocator, R: Source>(alloc: A, input: &mut R) -> Result<Vec<u8, A>, Stop>
     ensures bytes { IfOk result (λ bytes. IfSome (R.remaining input.old) (λ xs. bytes.items ≡ xs)) }
     ensures drained { OnOk result (IsDrained (R.remaining input.old) (R.remaining input.new)) }
@@ -252,7 +251,7 @@ fn read_whole<A: Allocator, R: Source>(alloc: A, input: &mut R) -> Result<Vec<u8
     Err(Stop::CannotRead)
 }
 
-// Adds what was read to the bytes.
+// Appends the bytes that were read.
 fn add<A: Allocator>(part: &[u8], bytes: &mut Vec<u8, A>) -> Result<(), Stop>
     ensures items { OnOk result (bytes.new.items ≡ bytes.old.items ++ part.now) }
     ensures err { IfErr result (λ stop. stop ≡ Stop.NoMemory) }

@@ -13,16 +13,15 @@ use std::io::{Read, Write};
 use text_runs::counted::Counted;
 use text_runs::streams::Sink;
 
-/// The name that `recode` gives itself on standard error.
+/// The name that `recode` prints on standard error.
 pub const PROGRAM: &str = "recode";
 
-/// Runs `recode` on the arguments after the program's name, and gives its status.
+/// Runs `recode` on the arguments after the program's name, and returns its status.
 ///
-/// The arguments are the names of two forms, `utf8`, `utf16le` or `utf16be`, which may be the same:
-/// that of the input and that of the output. The status is then 0, whatever was replaced. All other
-/// arguments are wrong, and then nothing is read or written, and the status is 2. Where reading or
-/// writing fails, or memory is refused, it is 3. `stderr` takes the line for standard error, and
-/// nothing where the status is 0.
+/// The arguments are the names of two encodings, `utf8`, `utf16le` or `utf16be`, which may be the same: that
+/// of the input and that of the output. The status is then 0, whatever was replaced. All other arguments are
+/// invalid: then nothing is read or written, and the status is 2. If reading, writing or allocation fails, it
+/// is 3. `stderr` takes the line for standard error, and nothing if the status is 0.
 ///
 /// Cost: O(n), allocates an amount that does not grow with the input.
 pub fn run_recode<A: Allocator + Copy, R: Read, W: Write, E: Sink>(
@@ -60,7 +59,7 @@ pub fn run_recode<A: Allocator + Copy, R: Read, W: Write, E: Sink>(
     }
 }
 
-// The two forms that the arguments name, where they do.
+// The two encodings that the arguments name, if they do.
 fn forms_of<A: Allocator>(args: &[String<A>]) -> Option<(Form, Form)>
     ensures some { IfSome result (λ forms. AsksForms (map string_bytes args.now) forms.0 forms.1) }
     ensures none { IfNone result ((from to : Form) → ¬ AsksForms (map string_bytes args.now) from to) }
@@ -71,7 +70,7 @@ fn forms_of<A: Allocator>(args: &[String<A>]) -> Option<(Form, Form)>
     }
 }
 
-// The form of that name, where it is one.
+// The encoding of that name, if it is one.
 fn form_of(name: &str) -> Option<Form>
     ensures some { IfSome result (λ form. name.now ≡ form_name form) }
     ensures none { IfNone result ((form : Form) → name.now ≢ form_name form) }
@@ -84,7 +83,7 @@ fn form_of(name: &str) -> Option<Form>
     }
 }
 
-// Why a program ends at that fault.
+// The reason why a program ends at that fault.
 fn stop_of(fault: RecodeFault) -> Stop
     ensures { result ≡ reason_of fault }
 {

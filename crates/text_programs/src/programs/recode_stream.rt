@@ -1,63 +1,36 @@
-//! Recoding from a reader to a writer.
+//! Transcoding from a reader to a writer.
 ghost use Rattle.std.specs.Prelude.{◌≡◌, ◌≢◌, ◌-◌, ◌^◌, ◌<◌, [], length, Some, IfSome, OnOk};
 ghost use Rattle.text_runs.specs.Failures.{IsDrained, Known, Pipes, NoFailedRead, NoReadAfterEnd};
-ghost use Rattle.text_programs.specs.RecodeStream.{AppendsRecoded, WritesRecoded, BeginsRecoded, HoldsBack, Passes, PassesFront, PassesLast, PassesLastFront, recode_fault_text};
+ghost use Rattle.text_programs.specs.RecodeStream.{AppendsRecoded, WritesRecoded, BeginsRecoded, HoldsBack, Passes, PassesFront, PassesLast, PassesLastFront};
 
 use recoding::form::Form;
 use recoding::recoder::Recoder;
 use std::alloc::Allocator;
-use std::error::Error;
-use std::fmt;
 use std::io::{ErrorKind, Read, Write};
 use text_runs::counted::Counted;
 use text_runs::streams::write_whole;
+use thiserror::Error;
 
 /// Why `recode` ended before the end of the input.
-#[derive(Clone, Copy, Debug, PartialEq, Eq, Drop)]
+#[derive(Clone, Copy, Debug, PartialEq, Eq, Drop, Error)]
 pub enum RecodeFault {
-    /// The reader gave an error, or no end in `u64::MAX` reads.
+    /// The reader returned an error, or no end in `u64::MAX` reads.
+    #[error("cannot read")]
     Read,
-    /// The writer gave an error, or took nothing.
+    /// The writer returned an error, or took nothing.
+    #[error("cannot write")]
     Write,
-    /// Memory was refused.
+    /// An allocation failed.
+    #[error("no memory")]
     Memory,
 }
 
-impl RecodeFault {
-    // What is said of it.
-    fn text(self) -> &'static str
-        ensures { result.now ≡ recode_fault_text self }
-    {
-        match self {
-            RecodeFault::Read => "cannot read",
-            RecodeFault::Write => "cannot write",
-            RecodeFault::Memory => "no memory",
-        }
-    }
-}
-
-impl fmt::Display for RecodeFault {
-    ghost use Rattle.std.specs.Prelude.{Some};
-    ghost use Rattle.text_programs.specs.RecodeStream.{recode_fault_text};
-
-    ghost output = { λ e. Some (recode_fault_text e) };
-
-    ghost styled_output = { λ e _. Some (recode_fault_text e) };
-
-    /// Writes the reason in a few words. Width and fill are ignored.
-    fn fmt<W: fmt::Write>(&self, f: &mut fmt::Formatter<W>) -> fmt::Result {
-        f.write_str(self.text())
-    }
-}
-
-impl Error for RecodeFault {}
-
-// How many bytes are read at a time.
+// The size of a read, in bytes.
 const PART: usize = 65536;
 
-/// Converts all that the reader gives from one form into another, part by part.
+/// Converts all that the reader gives from one encoding into another, part by part.
 ///
-/// A read that is interrupted is made again. No read is made after the end of the input.
+/// An interrupted read is repeated. No read is made after the end of the input.
 ///
 /// Cost: O(n), allocates an amount that does not grow with the input.
 pub fn recode<A: Allocator, R: Read, W: Write>(
@@ -99,7 +72,7 @@ pub fn recode<A: Allocator, R: Read, W: Write>(
     Err(RecodeFault::Read)
 }
 
-// Recodes a part, and writes what comes of it by way of an empty list.
+// Transcodes a part, and writes the output by way of an empty list.
 fn write_part<A: Allocator, W: Write>(
     recoder: &mut Recoder,
     part: &[u8],
@@ -128,7 +101,7 @@ fn write_part<A: Allocator, W: Write>(
     Ok(())
 }
 
-// Writes what comes of the bytes that are held at the end, by way of an empty list.
+// Transcodes the carried-over bytes at the end, and writes the output by way of an empty list.
 fn write_end<A: Allocator, W: Write>(
     recoder: Recoder,
     recoded: &mut Vec<u8, A>,

@@ -1,4 +1,4 @@
-//! What the arguments of `pieces` ask for.
+//! The requests that the arguments of `pieces` make.
 ghost use Rattle.std.specs.Prelude.{◌≡◌, ◌↔◌, IsTrue, [], ◌∷◌, map, codes, string_bytes, Contains, IfOk, IfErr};
 ghost use Rattle.text_programs.specs.Arguments.{letter, AreLetters, Asks, AreWrong, asked_in};
 
@@ -6,20 +6,21 @@ use crate::programs::stops::Stop;
 use std::alloc::{AllocError, Allocator};
 use text_runs::runs::items::End;
 
-/// What `pieces` is to do.
+/// The request of a run of `pieces`.
 #[derive(Drop)]
 pub(crate) enum Request<A: Allocator> {
-    /// It lists the pieces.
+    /// List the pieces.
     Listing,
-    /// It lists what a merger answers.
+    /// List the results of a merger.
     Merged,
-    /// It lists what the walk of this word answers.
+    /// List the results of the walk of this word.
     Walk(Vec<End, A>),
 }
 
-/// What the arguments ask for: nothing but the listing, `--merge` alone, or `--ends` and a word.
+/// The request that the arguments make: the listing with no argument, `--merge` as the only one, or `--ends`
+/// and a word.
 ///
-/// All else is wrong, and no memory is asked for before that is known.
+/// All other arguments are invalid, and nothing is allocated before that is known.
 pub(crate) fn request_of<A: Allocator + Copy>(
     alloc: A,
     args: &[String<A>],
@@ -52,7 +53,7 @@ pub(crate) fn request_of<A: Allocator + Copy>(
     }
 }
 
-// Whether the two ask for the walk of a word.
+// Returns true if the two arguments request the walk of a word.
 fn asks_walk<A: Allocator>(option: &String<A>, word: &String<A>) -> bool
     ensures { IsTrue result ↔ ((string_bytes option.now ≡ codes "--ends") ×
         AreLetters (string_bytes word.now)) }
@@ -60,14 +61,14 @@ fn asks_walk<A: Allocator>(option: &String<A>, word: &String<A>) -> bool
     is_text(option, "--ends") && is_word(word.as_bytes())
 }
 
-// Whether the argument is this text.
+// Returns true if the argument is this text.
 fn is_text<A: Allocator>(arg: &String<A>, text: &str) -> bool
     ensures { IsTrue result ↔ (string_bytes arg.now ≡ text.now) }
 {
     arg.as_str() == text
 }
 
-// Whether these are the letters of a word.
+// Returns true if all letters are `F` or `B`.
 fn is_word(letters: &[u8]) -> bool
     ensures { IsTrue result ↔ AreLetters letters.now }
 {

@@ -1,4 +1,4 @@
-//! Why a program ends early, and what it then says.
+//! The reasons why a program ends early, and their messages.
 ghost use Rattle.std.specs.Prelude.{◌≡◌, ◌<◌, IsTrue, OnOk, OnErr};
 ghost use Rattle.std.specs.Io.KnownBytes.{Appends};
 ghost use Rattle.text_runs.specs.Failures.{AppendsFront};
@@ -10,21 +10,21 @@ use text_runs::streams::{Sink, write_whole};
 /// Why a program ends early.
 #[derive(Clone, Copy, Debug, PartialEq, Eq, Drop)]
 pub enum Stop {
-    /// The arguments are wrong.
+    /// The arguments are invalid.
     WrongArguments,
-    /// The input gave an error.
+    /// The input returned an error.
     CannotRead,
-    /// The output gave an error, or took nothing.
+    /// The output returned an error, or took nothing.
     CannotWrite,
-    /// Memory was refused.
+    /// An allocation failed.
     NoMemory,
 }
 
 impl Stop {
-    /// The exit status, after the line on standard error that says why. Whether that line could be
+    /// Writes the reason as a line on standard error, and returns the exit status. Whether that line could be
     /// written is ignored.
     ///
-    /// Cost: one line is written.
+    /// Cost: that of writing one line.
     pub fn report<E: Sink>(self, program: &str, stderr: &mut E) -> u8
         ensures status { result ≡ status_of self }
         ensures line { Says E.Sink stderr.old stderr.new (stop_line program.now self) }
@@ -36,7 +36,7 @@ impl Stop {
         }
     }
 
-    // Writes the line that says why, with the program's name before it, up to the writer's first failure.
+    // Writes the reason as a line, with the program's name before it, up to the writer's first failure.
     fn write_line<E: Sink>(self, program: &str, stderr: &mut E) -> io::Result<()>
         ensures whole { OnOk result (Appends (E.contents stderr.old) (E.contents stderr.new)
             (stop_line program.now self)) }
@@ -50,7 +50,7 @@ impl Stop {
         write_whole(b"\n", stderr)
     }
 
-    // What is said of it.
+    // The message for the reason.
     pub(crate) fn text(self) -> &'static str
         ensures { result.now ≡ stop_text self }
     {

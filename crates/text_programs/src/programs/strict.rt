@@ -1,4 +1,4 @@
-//! Strict recoding from a reader to a writer: to the first faulty byte.
+//! Strict transcoding from a reader to a writer: up to the first invalid byte.
 ghost use Rattle.std.specs.Prelude.{◌≡◌, ◌≢◌, ◌+◌, ◌-◌, ◌*◌, ◌^◌, ◌<◌, ◌≤◌, [], length, IfSome, IfErr, OnOk};
 ghost use Rattle.text_runs.specs.Failures.{IsDrained, Known, Pipes, NoFailedRead, NoReadAfterEnd};
 ghost use Rattle.text_programs.specs.StrictRelayed.{BeginsTranscoded, EndsText, HoldsText, IfFaulty, IsFollowed, PassesText, PassesTextFront, PassesTextLast, StopsFaulty, StopsText, WritesText, strict_error_text};
@@ -12,7 +12,7 @@ use std::io::{ErrorKind, Read, Write};
 use text_runs::counted::Counted;
 use text_runs::streams::write_whole;
 
-/// Where the first invalid bytes of an input are, and why they are invalid.
+/// The offset of the first invalid bytes of an input, and why they are invalid.
 #[derive(Clone, Copy, Debug, PartialEq, Eq, Drop)]
 pub struct FaultAt {
     /// Their offset in the whole input, in bytes: exact in inputs below 2^64 bytes.
@@ -24,16 +24,16 @@ pub struct FaultAt {
 /// Why `recode_strict` ended before the end of the input.
 #[derive(Clone, Copy, Debug, PartialEq, Eq, Drop)]
 pub enum StrictError {
-    /// The reader gave an error, or no end in `u64::MAX` reads.
+    /// The reader returned an error, or no end in `u64::MAX` reads.
     Read,
-    /// The writer gave an error, or took nothing.
+    /// The writer returned an error, or took nothing.
     Write,
     /// The input is invalid.
     Faulty(FaultAt),
 }
 
 impl StrictError {
-    // What is said of it.
+    // The message for the error.
     fn text(self) -> &'static str
         ensures { result.now ≡ strict_error_text self }
     {
@@ -61,17 +61,17 @@ impl fmt::Display for StrictError {
 
 impl Error for StrictError {}
 
-// How many bytes are read at a time.
+// The size of a read, in bytes.
 const PART: usize = 16384;
 
-// Room for all that a part becomes, and what is held before it: text at most doubles.
+// The capacity for a transcoded part and the bytes carried over before it: text at most doubles.
 const ROOM: usize = 2 * (PART + 3);
 
-/// Converts all that the reader gives from one form into another, part by part, and stops at the
-/// first invalid byte or lone surrogate. (`recode` replaces each by U+FFFD instead.)
+/// Converts all that the reader gives from one encoding into another, part by part, and stops at the first
+/// invalid byte or lone surrogate. (`recode` replaces each by U+FFFD instead.)
 ///
-/// Exactly the text before it is written. The reader may have given bytes after it. A read that is
-/// interrupted is made again. No read is made after the end of the input.
+/// Exactly the text before it is written. The reader may have given bytes after it. An interrupted read is
+/// repeated. No read is made after the end of the input.
 ///
 /// Cost: O(n).
 pub fn recode_strict<R: Read, W: Write>(
@@ -116,7 +116,7 @@ pub fn recode_strict<R: Read, W: Write>(
     Err(StrictError::Read)
 }
 
-// Recodes a part by way of the room, and writes what comes of it. So many bytes were read before the part.
+// Transcodes a part by way of the buffer, and writes the output. `read` bytes were read before the part.
 fn pass_part<W: Write>(
     recoder: &mut Recoder,
     part: &[u8],
@@ -146,7 +146,8 @@ fn pass_part<W: Write>(
     }
 }
 
-// Recodes what is held at the end by way of the room, and writes what comes of it. So many bytes were read.
+// Transcodes the carried-over bytes at the end by way of the buffer, and writes the output. `read` bytes were
+// read.
 fn pass_end<W: Write>(
     recoder: &mut Recoder,
     offset: u64,
@@ -174,7 +175,7 @@ fn pass_end<W: Write>(
     }
 }
 
-// The error at a fault, where so many bytes were read.
+// The error at a fault, after `read` bytes were read.
 fn fault_at(fault: Fault, read: u64) -> StrictError
     requires { fault.back ≤ read }
     ensures { result ≡ StrictError.Faulty (record { offset = read - fault.back; kind = fault.kind }) }

@@ -18,7 +18,7 @@ use std::alloc::{AllocError, Allocator};
 
 /// All characters and invalid bytes of an iterator, in order.
 ///
-/// All are characters exactly where the bytes are UTF-8. `AllocError` says that memory was refused.
+/// All are characters if and only if the bytes are UTF-8. Fails if an allocation fails.
 ///
 /// Condition: the source ends; if its `next` has a condition, it holds.
 ///
@@ -42,11 +42,9 @@ pub fn merge_utf8<A: Allocator, I: Iterator<Item = u8>>(
     Ok(all)
 }
 
-/// All characters and lone surrogates of an iterator, in order: those of `forward_utf16` over the
-/// same units.
+/// All characters and lone surrogates of an iterator, in order: those of `forward_utf16` over the same units.
 ///
-/// All are characters exactly where the units are UTF-16. `AllocError` says that memory was
-/// refused.
+/// All are characters if and only if the units are UTF-16. Fails if an allocation fails.
 ///
 /// Condition: the source ends; if its `next` has a condition, it holds.
 ///
@@ -72,7 +70,7 @@ pub fn merge_utf16<A: Allocator, I: Iterator<Item = u16>>(
     Ok(all)
 }
 
-/// All pieces of the units, in order. `AllocError` says that memory was refused.
+/// All pieces of the units, in order. Fails if an allocation fails.
 ///
 /// Cost: O(n), allocates.
 pub fn forward_utf16<A: Allocator>(alloc: A, src: &[u16]) -> Result<Vec<UnitItem, A>, AllocError>

@@ -1,4 +1,4 @@
-//! How many characters and how many faults some bytes have.
+//! The number of characters and of faults in some bytes.
 ghost use Rattle.std.specs.Prelude.{◌≡◌, length};
 ghost use Rattle.encode_unicode.specs.Pieces.{pieces, unit_pieces};
 ghost use Rattle.text_runs.specs.ForwardRuns.{faulty_item_count};
@@ -8,9 +8,9 @@ use crate::runs::well_formed::valid_up_to;
 use encode_unicode::iterator::Utf8CharDecoder;
 use utf_lanes::unit_starts::unit_starts_in;
 
-/// How many bytes are invalid: 0 if all are valid UTF-8, and only then.
+/// The number of invalid bytes: 0 if and only if the bytes are valid UTF-8.
 ///
-/// Cost: O(n). Text is passed as fast as `valid_up_to` goes over it.
+/// Cost: O(n). Text is scanned as fast as by `valid_up_to`.
 pub fn fault_count(bytes: &[u8]) -> usize
     ensures { result ≡ faulty_item_count (pieces bytes.now) }
 {
@@ -26,7 +26,7 @@ pub fn fault_count(bytes: &[u8]) -> usize
     faults
 }
 
-/// How many pieces the bytes have: a character is one, and so is each invalid byte.
+/// The number of pieces in the bytes: a character is one, and so is each invalid byte.
 ///
 /// Cost: O(n).
 pub fn char_count(bytes: &[u8]) -> usize
@@ -42,9 +42,9 @@ pub fn char_count(bytes: &[u8]) -> usize
     count
 }
 
-/// How many pieces the units have: a character is one, and so is each lone surrogate.
+/// The number of pieces in the units: a character is one, and so is each lone surrogate.
 ///
-/// Cost: O(n). It goes in blocks, over lone surrogates too.
+/// Cost: O(n), in blocks, also over lone surrogates.
 pub fn unit_char_count(units: &[u16]) -> usize
     ensures { result ≡ length (unit_pieces units.now) }
 {

@@ -1,4 +1,4 @@
-//! What whole runs answer, and what they are asked by.
+//! The items of whole runs, and the ends from which they are taken.
 
 use encode_unicode::error::{Utf8Error, Utf16PairError};
 use encode_unicode::{Utf8Char, Utf16Char};
@@ -8,7 +8,7 @@ use encode_unicode::{Utf8Char, Utf16Char};
 pub enum End {
     /// The piece at the front.
     Front,
-    /// The piece at the back.
+    /// The piece at the end.
     Back,
 }
 

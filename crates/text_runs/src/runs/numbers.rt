@@ -31,8 +31,8 @@ pub fn offset_of(bytes: &[u8], number: usize) -> Option<usize>
     None
 }
 
-/// How many pieces begin before this offset, or how many there are, if it is the length or more. If a piece begins at the offset,
-/// this is its number, counted from 0: `number_of(b"h\xc3\xa9\xe2\x82A", 3)` is 2.
+/// The number of pieces that begin before this offset, or of all if it is the length or more. If a piece begins at
+/// the offset, this is its number, counted from 0: `number_of(b"h\xc3\xa9\xe2\x82A", 3)` is 2.
 ///
 /// Cost: O(n) in the offset.
 pub fn number_of(bytes: &[u8], offset: usize) -> usize
@@ -42,8 +42,8 @@ pub fn number_of(bytes: &[u8], offset: usize) -> usize
     char_count(&bytes[..end])
 }
 
-/// The offset in units of the piece of units with this number, counted from 0. `None` if there are no more pieces. A piece is a
-/// character or one lone surrogate.
+/// The offset in units of the piece of units with this number, counted from 0. `None` if there are no more pieces. A
+/// piece is a character or one lone surrogate.
 ///
 /// Cost: O(n) in the offset.
 pub fn unit_offset_of(units: &[u16], number: usize) -> Option<usize>
@@ -52,8 +52,8 @@ pub fn unit_offset_of(units: &[u16], number: usize) -> Option<usize>
     nth_unit_start(units, number)
 }
 
-/// How many pieces of units begin before this offset in units, or how many there are, if it is the length or more. If a piece
-/// begins at the offset, this is its number, counted from 0.
+/// The number of pieces of units that begin before this offset in units, or of all if it is the length or more. If a
+/// piece begins at the offset, this is its number, counted from 0.
 ///
 /// Cost: O(n) in the offset.
 pub fn unit_number_of(units: &[u16], offset: usize) -> usize

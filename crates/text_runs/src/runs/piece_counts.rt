@@ -1,4 +1,4 @@
-//! Pieces that are counted without going from one to the next: so a processor need not foresee how long each of them is.
+//! Pieces counted without stepping from one to the next: so no branch depends on the length of a piece.
 ghost use Rattle.std.specs.Prelude.{◌≡◌, ◌+◌, ◌≤◌, ◌<◌, drop, length};
 ghost use Rattle.encode_unicode.specs.Pieces.{pieces};
 ghost use Rattle.text_runs.specs.InnerBytes.{inner_after, inner_before, is_begun, is_longer};
@@ -6,7 +6,7 @@ ghost use Rattle.text_runs.specs.InnerBytes.{inner_after, inner_before, is_begun
 use encode_unicode::CharExt;
 use utf_base::elements::is_continuation;
 
-/// How many characters and invalid bytes the bytes have.
+/// The number of characters and invalid bytes in the bytes.
 ///
 /// Cost: O(n).
 // An inner byte is one that a code has after its first, and every other byte begins a piece.
@@ -18,15 +18,16 @@ pub fn piece_count(bytes: &[u8]) -> usize
     bytes.len() - wide.inner - all.inner - inner_from(bytes, all.place)
 }
 
-// A place, and how many inner bytes those codes have that begin from another place on and before it.
+// An offset, and the number of inner bytes of the characters that begin from another offset on and before it.
 #[derive(Clone, Copy, Drop)]
 struct Inner {
     place: usize,
     inner: usize,
 }
 
-// Those from the start on, by blocks of so many places, as far as these go. A loop looks at the places of a block, which a compiler
-// makes one vector of, and a byte counts the inner bytes there. What begins at a place is told by the three bytes after it too.
+// Inner bytes from the start on, by blocks of `PLACES` offsets, up to the last whole block. A loop examines the
+// offsets of a block, which the compiler vectorises, and a `u8` counts the inner bytes there. Whether a character
+// begins at an offset depends on the three bytes after it too.
 #[inline(always)]
 fn blocks_inner<const PLACES: usize>(bytes: &[u8], start: usize) -> Inner
     requires some { 0 < PLACES }
@@ -45,7 +46,7 @@ fn blocks_inner<const PLACES: usize>(bytes: &[u8], start: usize) -> Inner
     Inner { place, inner }
 }
 
-// How many inner bytes those codes have that begin at the start or after it.
+// The number of inner bytes of the characters that begin at the start or after it.
 fn inner_from(bytes: &[u8], start: usize) -> usize
     requires { start ≤ length bytes.now }
     ensures { inner_before bytes.now start + result ≡ inner_before bytes.now (length bytes.now) }
@@ -57,7 +58,7 @@ fn inner_from(bytes: &[u8], start: usize) -> usize
     inner
 }
 
-// How many inner bytes the code has that begins the bytes.
+// The number of inner bytes of the character that begins the bytes.
 #[inline(always)]
 fn front_inner(bytes: &[u8]) -> usize
     requires { 0 < length bytes.now }
@@ -72,7 +73,7 @@ fn front_inner(bytes: &[u8]) -> usize
     }
 }
 
-// How many those have that begin at the places of a block.
+// The number of inner bytes of the characters that begin at the offsets of a block.
 #[inline(always)]
 fn block_inner<const PLACES: usize>(bytes: &[u8]) -> u8
     requires few { PLACES ≤ 64 }
@@ -86,7 +87,7 @@ fn block_inner<const PLACES: usize>(bytes: &[u8]) -> u8
     inner
 }
 
-// How many the one has that begins at the place.
+// The number of inner bytes of the character that begins at the offset.
 #[inline(always)]
 fn inner_at(bytes: &[u8], place: usize) -> u8
     requires { place + 4 ≤ length bytes.now }
@@ -101,7 +102,7 @@ fn inner_at(bytes: &[u8], place: usize) -> u8
     1 + u8::from(0xe0 <= first) + u8::from(0xf0 <= first)
 }
 
-// Whether a code of two bytes or more begins these four.
+// Returns true if a character of two bytes or more begins these four.
 #[inline(always)]
 fn is_longer(first: u8, second: u8, third: u8, fourth: u8) -> bool
     ensures { result ≡ is_longer first second third fourth }
@@ -111,7 +112,7 @@ fn is_longer(first: u8, second: u8, third: u8, fourth: u8) -> bool
         && (first < 0xf0 || is_continuation(fourth))
 }
 
-// Whether one may begin with these two.
+// Returns true if a character of two bytes or more may begin with these two.
 #[inline(always)]
 fn is_begun(first: u8, second: u8) -> bool
     ensures { result ≡ is_begun first second }

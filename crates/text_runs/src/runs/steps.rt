@@ -1,4 +1,4 @@
-//! Bytes that are gone through step by step: ASCII in blocks, and else text with the piece after it.
+//! Bytes that are scanned step by step: ASCII in blocks, and otherwise text with the piece after it.
 ghost use Rattle.std.specs.Prelude.{◌≡◌, ◌+◌, ◌<◌, ◌≤◌, Some, length, option_map, slice_get, take};
 ghost use Rattle.std.specs.Str.{IsUtf8};
 ghost use Rattle.encode_unicode.specs.Pieces.{pieces};
@@ -10,27 +10,29 @@ use encode_unicode::CharExt;
 use utf_lanes::ascii_texts::ascii_wide_end;
 use utf_lanes::starts::{nth_start, starts_in};
 
-/// How many bytes are judged at once where all are counted: so many stay in the cache until they are counted.
+/// The number of bytes that are validated in one step if all pieces are counted: they stay in the cache until
+/// they are counted.
 pub const COUNTED: usize = 16_384;
 
-/// And where one of them is sought: so the search stops soon after it.
+/// The number of bytes that are validated in one step if one piece is sought, so that the search stops soon
+/// after it.
 pub const SOUGHT: usize = 4096;
 
-/// Bytes at the front, of which no more than one character or invalid byte follows those that are valid.
+/// Bytes at the front: valid ones, followed by at most one character or invalid byte.
 #[derive(Clone, Copy, Drop)]
 pub struct Step {
-    /// How many they are.
+    /// The number of bytes.
     pub len: usize,
-    /// How many characters and invalid bytes they have.
+    /// The number of characters and invalid bytes.
     pub pieces: usize,
-    /// How many of these are invalid bytes.
+    /// The number of invalid bytes.
     pub faults: usize,
-    /// How many bytes at their front are valid.
+    /// The number of valid bytes at the front.
     pub text: usize,
 }
 
-/// The next step over some bytes, of which no more than `most` are judged: valid bytes, and the character or invalid byte
-/// after them.
+/// The next step over some bytes, of which no more than `most` are validated: valid bytes, and the character or invalid
+/// byte after them.
 ///
 /// Condition: there is a byte.
 ///
@@ -91,10 +93,11 @@ pub fn piece_step(bytes: &[u8]) -> Step
     }
 }
 
-/// Where the character or invalid byte with this number begins in the bytes of a step: in the valid bytes at their front, or after
-/// them.
+/// The offset of the character or invalid byte with this number in the bytes of a step: among the valid bytes at
+/// their front, or after them.
 ///
-/// Condition: so many bytes at the front are valid, the number is below that of all, and no more than one follows the valid bytes.
+/// Condition: `text` bytes at the front are valid, the number is below that of all pieces, and at most one piece
+/// follows the valid bytes.
 ///
 /// Cost: O(n).
 pub fn offset_in_step(bytes: &[u8], text: usize, number: usize) -> usize

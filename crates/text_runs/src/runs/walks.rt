@@ -1,4 +1,4 @@
-//! Walks: some bytes, or units, asked from front and back, in any order.
+//! Walks: pieces of bytes or units, taken from front and end, in any order.
 ghost use Rattle.std.specs.Prelude.{◌≡◌, length, map, IfOk, IsOk};
 ghost use Rattle.utf_base.specs.Code.{utf8, utf16};
 ghost use Rattle.utf_base.specs.Walk.{IsWalk, utf8_bytes, utf16_units};
@@ -9,12 +9,11 @@ use crate::runs::items::{End, Item, UnitItem};
 use encode_unicode::iterator::{Utf8CharDecoder, Utf16CharDecoder};
 use std::alloc::{AllocError, Allocator};
 
-/// Takes one piece of the bytes for each entry of `word`, from the end that the entry names. If no
-/// byte remains, the answer is `None`.
+/// Takes one piece of the bytes for each entry of `word`, from the end that the entry names. If no byte
+/// remains, the result is `None`.
 ///
-/// No piece is given twice. From the front, the kind of an error depends on the bytes that remain
-/// at that moment. From the back it depends on the byte alone. If the word is empty, no memory is
-/// asked for.
+/// No piece is given twice. From the front, the kind of an error depends on the bytes that remain at that
+/// moment. From the end it depends only on the byte. If the word is empty, nothing is allocated.
 ///
 /// Cost: O(n) in the word, allocates.
 pub fn walk_utf8<A: Allocator>(
@@ -37,12 +36,12 @@ pub fn walk_utf8<A: Allocator>(
     Ok(answers)
 }
 
-/// Takes one piece of units of UTF-16 for each entry of `word`, from the end that the entry names.
-/// If no unit remains, the answer is `None`.
+/// Takes one piece of units of UTF-16 for each entry of `word`, from the end that the entry names. If no unit
+/// remains, the result is `None`.
 ///
-/// From the front, a lone leading surrogate is `UnmatchedLeadingSurrogate` if a unit remains after
-/// it, and `Incomplete` if none does. From the back it is always `Incomplete`. If the word is
-/// empty, no memory is asked for.
+/// From the front, a lone leading surrogate is `UnmatchedLeadingSurrogate` if a unit remains after it, and
+/// `Incomplete` if none does. From the end it is always `Incomplete`. If the word is empty, nothing is
+/// allocated.
 ///
 /// Cost: O(n) in the word, allocates.
 pub fn walk_utf16<A: Allocator>(

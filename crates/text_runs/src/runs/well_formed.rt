@@ -1,4 +1,4 @@
-//! How far bytes and units are well-formed.
+//! The length of the well-formed front of bytes and units.
 ghost use Rattle.std.specs.Prelude.{◌≡◌, ◌≤◌, length, take};
 ghost use Rattle.std.specs.Str.{IsUtf8};
 ghost use Rattle.utf_base.specs.Code.{utf8, utf16};

@@ -21,7 +21,7 @@ pub enum CodepointError {
 }
 
 impl CodepointError {
-    /// What `Display` writes.
+    /// The message that `Display` writes.
     pub fn description(&self) -> &'static str
         ensures { result.now ≡ codepoint_error_text self.now }
     {
@@ -31,7 +31,7 @@ impl CodepointError {
         }
     }
 
-    /// All numbers that are refused for this reason.
+    /// All numbers that are rejected for this reason.
     pub fn error_range(self) -> RangeInclusive<u32>
         ensures first { range_inclusive_start result ≡ first_refused self }
         ensures last { range_inclusive_end result ≡ last_refused self }
@@ -69,7 +69,7 @@ pub enum FromStrError {
 }
 
 impl FromStrError {
-    /// What `Display` writes.
+    /// The message that `Display` writes.
     pub fn description(&self) -> &'static str
         ensures { result.now ≡ from_str_error_text self.now }
     {
@@ -98,7 +98,7 @@ impl Error for FromStrError {}
 pub struct EmptyStrError;
 
 impl EmptyStrError {
-    /// What `Display` writes.
+    /// The message that `Display` writes.
     pub fn description(&self) -> &'static str
         ensures { result.now ≡ empty_str_error_text }
     {
@@ -124,7 +124,7 @@ impl Error for EmptyStrError {}
 pub struct NonAsciiError;
 
 impl NonAsciiError {
-    /// What `Display` writes.
+    /// The message that `Display` writes.
     pub fn description(&self) -> &'static str
         ensures { result.now ≡ non_ascii_error_text }
     {
@@ -145,13 +145,13 @@ impl fmt::Display for NonAsciiError {
 
 impl Error for NonAsciiError {}
 
-/// A unit is no character by itself: it is a surrogate, half of a pair for a character above 0xffff
-/// (RFC 2781, section 2).
+/// A unit is not a character of its own: it is a surrogate, half of a pair for a character above 0xffff (RFC
+/// 2781, section 2).
 #[derive(Clone, Copy, Debug, PartialEq, Eq, Drop)]
 pub struct NonBmpError;
 
 impl NonBmpError {
-    /// What `Display` writes.
+    /// The message that `Display` writes.
     pub fn description(&self) -> &'static str
         ensures { result.now ≡ non_bmp_error_text }
     {

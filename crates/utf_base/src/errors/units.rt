@@ -1,4 +1,4 @@
-//! Why 16-bit units are no UTF-16 (RFC 2781, section 2.2).
+//! Why 16-bit units are not UTF-16 (RFC 2781, section 2.2).
 ghost use Rattle.std.specs.Prelude.{◌≡◌, Some};
 ghost use Rattle.utf_base.specs.Texts.{first_unit_error_text, array_error_text};
 ghost use Rattle.utf_base.specs.Texts.{tuple_error_text, slice_error_text, pair_error_text};
@@ -11,7 +11,7 @@ use std::fmt;
 pub struct Utf16FirstUnitError;
 
 impl Utf16FirstUnitError {
-    /// What `Display` writes.
+    /// The message that `Display` writes.
     pub fn description(&self) -> &'static str
         ensures { result.now ≡ first_unit_error_text }
     {
@@ -35,14 +35,14 @@ impl Error for Utf16FirstUnitError {}
 /// Why an array of two units does not begin with a character.
 #[derive(Clone, Copy, Debug, PartialEq, Eq, Drop)]
 pub enum Utf16ArrayError {
-    /// The first element is in 0xdc00 to 0xdfff, where only a second one may be.
+    /// The first element is in 0xdc00 to 0xdfff, which only a second one may be.
     FirstIsTrailingSurrogate,
     /// The first element is a leading surrogate, 0xd800 to 0xdbff, and the second does not complete it.
     SecondIsNotTrailingSurrogate,
 }
 
 impl Utf16ArrayError {
-    /// What `Display` writes.
+    /// The message that `Display` writes.
     pub fn description(&self) -> &'static str
         ensures { result.now ≡ array_error_text self.now }
     {
@@ -75,7 +75,7 @@ impl Error for Utf16ArrayError {}
 pub enum Utf16TupleError {
     /// The first unit is in 0xdc00 to 0xdfff, whether or not there is a second.
     FirstIsTrailingSurrogate,
-    /// The first unit is a character by itself, and there is a second.
+    /// The first unit is a character of its own, and there is a second.
     SuperfluousSecond,
     /// The first unit is a leading surrogate, and there is no second.
     MissingSecond,
@@ -84,7 +84,7 @@ pub enum Utf16TupleError {
 }
 
 impl Utf16TupleError {
-    /// What `Display` writes.
+    /// The message that `Display` writes.
     pub fn description(&self) -> &'static str
         ensures { result.now ≡ tuple_error_text self.now }
     {
@@ -113,22 +113,21 @@ impl Error for Utf16TupleError {}
 
 /// Why a slice of units does not begin with a character, or does not end with one.
 ///
-/// At the front the first unit is judged, with the one after it. At the back the last unit is judged
-/// by itself.
+/// At the front the first unit is examined, with the one after it; at the end only the last unit.
 #[derive(Clone, Copy, Debug, PartialEq, Eq, Drop)]
 pub enum Utf16SliceError {
     /// There are no units.
     EmptySlice,
-    /// The unit that is judged is a trailing surrogate, 0xdc00 to 0xdfff.
+    /// The unit that is examined is a trailing surrogate, 0xdc00 to 0xdfff.
     FirstIsTrailingSurrogate,
-    /// The unit that is judged is a leading surrogate, 0xd800 to 0xdbff, and no unit comes after it.
+    /// The unit that is examined is a leading surrogate, 0xd800 to 0xdbff, and no unit comes after it.
     MissingSecond,
     /// Only at the front: the first unit is a leading surrogate, and the second is no trailing one.
     SecondIsNotTrailingSurrogate,
 }
 
 impl Utf16SliceError {
-    /// What `Display` writes.
+    /// The message that `Display` writes.
     pub fn description(&self) -> &'static str
         ensures { result.now ≡ slice_error_text self.now }
     {
@@ -158,7 +157,7 @@ impl Error for Utf16SliceError {}
 /// Why a unit is not valid UTF-16: it is a lone surrogate.
 #[derive(Clone, Copy, Debug, PartialEq, Eq, Drop)]
 pub enum Utf16PairError {
-    /// A trailing (low) surrogate stands where a character should begin.
+    /// There is a trailing (low) surrogate where a character should begin.
     UnexpectedTrailingSurrogate,
     /// A leading (high) surrogate is followed by a unit that does not complete it. That unit may
     /// itself begin a character.
@@ -168,7 +167,7 @@ pub enum Utf16PairError {
 }
 
 impl Utf16PairError {
-    /// What `Display` writes.
+    /// The message that `Display` writes.
     pub fn description(&self) -> &'static str
         ensures { result.now ≡ pair_error_text self.now }
     {

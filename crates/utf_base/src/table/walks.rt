@@ -1,5 +1,5 @@
-//! What a walk over the table tells, for the crates that take one. It is an addition of this project, and no part of
-//! the table: the two tables say all of it.
+//! The law of the table, and the errors of its end states, for the crates that walk it. It is an addition of this
+//! project, and not part of the table.
 ghost use Rattle.std.specs.Prelude.{◌≡◌, true, Some};
 ghost use Rattle.utf_base.specs.declared.table.State.TheVariants.{Interrupted};
 ghost use Rattle.utf_base.specs.Table.{fault_of, is_first_fault, is_later_fault, is_running as running, WalkTellsTheKind};
@@ -7,14 +7,14 @@ ghost use Rattle.utf_base.specs.Table.{fault_of, is_first_fault, is_later_fault,
 use crate::errors::{Utf8Error, Utf8ErrorKind};
 use crate::table::State;
 
-/// The law of the table: the state after some bytes tells what is wrong with them, in the words of a merger,
-/// which takes one step for each byte. So the end `Done` is that of a code, and a running state is that of too
-/// few bytes.
+/// The law of the table: the state after some bytes determines their fault, in the kinds of a merger, which
+/// takes one step for each byte. So the end `Done` is that of a code, and a running state is that of too few
+/// bytes.
 pub fn walk_tells_the_kind()
     ensures { WalkTellsTheKind }
 {}
 
-/// Whether the state asks for a byte: then a step may be taken from it.
+/// Returns true if the state asks for a byte: then a step may be taken from it.
 #[inline(always)]
 pub fn is_running(state: State) -> bool
     ensures { result ≡ running state }
@@ -65,8 +65,8 @@ pub fn error_after(end: State) -> Utf8Error
     }
 }
 
-// What is wrong with the value of bytes that all continue. It is seldom asked, and out of line: a compiler would make one
-// jump through a table of it and of the test for the end of a code.
+// The error for the value of bytes that are all there and continue. It is rarely called, and outlined: otherwise the
+// compiler would merge it with the test for the end of a code into one jump table.
 #[cold]
 #[inline(never)]
 fn error_of_value(end: State) -> Utf8Error

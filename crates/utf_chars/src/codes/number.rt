@@ -1,4 +1,4 @@
-//! The number that a scalar is.
+//! The code point of a scalar.
 ghost use Rattle.std.specs.Prelude.{◌↔◌, IsTrue};
 ghost use Rattle.utf_base.specs.Front.{as_scalar, DecodesNumber};
 ghost use Rattle.utf_base.specs.Scalar.{IsScalar};
@@ -21,8 +21,8 @@ pub(crate) fn decode(c: u32) -> Result<char, CodepointError>
     }
 }
 
-// Whether the number is a scalar. The exclusive or puts the surrogates below all others, so that one
-// comparison tells.
+// Returns true if the number is a scalar. The exclusive or maps the surrogates below all other scalars, so
+// that one comparison is enough.
 #[inline(always)]
 #[tactic(auto, using(crate::proofs::ScalarTest::scalar_test))]
 fn is_scalar(c: u32) -> bool

@@ -21,7 +21,7 @@ pub(crate) fn padded_code(s: u32) -> [u16; 2]
     code_by_kind(s, s >= 0x1_0000)
 }
 
-/// The same where it is known already whether the code is a pair.
+/// The code of a number below 0x110000, if it is already known whether it is a pair.
 #[inline(always)]
 #[tactic(auto, unfolding(utf_base::specs::Code::utf16, crate::specs::Padded::padded))]
 pub(crate) fn code_by_kind(s: u32, is_pair: bool) -> [u16; 2]
@@ -52,7 +52,7 @@ pub(crate) fn encode(c: char) -> [u16; 2]
     [(code & 0xffff) as u16, (code >> 16) as u16]
 }
 
-/// The code, whose second unit is there only where the code has two.
+/// The code as one unit, or two.
 #[inline(always)]
 #[tactic(auto, unfolding(utf_base::specs::Code::utf16))]
 pub(crate) fn encode_tuple(c: char) -> (u16, Option<u16>)
@@ -66,10 +66,10 @@ pub(crate) fn encode_tuple(c: char) -> (u16, Option<u16>)
     }
 }
 
-/// The character whose code begins the units, and how many units the code has: 1 or 2.
+/// The character whose code begins the units, and the length of the code: 1 or 2 units.
 ///
-/// Where no code begins them, the error is the first that applies of `EmptySlice`,
-/// `FirstIsTrailingSurrogate`, `MissingSecond` and `SecondIsNotTrailingSurrogate`.
+/// If no code begins them, the error is the first that applies of `EmptySlice`, `FirstIsTrailingSurrogate`,
+/// `MissingSecond` and `SecondIsNotTrailingSurrogate`.
 #[inline(always)]
 #[tactic(auto, unfolding(utf_base::specs::Units::slice_fault), using(utf_base::proofs::Utf16Code::begins_with_unit, utf_base::proofs::Utf16Code::begins_with_pair))]
 pub(crate) fn decode_start(src: &[u16]) -> Result<(char, usize), Utf16SliceError>
@@ -79,7 +79,7 @@ pub(crate) fn decode_start(src: &[u16]) -> Result<(char, usize), Utf16SliceError
         return Err(Utf16SliceError::EmptySlice);
     }
     let first = src[0];
-    // Counted from the first surrogate: so each test of it is one of a bound.
+    // Counted from the first surrogate: so each test of it compares with one bound.
     let high = (first as u32).wrapping_sub(0xd800);
     if high >= 0x800 {
         return Ok((char_of_unit(first), 1));
@@ -93,9 +93,9 @@ pub(crate) fn decode_start(src: &[u16]) -> Result<(char, usize), Utf16SliceError
     Err(unpaired(first, Utf16SliceError::SecondIsNotTrailingSurrogate))
 }
 
-/// The character whose code ends the units, and how many units the code has: 1 or 2.
+/// The character whose code ends the units, and the length of the code: 1 or 2 units.
 ///
-/// Where no code ends them, the error is that of the last unit by itself: `EmptySlice` where there is none,
+/// If no code ends them, the error depends only on the last unit: `EmptySlice` if there is none,
 /// `FirstIsTrailingSurrogate` or `MissingSecond`.
 #[inline(always)]
 #[tactic(auto, using(utf_base::proofs::UnitEnds::ends_with_unit, utf_base::proofs::UnitEnds::ends_with_pair, utf_base::proofs::UnitEnds::no_units_end, utf_base::proofs::UnitEnds::no_units_end_empty))]
@@ -163,8 +163,8 @@ pub(crate) fn decode_tuple(units: (u16, Option<u16>)) -> Result<char, Utf16Tuple
 
 /// The character of two units, whatever they are.
 ///
-/// A first unit that is no surrogate stands for itself. Any other is taken for a leading surrogate, and
-/// the second for a trailing one: ten bits of each, above 0x10000.
+/// A first unit that is no surrogate represents itself. Otherwise the units are taken for a leading and a
+/// trailing surrogate: ten bits of each, above 0x10000.
 #[inline(always)]
 pub(crate) fn decode_array_unchecked(units: [u16; 2]) -> char
     ensures { result ≡ array_value units }
@@ -219,7 +219,7 @@ fn trailing_surrogate(s: u32) -> u16
     0xdc00 + (s & 0x3ff) as u16
 }
 
-// Whether the unit is a surrogate, leading or trailing.
+// Returns true if the unit is a surrogate, leading or trailing.
 #[inline(always)]
 fn is_surrogate(unit: u16) -> bool
     ensures { result ≡ is_surrogate unit }
@@ -227,8 +227,8 @@ fn is_surrogate(unit: u16) -> bool
     unit & 0xf800 == 0xd800
 }
 
-// Whether a surrogate, counted from the first one, and the unit after it are a leading and a trailing one:
-// so counted both are then below 0x400, and one comparison tells of both.
+// Returns true if a surrogate, counted from the first one, and the unit after it are a leading and a trailing
+// one: counted like this both are then below 0x400, and one comparison covers both.
 #[inline(always)]
 fn is_pair(high: u32, second: u16) -> bool
     ensures { result ≡ (nat_lt high 0x400 && is_trailing_surrogate second) }
@@ -237,7 +237,7 @@ fn is_pair(high: u32, second: u16) -> bool
     (high >> 10) + (low >> 10) == 0
 }
 
-// Why a surrogate is part of no code: that it is a trailing one, or otherwise what is wrong after it.
+// Why a surrogate is part of no code: it is a trailing one, or otherwise the error given.
 #[inline(always)]
 fn unpaired(first: u16, otherwise: Utf16SliceError) -> Utf16SliceError
     ensures { result ≡ (if is_trailing_surrogate first then FirstIsTrailingSurrogate else otherwise) }
@@ -249,7 +249,7 @@ fn unpaired(first: u16, otherwise: Utf16SliceError) -> Utf16SliceError
     }
 }
 
-// The character that a unit is by itself.
+// The character of a unit that is no surrogate.
 #[inline(always)]
 fn char_of_unit(unit: u16) -> char
     requires { is_surrogate unit ≡ false }
@@ -268,7 +268,8 @@ fn char_of_pair(first: u16, second: u16) -> char
     unsafe { char::from_u32_unchecked(value_of_pair(first, second)) }
 }
 
-// The same of units that are known to be one: two differences take fewer instructions than two masks.
+// The character of units that are known to be a pair: two subtractions take fewer instructions than two
+// masks.
 #[inline(always)]
 fn char_of_surrogates(first: u16, second: u16) -> char
     requires { (is_leading_surrogate first && is_trailing_surrogate second) ≡ true }

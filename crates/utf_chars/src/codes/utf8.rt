@@ -11,7 +11,7 @@ use utf_base::errors::{Utf8Error, Utf8ErrorKind};
 use utf_base::table::walks::{error_after, error_of_first, is_running};
 use utf_base::table::{State, class_of, step};
 
-/// The code, then zeros, and how many bytes the code has: 1 to 4.
+/// The code, followed by zeros, and its length: 1 to 4 bytes.
 #[inline(always)]
 pub(crate) fn encode(c: char) -> ([u8; 4], usize)
     ensures code { result.0 ≡ padded 4 (utf8 c) }
@@ -20,7 +20,7 @@ pub(crate) fn encode(c: char) -> ([u8; 4], usize)
     encode_number(c as u32)
 }
 
-/// The code of a number below 0x110000, then zeros.
+/// The code of a number below 0x110000, followed by zeros.
 #[inline(always)]
 pub(crate) fn padded_code(s: u32) -> [u8; 4]
     requires { s < 0x11_0000 }
@@ -30,13 +30,13 @@ pub(crate) fn padded_code(s: u32) -> [u8; 4]
     code
 }
 
-/// The character whose code begins the bytes, and how many bytes the code has: 1 to 4.
+/// The character whose code begins the bytes, and the length of the code: 1 to 4 bytes.
 ///
-/// Bytes after the code do not matter. Where no code begins them, the error is the first that applies:
-/// no byte at all or fewer than the first asks for, whatever they are, is `TooFewBytes`; a first byte that
-/// begins no code is `UnexpectedContinuationByte` or `NonUtf8Byte`; one that is asked for and is no
-/// continuation byte is `InterruptedSequence`; and then the value itself is judged, as
-/// `OverlongEncoding`, `Utf16ReservedCodepoint` or `TooHighCodepoint`.
+/// Bytes after the code do not matter. If no code begins them, the error is the first that applies: no byte
+/// at all or fewer than the first asks for, whatever they are, is `TooFewBytes`; a first byte that begins no
+/// code is `UnexpectedContinuationByte` or `NonUtf8Byte`; one that is asked for and is no continuation byte
+/// is `InterruptedSequence`; and then the value is checked, for `OverlongEncoding`, `Utf16ReservedCodepoint`
+/// or `TooHighCodepoint`.
 #[inline(always)]
 pub(crate) fn decode_start(src: &[u8]) -> Result<(char, usize), Utf8Error>
     ensures { DecodesFront as_scalar src.now result }
@@ -86,7 +86,7 @@ pub(crate) fn value_of_two(first: u8, second: u8) -> u32
     ((first & 0x1f) as u32) << 6 | (second & 0x3f) as u32
 }
 
-/// The same of three bytes.
+/// The payloads of three bytes, each times its power of 64, added up.
 #[inline(always)]
 pub(crate) fn value_of_three(first: u8, second: u8, third: u8) -> u32
     requires first { (0xE0 ≤ first) × (first < 0xF0) }
@@ -97,7 +97,7 @@ pub(crate) fn value_of_three(first: u8, second: u8, third: u8) -> u32
     (((first & 0x0f) as u32) << 6 | (second & 0x3f) as u32) << 6 | (third & 0x3f) as u32
 }
 
-/// The same of four bytes.
+/// The payloads of four bytes, each times its power of 64, added up.
 #[inline(always)]
 pub(crate) fn value_of_four(first: u8, second: u8, third: u8, fourth: u8) -> u32
     requires first { (0xF0 ≤ first) × (first < 0xF8) }
@@ -110,7 +110,7 @@ pub(crate) fn value_of_four(first: u8, second: u8, third: u8, fourth: u8) -> u32
     high << 6 | (fourth & 0x3f) as u32
 }
 
-// The code of a number below 0x110000, then zeros, and how many bytes the code has.
+// The code of a number below 0x110000, followed by zeros, and its length in bytes.
 #[inline(always)]
 #[tactic(auto, unfolding(utf_base::specs::Code::utf8, crate::specs::Padded::padded), using(std::proofs::lemmas::Nat::le_bytes_4))]
 fn encode_number(s: u32) -> ([u8; 4], usize)
@@ -122,7 +122,7 @@ fn encode_number(s: u32) -> ([u8; 4], usize)
     (code.to_le_bytes(), len)
 }
 
-// The same in one number, whose lowest byte is the first: so the code stays in one register.
+// The code in one number, whose lowest byte is the first, and its length: so the code stays in one register.
 #[inline(always)]
 #[tactic(auto, unfolding(utf_base::specs::Code::utf8, crate::specs::Padded::padded))]
 fn code_in_one_number(s: u32) -> (u32, usize)
@@ -154,8 +154,8 @@ fn continuation(bits: u32) -> u32
     0x80 | bits & 0x3f
 }
 
-// The character of an ASCII code. A compiler takes from it that the byte is one, and asks no more where the character
-// is used.
+// The character of an ASCII code. It makes known to the compiler that the byte is ASCII, so that uses of the
+// character do not test it.
 #[inline(always)]
 fn ascii(byte: u8) -> char
     requires { byte < 0x80 }
@@ -167,7 +167,7 @@ fn ascii(byte: u8) -> char
     }
 }
 
-// The character that begins the bytes, where the first asks for others.
+// The character that begins the bytes, if the first asks for others.
 #[inline(always)]
 fn decode_asked(first: State, src: &[u8]) -> Result<(char, usize), Utf8Error>
     requires some { 0 < length src.now }
@@ -181,7 +181,7 @@ fn decode_asked(first: State, src: &[u8]) -> Result<(char, usize), Utf8Error>
     decode_second(first, src)
 }
 
-// Whether so many bytes are fewer than the first asks for.
+// Returns true if `len` bytes are fewer than the first asks for.
 #[inline(always)]
 #[tactic(auto, using(utf_base::proofs::TableSteps::missing_le))]
 fn are_too_few(len: usize, first: State) -> bool
@@ -191,7 +191,7 @@ fn are_too_few(len: usize, first: State) -> bool
     len < 4 && len < 1 + missing_after(first)
 }
 
-// How many bytes the state asks for. It is asked near the end of the bytes alone, and out of line.
+// The number of bytes that the state asks for. It is called only near the end of the bytes, and outlined.
 #[cold]
 #[inline(never)]
 fn missing_after(state: State) -> usize
@@ -211,8 +211,8 @@ fn missing_after(state: State) -> usize
     }
 }
 
-// The character, from the second byte on. Each byte is asked for by the state that the ones before it led to. The state
-// after the last says whether they are a code, so no value is judged.
+// The character, from the second byte on. Each byte is read if the state after the previous ones asks for it. The
+// last state says whether the bytes are a code, so the value is not checked.
 #[inline(always)]
 fn decode_second(first: State, src: &[u8]) -> Result<(char, usize), Utf8Error>
     requires walked { first ≡ state_after src.now 1 }
@@ -232,7 +232,7 @@ fn decode_second(first: State, src: &[u8]) -> Result<(char, usize), Utf8Error>
     Ok((unsafe { char::from_u32_unchecked(value) }, 2))
 }
 
-// The same from the third on.
+// The character, from the third byte on.
 #[inline(always)]
 fn decode_third(second: State, src: &[u8]) -> Result<(char, usize), Utf8Error>
     requires walked { second ≡ state_after src.now 2 }
@@ -252,7 +252,7 @@ fn decode_third(second: State, src: &[u8]) -> Result<(char, usize), Utf8Error>
     Ok((unsafe { char::from_u32_unchecked(value) }, 3))
 }
 
-// The same of the fourth.
+// The character, from the fourth byte on.
 #[inline(always)]
 fn decode_fourth(third: State, src: &[u8]) -> Result<(char, usize), Utf8Error>
     requires walked { third ≡ state_after src.now 3 }

@@ -6,7 +6,7 @@ ghost use Rattle.utf_base.specs.Kinds.{back_kind};
 use utf_base::elements::is_continuation;
 use utf_base::errors::{Utf8Error, Utf8ErrorKind};
 
-/// How many continuation bytes the bytes end with, up to three.
+/// The number of continuation bytes at the end of the bytes, up to three.
 #[inline(always)]
 pub(crate) fn continuation_bytes_at_end(src: &[u8]) -> usize
     ensures { EndsInContinuationBytes src.now result }
@@ -18,7 +18,7 @@ pub(crate) fn continuation_bytes_at_end(src: &[u8]) -> usize
     count
 }
 
-/// What is wrong with a last byte that no code ends with.
+/// The error of a last byte that no code ends with.
 #[inline(always)]
 #[tactic(auto, unfolding(utf_base::specs::Kinds::back_kind, utf_base::specs::Kinds::asked))]
 pub(crate) fn fault_of_last(byte: u8) -> Utf8Error

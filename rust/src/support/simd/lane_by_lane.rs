@@ -1,4 +1,4 @@
-//! Sixteen bytes at a time, lane by lane: for any processor, and what the other modules are compared with.
+//! Sixteen bytes at a time, lane by lane: for any CPU, and what the other modules are compared with.
 
 pub(crate) type Block = [u8; 16];
 
@@ -20,7 +20,7 @@ each! {
     add = |a, b| a.wrapping_add(b);
     sub_or_0 = |a, b| a.saturating_sub(b);
     max = |a, b| a.max(b);
-    // (all bits where the bytes are equal, and none where not)
+    // (all bits if the bytes are equal, and none if not)
     eq = |a, b| if a == b { 255 } else { 0 };
 }
 
@@ -29,20 +29,20 @@ calls! {
     low_by_turns(a: Block, b: Block) -> Block = core::array::from_fn(|k| if k % 2 == 0 { a[k / 2] } else { b[k / 2] });
     /// The last eight bytes of both, by turns.
     high_by_turns(a: Block, b: Block) -> Block = core::array::from_fn(|k| if k % 2 == 0 { a[8 + k / 2] } else { b[8 + k / 2] });
-    /// The bytes at even places, of the first and then of the second.
+    /// The bytes at even indices, of the first and then of the second.
     evens(a: Block, b: Block) -> Block = core::array::from_fn(|k| if k < 8 { a[2 * k] } else { b[2 * k - 16] });
-    /// The bytes at odd places.
+    /// The bytes at odd indices.
     odds(a: Block, b: Block) -> Block = core::array::from_fn(|k| if k < 8 { a[2 * k + 1] } else { b[2 * k - 15] });
-    /// What stands at each place below 16, and 0 for places from 128 on. No other place occurs.
+    /// The byte at each index below 16, and 0 for indices from 128 on. No other index occurs.
     at(a: Block, places: Block) -> Block = places.map(|place| if place < 128 { a[(place & 15) as usize] } else { 0 });
-    /// The first where the mask has all bits, and the second where it has none.
+    /// The first if the mask has all bits, and the second if it has none.
     select(mask: Block, a: Block, b: Block) -> Block = core::array::from_fn(|k| mask[k] & a[k] | !mask[k] & b[k]);
     /// The highest bit of each byte.
     high_bits(a: Block) -> u64 = a.iter().enumerate().fold(0, |all, (k, byte)| all | u64::from(byte >> 7) << k);
     /// That byte sixteen times.
     splat(a: u8) -> Block = [a; 16];
-    /// Each byte by so many bits, fewer than eight.
+    /// Shifts each byte by `n` bits, fewer than eight.
     right(a: Block, n: u8) -> Block = a.map(|it| it >> n);
-    /// The same to the left.
+    /// Shifts each byte to the left.
     left(a: Block, n: u8) -> Block = a.map(|it| it << n);
 }

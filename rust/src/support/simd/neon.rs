@@ -1,6 +1,6 @@
-//! Sixteen bytes at a time on ARM64, whose every processor has NEON. (Little-endian alone.)
+//! Sixteen bytes at a time on ARM64, whose every CPU has NEON. (Little-endian alone.)
 //!
-//! Each `unsafe` here calls an instruction that the processor has.
+//! Each `unsafe` here calls an instruction that the CPU has.
 use core::arch::aarch64::*;
 
 pub(crate) type Block = uint8x16_t;
@@ -22,14 +22,14 @@ instructions! {
 
 #[inline(always)]
 pub(crate) fn select(mask: Block, a: Block, b: Block) -> Block {
-    // SAFETY: see the module.
+    // SAFETY: NEON, which each ARM64 has; this instruction reads registers alone.
     unsafe { vbslq_u8(mask, a, b) }
 }
 
 #[inline(always)]
 pub(crate) fn high_bits(a: Block) -> u64 {
     const PLACES: [i8; 16] = [0, 1, 2, 3, 4, 5, 6, 7, 0, 1, 2, 3, 4, 5, 6, 7];
-    // SAFETY: see the module; sixteen places are read.
+    // SAFETY: NEON, which each ARM64 has. One instruction reads memory: sixteen bytes, as many as `PLACES` has.
     unsafe {
         let each = vshlq_u8(vshrq_n_u8::<7>(a), vld1q_s8(PLACES.as_ptr()));
         u64::from(vaddv_u8(vget_low_u8(each))) | u64::from(vaddv_u8(vget_high_u8(each))) << 8
@@ -38,18 +38,18 @@ pub(crate) fn high_bits(a: Block) -> u64 {
 
 #[inline(always)]
 pub(crate) fn splat(a: u8) -> Block {
-    // SAFETY: see the module.
+    // SAFETY: NEON, which each ARM64 has; this instruction fills a register.
     unsafe { vdupq_n_u8(a) }
 }
 
 #[inline(always)]
 pub(crate) fn right(a: Block, n: u8) -> Block {
-    // SAFETY: see the module.
+    // SAFETY: NEON, which each ARM64 has; these instructions read registers alone, and any number may be given.
     unsafe { vshlq_u8(a, vdupq_n_s8(-(n as i8))) }
 }
 
 #[inline(always)]
 pub(crate) fn left(a: Block, n: u8) -> Block {
-    // SAFETY: see the module.
+    // SAFETY: NEON, which each ARM64 has; these instructions read registers alone, and any number may be given.
     unsafe { vshlq_u8(a, vdupq_n_s8(n as i8)) }
 }

@@ -1,4 +1,4 @@
-//! Sixteen bytes at a time on WebAssembly with simd128: this module is there where it is compiled for that.
+//! Sixteen bytes at a time on WebAssembly with simd128: this module exists if it is compiled for that.
 use core::arch::wasm32::*;
 
 pub(crate) type Block = v128;

@@ -1,7 +1,7 @@
-//! Sixteen bytes at a time on x86-64, whose every processor has SSE2, where the target uses it. One call needs SSSE3, which those since
-//! 2006 have: where this is not compiled for it, std asks the processor; without std that call goes lane by lane.
+//! Sixteen bytes at a time on x86-64, whose every CPU has SSE2, if the target uses it. One call needs SSSE3, which those since
+//! 2006 have: where this is not compiled for it, std asks the CPU; without std that call goes lane by lane.
 //!
-//! Each `unsafe` here calls an instruction that the processor has.
+//! Each `unsafe` here calls an instruction that the CPU has.
 use core::arch::x86_64::*;
 
 pub(crate) type Block = __m128i;
@@ -23,7 +23,7 @@ others_of_x86!(_mm_andnot_si128, _mm_movemask_epi8, _mm_set1_epi8, _mm_sll_epi16
 #[cfg(target_feature = "ssse3")]
 #[inline(always)]
 pub(crate) fn at(a: Block, places: Block) -> Block {
-    // SAFETY: see the module.
+    // SAFETY: an instruction of SSSE3 on two registers, and all is compiled for CPUs with SSSE3.
     unsafe { _mm_shuffle_epi8(a, places) }
 }
 
@@ -33,8 +33,8 @@ pub(crate) fn at(a: Block, places: Block) -> Block {
     #[cfg(feature = "std")]
     if std::arch::is_x86_feature_detected!("ssse3") {
         let mut out = a;
-        // SAFETY: the processor has this instruction, which writes this register alone. (As a function for SSSE3 it would be called
-        // each time, and in no register.)
+        // SAFETY: the CPU was asked for SSSE3, and has this instruction, which writes this register alone. (As a function for SSSE3
+        // it would be called each time, and in no register.)
         unsafe {
             core::arch::asm!("pshufb {}, {}", inout(xmm_reg) out, in(xmm_reg) places, options(pure, nomem, nostack, preserves_flags));
         }
@@ -53,14 +53,14 @@ pub(crate) fn at_one_by_one(a: Block, places: Block) -> Block {
 #[cfg(any(test, not(target_feature = "ssse3")))]
 fn bytes_of(a: Block) -> [u8; 16] {
     let mut out = [0; 16];
-    // SAFETY: there is room for sixteen bytes.
+    // SAFETY: the array has room for the sixteen bytes that an instruction of SSE2 writes, at any address.
     unsafe { _mm_storeu_si128(out.as_mut_ptr().cast(), a) };
     out
 }
 
 #[inline(always)]
 pub(crate) fn evens(a: Block, b: Block) -> Block {
-    // SAFETY: see the module.
+    // SAFETY: instructions of SSE2, which each x86-64 has, on registers alone.
     unsafe {
         let low = _mm_set1_epi16(0xFF);
         _mm_packus_epi16(_mm_and_si128(a, low), _mm_and_si128(b, low))
@@ -69,6 +69,6 @@ pub(crate) fn evens(a: Block, b: Block) -> Block {
 
 #[inline(always)]
 pub(crate) fn odds(a: Block, b: Block) -> Block {
-    // SAFETY: see the module.
+    // SAFETY: instructions of SSE2, which each x86-64 has, on registers alone.
     unsafe { _mm_packus_epi16(_mm_srli_epi16::<8>(a), _mm_srli_epi16::<8>(b)) }
 }

@@ -1,4 +1,4 @@
-//! The blocks of this processor beside those lane by lane: each call, on all values of a byte, all places and all shifts.
+//! The blocks of this CPU compared with those lane by lane: each call, on all values of a byte, all places and all shifts.
 use super::{block_of, by, lane_by_lane, Simd, ToBytes};
 
 fn bytes_of(block: by::Block) -> [u8; 16] {
@@ -31,6 +31,25 @@ fn calls_on_all_pairs_of_bytes() {
             assert_eq!(bytes_of(by::splat(a)), lane_by_lane::splat(a));
         }
     }
+}
+
+/// A block that a vector has not is neither read nor written.
+#[test]
+fn blocks_are_those_of_the_vector() {
+    fn is_refused<const N: usize>(k: usize) -> bool {
+        let mut it = Simd::<u8, N>([0; N]);
+        let is_read = std::panic::catch_unwind(|| it.block(k)).is_ok();
+        let is_written = std::panic::catch_unwind(std::panic::AssertUnwindSafe(|| it.put(k, block_of(&[255; 16])))).is_ok();
+        assert_eq!((is_read, it.0), (is_written, [0; N]));
+        !is_read
+    }
+    let all = [1, 2, usize::MAX / 16, usize::MAX].into_iter().all(|k| is_refused::<8>(k) && is_refused::<16>(k));
+    let more = [2, 3, usize::MAX].into_iter().all(|k| is_refused::<20>(k) && is_refused::<32>(k));
+    assert!(all && more);
+    assert_eq!(
+        (bytes_of(Simd::<u8, 16>([7; 16]).block(0)), bytes_of(Simd::<u8, 20>([7; 20]).block(1))[3..5].to_vec()),
+        ([7; 16], vec![7, 0])
+    );
 }
 
 #[test]
@@ -90,7 +109,7 @@ fn all_shifts() {
     }
 }
 
-/// The second set of vectors beside the first, on each call and width that the proved text takes.
+/// The second set of vectors compared with the first, on each call and width that the proved text takes.
 #[cfg(all(target_arch = "x86_64", target_feature = "sse2", feature = "std", not(noddychest_narrow)))]
 mod both_sets {
     use super::super::{Places, Simd};

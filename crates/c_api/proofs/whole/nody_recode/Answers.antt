@@ -1,7 +1,8 @@
 use Rattle.std.proofs.Common.{◌≡◌, ◌-◌, ◌∙◌, length, ap, arith, length-drop}
 use Rattle.std.proofs.lemmas.List.{take_rest}
 use Rattle.c_api.specs.Api.{IsRecoder, form_of, recoder_of}
-use Rattle.c_api.proofs.WholeRuns.{longer_where_full, fed_front, longer_where_last_full, recoded_whole, last_front, written_both, finished, is_zero, none_held}
+use Rattle.recoding.proofs.Taking.{Finishes-of}
+use Rattle.c_api.proofs.WholeRuns.{longer_where_full, fed_front, longer_where_last_full, recoded_whole, last_front, written_both, is_zero, none_held}
 use Rattle.c_api.proofs.whole.nody_recode.Goals as goal
 
 pub returns-then-nody_recoder_feed-eq-FULL-clause-full : goal.returns-then-nody_recoder_feed-eq-FULL-clause-full
@@ -34,7 +35,7 @@ returns-clause-all c done =
     rw (written_both f.new.room last.new.room f.new.written last.new.written (omega (arith, f.auto.room)) len)
     (recoded_whole (form_of c.args.from) (form_of c.args.to) (recoder_of f.new.recoder) c.args.bytes.now c.args.room.now f.new.room f.new.read f.new.written
     (rw c.nody_recoder-recoder.ensures at fed) (recoder_of last.new.recoder) _ last.new.room last.new.written all ended
-    (finished (recoder_of f.new.recoder) (recoder_of last.new.recoder) _ last.new.room last.new.written ended none))
+    (Finishes-of (recoder_of f.new.recoder) (recoder_of last.new.recoder) _ last.new.room last.new.written ended none))
 
 pub returns-clause-full : goal.returns-clause-full
 returns-clause-full c one =

@@ -1,7 +1,8 @@
 use Rattle.std.proofs.Common.{◌≤◌, ◌∙◌, length, refl, arith}
 use Rattle.std.specs.Prelude.{slice_range}
 use Rattle.c_api.specs.Api.{form_of, recoder_of}
-use Rattle.c_api.proofs.WholeRuns.{counts_none, counts_more, counts_all, longer_front, length_part, part_has_room, end_has_room, finished, is_zero, none_held}
+use Rattle.recoding.proofs.Taking.{Finishes-of}
+use Rattle.c_api.proofs.WholeRuns.{counts_none, counts_more, counts_all, longer_front, length_part, part_has_room, end_has_room, is_zero, none_held}
 use Rattle.c_api.proofs.whole.nody_recoded_len.Goals as goal
 
 pub loop-place-init : goal.loop-place-init
@@ -49,5 +50,5 @@ returns-clause-len c from to =
     let zero = is_zero last.result (last.ensures.status is)
     (λ one. end_has_room (recoder_of l.recoder) (recoder_of last.new.recoder) l.room last.new.room last.new.written ended last.auto.room (omega arith) (last.ensures.full is one)) in
     counts_all (form_of c.args.from) (form_of c.args.to) c.args.bytes.now l.place l.len (recoder_of l.recoder) before l.room last.new.room last.new.written c.saturating_add.result
-    c.loop-place-test.false (finished (recoder_of l.recoder) (recoder_of last.new.recoder) l.room last.new.room last.new.written ended (none_held last.new.recoder (last.ensures.all is zero)))
+    c.loop-place-test.false (Finishes-of (recoder_of l.recoder) (recoder_of last.new.recoder) l.room last.new.room last.new.written ended (none_held last.new.recoder (last.ensures.all is zero)))
     last.auto.room ended.fits c.saturating_add.ensures

@@ -1,11 +1,11 @@
 use Rattle.std.proofs.Common.{◌+◌, ◌-◌, ◌≤◌, length}
-use Rattle.recoding.specs.Shards.{IsShardEnd}
+use Rattle.recoding.specs.Boundaries.{IsBoundary}
 use Rattle.recoding.proofs.UnitEnds.{NoneBefore}
 use Rattle.recoding.proofs.boundaries.boundary_after.Given as goal
 
 abbrev pub invariant-loop-place : goal.invariant-loop-place
 invariant-loop-place l = record {
-  none : NoneBefore (IsShardEnd l.from l.bytes) (length l.bytes) l.at l.place;
+  none : NoneBefore (IsBoundary l.from l.bytes) (length l.bytes) l.at l.place;
   near : l.place ≤ l.at + 3;
 }
 

@@ -3,7 +3,7 @@ use Rattle.std.specs.Prelude.{if◌then◌else◌, is_ok, replicate, IsOk, Resul
 use Rattle.std.proofs.lemmas.List.{length-replicate, take_all}
 use Rattle.recoding.proofs.list.append_few_zeros.Goals as goal
 
--- a list that was filled up, where that did not fail
+-- a list that was resized, if that did not fail
 resized : {U E : Type 0} (r : Result U E) (xs new : List ℕ) (n k count : ℕ) → IsOk r → new ≡ (if is_ok r then take n xs ++ replicate (n - k) 0 else xs) → n ≡ k + count → k ≡ length xs → new ≡ xs ++ replicate count 0
 resized (Ok u) xs new n k count done e sum len =
     let more : n - k ≡ count = omega arith in

@@ -1,18 +1,17 @@
-use Rattle.std.proofs.Common.{◌-◌, ◌%◌, refl, arith}
-use Rattle.std.proofs.lemmas.List.{take_rest}
-use Rattle.recoding.proofs.ShardEnds.{end_before_pair, end_of_units}
+use Rattle.std.proofs.Common.{refl}
+use Rattle.recoding.proofs.ShardEnds.{boundary_is_end, end_before_surrogate}
 use Rattle.recoding.proofs.shards.units_end.Goals as goal
-use Rattle.recoding.proofs.shards.units_end.Goals.{else-place-ge2-via-then-place-ge2+else-is_pair, else-place-ge2-via-else-place-ge2}
+use Rattle.recoding.proofs.shards.units_end.Goals.{else-end-bytes-via-then-end-bytes+else-ends_in_leading_surrogate, else-end-bytes-via-else-end-bytes}
 
-pub returns-then-is_pair-clause-end : goal.returns-then-is_pair-clause-end
-returns-then-is_pair-clause-end g c =
-    end_before_pair g.E.ByteOrder.HIGH_FIRST c.args.bytes.now c.args.at (c.args.at - c.args.at % 2) c.requires refl c.if-place-ge2.true
-    (rw (take_rest c.args.bytes.now (c.args.at - c.args.at % 2 - 2)) at (c.if-is_pair.ensures.yes refl))
+pub returns-then-ends_in_leading_surrogate-clause-end : goal.returns-then-ends_in_leading_surrogate-clause-end
+returns-then-ends_in_leading_surrogate-clause-end g c =
+    end_before_surrogate g.E.ByteOrder.HIGH_FIRST c.args.bytes.now c.args.at c.units_boundary-end.result c.requires c.units_boundary-end.ensures.end c.if-end-bytes.true
+    (c.if-ends_in_leading_surrogate.ensures.some refl) (c.if-ends_in_leading_surrogate.ensures.yes refl)
 
-pub returns-else-place-ge2-clause-end : goal.returns-else-place-ge2-clause-end
-returns-else-place-ge2-clause-end g c =
-    end_of_units g.E.ByteOrder.HIGH_FIRST c.args.bytes.now c.args.at (c.args.at - c.args.at % 2) c.requires refl
-    (elim c.else-place-ge2.branch [
-      | else-place-ge2-via-then-place-ge2+else-is_pair w ↦ λ two. rw (take_rest c.args.bytes.now (c.args.at - c.args.at % 2 - 2)) at (w.if-is_pair.ensures.no refl)
-      | else-place-ge2-via-else-place-ge2 w ↦ λ two. absurd (omega arith)
+pub returns-else-end-bytes-clause-end : goal.returns-else-end-bytes-clause-end
+returns-else-end-bytes-clause-end g c =
+    boundary_is_end g.E.ByteOrder.HIGH_FIRST c.args.bytes.now c.args.at c.units_boundary-end.result c.requires c.units_boundary-end.ensures.end
+    (elim c.else-end-bytes.branch [
+      | else-end-bytes-via-then-end-bytes+else-ends_in_leading_surrogate w ↦ λ odd two. w.if-ends_in_leading_surrogate.ensures.no refl two
+      | else-end-bytes-via-else-end-bytes w ↦ λ odd two. absurd (w.if-end-bytes.false odd)
     ])

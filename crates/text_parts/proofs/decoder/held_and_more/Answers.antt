@@ -2,7 +2,7 @@ use Rattle.std.proofs.Common.{◌≡◌, ◌+◌, ◌≤◌, ◌++◌, ◌∙◌
 use Rattle.std.proofs.Math.Seq.{take-append-add}
 use Rattle.text_parts.proofs.decoder.held_and_more.Goals as goal
 
--- the first three elements, or all where they are fewer
+-- the first three elements, or all if they are fewer
 first_three : (part rest : List ℕ) → take (min 3 (length part)) (get_or part 0 0 ∷ get_or part 1 0 ∷ get_or part 2 0 ∷ rest) ≡ take 3 part
 first_three [] rest = refl
 first_three (p ∷ []) rest = refl
@@ -11,7 +11,7 @@ first_three (p ∷ q ∷ r ∷ w) rest =
     let three : min 3 (length (p ∷ q ∷ r ∷ w)) ≡ 3 = omega arith in
     rw three refl
 
--- the first six of these after at most three others
+-- the first six elements of a list after at most three others
 joined : (held part : List ℕ) → length held ≤ 3
     → take (length held + min 3 (length part)) (get_or (held ++ part) 0 0 ∷ get_or (held ++ part) 1 0 ∷ get_or (held ++ part) 2 0 ∷ get_or (held ++ part) 3 0 ∷ get_or (held ++ part) 4 0 ∷ get_or (held ++ part) 5 0 ∷ [])
     ≡ held ++ take 3 part

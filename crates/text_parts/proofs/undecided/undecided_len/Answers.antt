@@ -7,8 +7,8 @@ use Rattle.text_parts.proofs.undecided.undecided_len.Goals as goal
 
 pub loop-place-init : goal.loop-place-init
 loop-place-init c =
-    let end = c.shard_end-place.ensures.end in
-    (end.within, λ offset. front_near_end c.args.form c.args.bytes.now c.shard_end-place.result offset (let before = end.before in let most = c.saturating_sub.ensures in omega arith) end.outside)
+    let end = c.boundary_before-place.ensures.end in
+    (end.within, λ offset. front_near_end c.args.form c.args.bytes.now c.boundary_before-place.result offset (let before = end.before in let most = c.saturating_sub.ensures in omega arith) end.outside)
 
 pub loop-place-smaller : goal.loop-place-smaller
 loop-place-smaller c =

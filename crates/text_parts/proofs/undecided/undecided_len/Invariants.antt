@@ -2,7 +2,7 @@ use Rattle.std.proofs.Common.{◌-◌, ◌≤◌, ℕ, drop, length}
 use Rattle.text_parts.specs.UndecidedEnds.{LocatesFront}
 use Rattle.text_parts.proofs.undecided.undecided_len.Given as goal
 
--- a run has come to the place
+-- a run has reached the offset
 abbrev pub invariant-loop-place : goal.invariant-loop-place
 invariant-loop-place l = (l.place ≤ length l.bytes) × ((offset : ℕ) → LocatesFront l.form offset l.bytes (drop l.place l.bytes))
 

@@ -8,6 +8,6 @@ returns c =
     let bytes = c.args.bytes.now in
     let place = c.shard_end-end.result in
     let end = c.shard_end-end.ensures.end in
-    let sum = rw (between_from_start bytes place) at (c.shard_counts_add.ensures.faults bytes (place ∷ []) (omega arith, end.outside, end.within)) in
+    let sum = rw (between_from_start bytes place) at (c.shard_counts_add.ensures.faults bytes (place ∷ []) (omega arith, c.shard_end-end.ensures.boundary, end.within)) in
     let rest = rw (take_rest bytes place) at c.fault_count-2.ensures in
     ap₂ (λ a b. a + b) c.fault_count.ensures rest ∙ sum

@@ -8,7 +8,7 @@ use Rattle.encode_unicode.proofs.Wholes.{IsCode, range_of_four, all_padded, code
 use Rattle.encode_unicode.proofs.decoding_iterators.back_scan.four_or_unexpected.Goals.{then-bytes-lt240-via-then-bytes-lt240, then-bytes-lt240-via-else-bytes-lt240+then-bytes-ge245, After-step-three_more, Else-eq, Else-eq-2, Else-ne}
 use Rattle.encode_unicode.proofs.decoding_iterators.back_scan.four_or_unexpected.Goals as goal
 
--- The walk after each step, and that the bytes are a code where the last one ends it.
+-- The walk after each step; the bytes are a code if the last step ends it.
 
 first : (c : After-step-three_more) → Walk c.args.bytes 1 c.step-three_more.result 3
 first c = Walk-4 _ _ _ c.if-bytes-lt240.false c.if-bytes-ge245.false (record { class = c.class_of.ensures.class; step = c.step-three_more.ensures })

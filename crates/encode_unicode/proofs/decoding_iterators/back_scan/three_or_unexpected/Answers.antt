@@ -9,7 +9,7 @@ use Rattle.encode_unicode.proofs.Wholes.{IsCode, range_of_three, code_by_walk, n
 use Rattle.encode_unicode.proofs.decoding_iterators.back_scan.three_or_unexpected.Goals.{After-step-two_more, Else-eq, Else-ne}
 use Rattle.encode_unicode.proofs.decoding_iterators.back_scan.three_or_unexpected.Goals as goal
 
--- The walk after each step, and that the bytes are a code where the last one ends it.
+-- The walk after each step; the bytes are a code if the last step ends it.
 
 first : (c : After-step-two_more) → Walk (c.args.first ∷ c.args.second ∷ c.args.third ∷ []) 1 c.step-two_more.result 2
 first c = Walk-3 _ _ _ c.if-first-lt224.false c.if-first-ge240.false (record { class = c.class_of.ensures.class; step = c.step-two_more.ensures })

@@ -1,4 +1,4 @@
--- It answers `Err` once the budget is spent, and else what the inner allocator answers.
+-- It returns `Err` once the budget is spent, and otherwise what the inner allocator returns.
 use Rattle.std.proofs.Common.{◌≡◌, ℕ, ◌+◌, ◌^◌, ◌<◌, Bool, true, false, List, [], ◌∷◌, Ok, Err, refl, ap, w64, Bor}
 use seplogic.Ra.Ura.{Ura}
 use mir.Syntax.{Ty, Args, Fn, a_type, dnil, dcons}

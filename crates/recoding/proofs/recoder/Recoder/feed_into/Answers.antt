@@ -3,7 +3,7 @@ use Rattle.recoding.proofs.RecodedLists.{outcome_fed_into}
 use Rattle.recoding.proofs.Taking.{comes_nearer, counted, fed_into, moves, replaces_into}
 use Rattle.recoding.proofs.recoder.Recoder.feed_into.Goals as goal
 
--- Where nothing is held.
+-- If nothing is carried over.
 
 pub returns-then-count-eq0-clause-feeds : goal.returns-then-count-eq0-clause-feeds
 returns-then-count-eq0-clause-feeds c = fed_into c.take_alone-done.ensures.takes c.count_faults.ensures
@@ -33,7 +33,7 @@ returns-then-count-eq0-clause-total c = counted c.take_alone-done.ensures.takes 
 pub returns-then-count-eq0-clause-counts : goal.returns-then-count-eq0-clause-counts
 returns-then-count-eq0-clause-counts c = keeps_count _ _ _ _ (returns-then-count-eq0-clause-replaces c) (returns-then-count-eq0-clause-total c)
 
--- And where something is.
+-- If bytes are carried over.
 
 pub returns-clause-outcome : goal.returns-clause-outcome
 returns-clause-outcome c = outcome_fed_into c.feed_joined_into.ensures.feeds

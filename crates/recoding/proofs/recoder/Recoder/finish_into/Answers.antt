@@ -6,7 +6,7 @@ use Rattle.recoding.proofs.Advancing.{counts_last, keeps_last}
 use Rattle.recoding.proofs.RecodedLists.{outcome_finished, outcome_finished_into}
 use Rattle.recoding.proofs.recoder.Recoder.finish_into.Goals as goal
 
--- where nothing is held
+-- if nothing is carried over
 
 pub returns-then-self-eq0-clause-done : goal.returns-then-self-eq0-clause-done
 returns-then-self-eq0-clause-done c =
@@ -28,7 +28,7 @@ returns-then-self-eq0-clause-counted c whole =
     let total : AddsUp r 0 r = search rules in
     counts_last r r 0 (omega arith) total none
 
--- where something is
+-- if bytes are carried over
 
 pub returns-clause-finishes : goal.returns-clause-finishes
 returns-clause-finishes c = finished_into c.take_last_into-done.ensures.takes c.count_faults.ensures

@@ -8,7 +8,7 @@ loop-place-init g c = rw c.new-chunks.ensures.items (divided_none c.args.bytes.n
 pub loop-place-preserved : goal.loop-place-preserved
 loop-place-preserved g c =
     rw c.in_ok-push.ensures.items
-    (divided_more c.args.bytes.now c.loop-place.chunks.items c.loop-place.place c.chunk_end-end.result _ c.loop-place.invariant c.chunk_end-end.ensures.some c.chunk_end-end.ensures.within
+    (divided_more c.args.bytes.now c.loop-place.chunks.items c.loop-place.place c.chunk_end-end.result _ c.loop-place.invariant c.chunk_end-end.ensures.some c.chunk_end-end.ensures.within c.chunk_end-end.ensures.few
     c.chunk_end-end.ensures.outside c.in_ok-of.ensures)
 
 pub returns-clause-bytes : goal.returns-clause-bytes
@@ -16,3 +16,6 @@ returns-clause-bytes g c = divided_all c.args.bytes.now c.loop-place.chunks.item
 
 pub returns-clause-ends : goal.returns-clause-ends
 returns-clause-ends g c = c.loop-place.invariant.ends
+
+pub returns-clause-few : goal.returns-clause-few
+returns-clause-few g c = c.loop-place.invariant.few

@@ -6,7 +6,7 @@ use Rattle.text_buffers.proofs.buffers.dividing.total.Goals as goal
 pub plus-sum-requires : goal.plus-sum-requires
 plus-sum-requires g c =
     rw (c.loop-chunk.invariant, c.counts.ensures)
-    (chunk_counts_small c.args.chunks.now c.loop-chunk.chunk-index c.chunk-item.result c.requires.ends (omega arith) c.chunk-item.is c.requires.fits)
+    (chunk_counts_small c.args.chunks.now c.loop-chunk.chunk-index c.chunk-item.result c.requires.ends (omega arith) c.chunk-item.is c.requires.small)
 
 pub loop-chunk-preserved : goal.loop-chunk-preserved
 loop-chunk-preserved g c =

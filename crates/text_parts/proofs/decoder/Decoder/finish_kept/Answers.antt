@@ -14,7 +14,8 @@ loop-form-preserved g c =
     let v = c.loop-form.invariant in
     let told = c.last_front-front.ensures.told ∙ ap₂ (λ f w. first_told f w) c.form-form.ensures c.held.ensures.bytes in
     let some : 0 < length s.held = omega arith in
-    FinishesKept-one g.K.Kept.keeps_each x v told some (rw c.offset.ensures at c.in-Some.ensures.some) (rw c.len.ensures at c.pass-more.ensures.passed)
+    let within : x.1 ≤ length s.held = omega (arith, ap length c.held.ensures.bytes, c.last_front-front.ensures.within) in
+    FinishesKept-one g.K.Kept.keeps_each x v told some within (rw c.offset.ensures at c.in-Some.ensures.some) (rw c.len.ensures at c.pass-more.ensures.passed)
 
 pub loop-form-smaller : goal.loop-form-smaller
 loop-form-smaller g c =

@@ -2,13 +2,29 @@ use Rattle.std.proofs.Common.{◌∙◌, ap, arith}
 use Rattle.utf_base.specs.Decoded.{decoded}
 use Rattle.encode_unicode.proofs.ForCallers.{some_bytes}
 use Rattle.text_runs.proofs.FaultLemmas.{front_fits, front_known, front_none, front_some, text_at_front, text_fits, text_known, faults_are}
-use Rattle.text_parts.proofs.FoundFaults.{finds_all, finds_full, so_far_fault, so_far_front, so_far_text}
+use Rattle.text_parts.proofs.FoundFaults.{finds_all, finds_full, so_far_fault, so_far_from, so_far_front, so_far_text}
+use Rattle.text_parts.proofs.WindowFaults.{fault_known}
+use Rattle.text_parts.proofs.runs.fault_lists.faults_into.Goals.{then-bytes-place-ge-LEAST+else-done, else-bytes-place-ge-LEAST}
 use Rattle.text_parts.proofs.runs.fault_lists.faults_into.Goals as goal
 
 pub loop-answer-init : goal.loop-answer-init
 loop-answer-init g c =
     let xs = c.args.bytes.now in
-    so_far_front _ decoded some_bytes xs _ _ c.valid_up_to-place.ensures.within (text_at_front decoded xs _ c.valid_up_to-place.ensures.value)
+    let text = text_at_front decoded xs _ c.valid_up_to-place.ensures.value in
+    elim c.if-bytes-place-ge-LEAST.branch [
+      | then-bytes-place-ge-LEAST+else-done w ↦ rw (w.place-is, w.written-is, w.room-is) (so_far_from _ decoded some_bytes xs _ _ _ _ _ text w.window_faults-done.ensures.so_far)
+      | else-bytes-place-ge-LEAST w ↦ rw (w.place-is, w.written-is, w.room-is) (so_far_front _ decoded some_bytes xs _ _ c.valid_up_to-place.ensures.within text)
+    ]
+
+pub returns-then-done-clause-finds : goal.returns-then-done-clause-finds
+returns-then-done-clause-finds g c =
+    let xs = c.args.bytes.now in
+    let done = c.window_faults-done.ensures in
+    let stops = done.stops c.if-done.true in
+    let so_far = so_far_from _ decoded some_bytes xs _ _ _ _ _ (text_at_front decoded xs _ c.valid_up_to-place.ensures.value) done.so_far in
+    let full = done.full c.if-done.true in
+    let len = done.so_far.len in
+    finds_full _ decoded some_bytes xs _ _ faults_are _ _ _ 1 stops.0 so_far (done.more c.if-done.true) (fault_known _ _ stops.1) (omega arith)
 
 pub loop-answer-preserved-in-Ok : goal.loop-answer-preserved-in-Ok
 loop-answer-preserved-in-Ok g c =

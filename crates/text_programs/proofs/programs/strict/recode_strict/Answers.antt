@@ -12,7 +12,7 @@ use Rattle.text_programs.proofs.StrictRelays.{IsTextRelayed-none, IsTextRelayed-
 use Rattle.text_programs.proofs.programs.strict.recode_strict.Goals.{in-Ok+in_ok-pass_part-in-Ok, in-Err}
 use Rattle.text_programs.proofs.programs.strict.recode_strict.Goals as goal
 
--- what is said of a faulty part is said of the whole
+-- what holds for an invalid part holds for the whole
 faulty_then : {U : Type 0} (result : Result U StrictError) (P Q : FaultAt → Type 0) → ((x : FaultAt) → P x → Q x) → IfErr result (λ e. IfFaulty e P) → IfErr result (λ e. IfFaulty e Q)
 faulty_then (Ok done) P Q more h = tt
 faulty_then (Err Read) P Q more h = tt
@@ -29,7 +29,7 @@ followed : (a : Option (List ℕ)) → IfSome a IsFollowed
 followed None = tt
 followed (Some xs) = tt
 
--- and nothing where it is at its end
+-- nothing follows if the reader is at its end
 ended : (a : Option (List ℕ)) → IsAtEnd a → IfSome a EndsText
 ended None h = tt
 ended (Some xs) h = h

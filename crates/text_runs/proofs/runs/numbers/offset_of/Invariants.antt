@@ -2,7 +2,7 @@ use Rattle.std.proofs.Common.{◌-◌, ◌≤◌, length}
 use Rattle.text_runs.specs.PieceSteps.{IsCountedTo}
 use Rattle.text_runs.proofs.runs.numbers.offset_of.Given as goal
 
--- what is left of the number is what the pieces up to the place leave of it
+-- the remaining number is the number less the pieces up to the offset
 abbrev pub invariant-loop-place : goal.invariant-loop-place
 invariant-loop-place l = (l.left ≤ l.number) × IsCountedTo l.bytes l.place (l.number - l.left)
 

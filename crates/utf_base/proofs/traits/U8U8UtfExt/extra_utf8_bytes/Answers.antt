@@ -51,7 +51,7 @@ returns-in-Unexpected-clause-asks c =
     let first : is_continuation c.args.self ≡ true = grind (arith, common_steps) in
     (asked-0 _ (inl (omega arith, omega arith)), rw (c.new.ensures, first) refl)
 
--- what is left is a byte that no code has
+-- the remaining bytes are those that no code has
 never : (b : ℕ) (r : State) → Begins b r
     → (r ≡ OneMore → ⊥) × (r ≡ TwoMore → ⊥) × (r ≡ ThreeMore → ⊥) × (r ≡ AfterE0 → ⊥) × (r ≡ AfterEd → ⊥)
     × (r ≡ AfterF0 → ⊥) × (r ≡ AfterF4 → ⊥) × (r ≡ Done → ⊥) × (r ≡ Unexpected → ⊥)

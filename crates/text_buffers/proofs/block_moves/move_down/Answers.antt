@@ -1,4 +1,0 @@
-use Rattle.text_buffers.proofs.block_moves.move_down.Goals as goal
-
-pub returns-in-3 : goal.returns-in-3
-returns-in-3 g c = rw c.in-3.is c.move_down_by-in-3.ensures

@@ -1,0 +1,62 @@
+"""The copy of the proved text for x86-64-v3: of the files that go by lanes, in `CRATE/wide/`, over vectors that go by thirty-two bytes.
+
+A CPU is asked once, where a long input comes (`rules.CHOSEN`, the macro `wide!`). From there on all is compiled for AVX2: what is put in
+line by its attribute is so as it stands, and each other function becomes one for that CPU, which a function of the same name calls.
+"""
+import re
+
+import rules
+from shape import Text
+from tokens import Stop
+from windows import called
+
+GATE = '#[cfg(all(target_arch = "x86_64", target_feature = "sse2", feature = "std", not(noddychest_narrow)))]\n'
+FEATURES = "avx2,bmi1,bmi2,lzcnt,popcnt"
+
+
+def widened(text, name):
+    """The copy of an erased file."""
+    made = Text(text, name)
+    for it in made.functions():
+        if not it.inside and made.text(it.body) == "{":
+            attributes = attributes_of(made, it)
+            inline = next((at for at, _, words in attributes if words == "#[inline]"), None)
+            if inline is not None and f"{name}:{it.name}" not in rules.CHOSEN:
+                made.said[made.closing(made.next(inline))] = "(always)]"
+            elif "#[inline(always)]" not in (words for _, _, words in attributes):
+                apart(made, it, attributes)
+    return paths("".join(made.front.get(k, "") + made.said.get(k, "" if made.gone[k] else x.text) + made.back.get(k, "")
+                         for k, x in enumerate(made.t)), name)
+
+
+def attributes_of(text, it):
+    """Those above a function: where each begins and ends, and what it is."""
+    return [(start, end, "".join(x.text for x in text.t[start:end + 1])) for start, end in text.attributes(it.start)]
+
+
+def apart(text, it, attributes):
+    """`fn f(..) { body }` becomes one that calls `f_apart`, which has that body and is compiled for the CPU."""
+    names, generics = called(text, it)
+    head = "".join(x.text for x in text.t[it.at:it.body]).rstrip().replace(f"fn {it.name}", f"unsafe fn {it.name}_apart", 1)
+    call = f"{it.name}_apart{generics}({', '.join(names)})"
+    moved = "".join(f"{words}\n" for _, _, words in attributes)
+    text.back[it.body] = (f"\n    crate::support::processor::apart!({call})\n}}\n\n"
+                          f'{moved}#[target_feature(enable = "{FEATURES}")]\n{head}\n{{')
+    for start, end, _ in attributes:
+        for k in range(start, text.next(end) if text.next(end) <= it.at else end + 1):
+            text.gone[k] = True
+    text.front[it.start] = "#[inline(always)]\n"
+    if f"{text.name}:{it.name}" in rules.CHOSEN and it.start == it.at:
+        text.front[it.start] += "pub(crate) "
+
+
+def paths(text, name):
+    """The copy names its own files, and the vectors of thirty-two bytes; and it asks for no other copy."""
+    if found := re.search(r"crate::proved::(\w+::)?\{", text):
+        raise Stop(f"{name}: `{found[0]}` names several files at once, of which some may have a copy")
+    text = re.sub(r"\n *crate::support::processor::wide!\(.*", "", text)
+    text = re.sub(r"^use crate::\{.*", lambda it: it[0].replace("support as std", "support::wide as std").replace("utf_lanes", "utf_lanes::wide as utf_lanes"), text, flags=re.M)
+
+    def other(found):
+        return f"crate::proved::{found[1]}::wide::{found[2]}" if rules.is_wide(f"{found[1]}/{found[2]}.rt") else found[0]
+    return re.sub(r"crate::proved::(\w+)::(\w+)", other, text)
