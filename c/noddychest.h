@@ -41,7 +41,7 @@
  * INVALID INPUT. Recoding writes one U+FFFD, the replacement character, for each fault: E2 82 41 becomes U+FFFD U+FFFD A.
  * Browsers and Python sometimes write one U+FFFD for several bytes: for E2 82 41 they write U+FFFD A. The calls whose names end
  * in _lossy write what browsers and Python do. The calls whose names end in _strict stop at the first fault, and report its
- * offset and its kind.
+ * kind and where it is.
  *
  * WHICH KIND. The kind of a fault depends on its byte and on the bytes after it. These kinds are tested in order, and the first
  * that applies is the kind: UNEXPECTED_CONTINUATION_BYTE, NON_UTF8_BYTE, TOO_FEW_BYTES, INTERRUPTED_SEQUENCE. If none of them
@@ -67,8 +67,8 @@
  * UTF-16 in bytes, the encoding determines the byte order.
  *
  * COST. "Constant": the call looks at a few bytes, whatever the length. "Linear": the time grows with the length of the input,
- * which is read once. "In blocks" is faster than one character after another. c/README.md says how many machine instructions a byte
- * takes.
+ * which is read once. "In blocks" is faster than one character after another. bench/TABLES.md says how many machine instructions a
+ * byte takes.
  */
 #ifndef NODDYCHEST_H
 #define NODDYCHEST_H
@@ -782,8 +782,8 @@ nody_decoder_t nody_decoder(nody_encoding_t encoding);
  * breaks a character as soon as it sees that byte. So for the first byte of F0 41, at the end of the input, the kind is
  * NODY_KIND_INTERRUPTED_SEQUENCE, and not NODY_KIND_TOO_FEW_BYTES (as nody_utf8_streamed_at has it).
  *
- * decoder: the decoder. It holds the last bytes of the part, at most three, as long as the bytes after them decide which piece
- * they begin, and no byte that is decided.
+ * decoder: the decoder. It holds at most three bytes, the last of the part: the front of a character, or faults whose kind the
+ * next bytes decide (as ED A0). No other byte is held.
  * in, in_len: the part. It may end anywhere, also inside a character or a unit, and may be empty.
  * out, capacity: where to write pieces, and how many. What is after them in `out` does not change.
  * read: receives how many bytes of the part were read. Bytes that the decoder now holds are included.
@@ -827,7 +827,8 @@ nody_status_t nody_decoder_finish(nody_decoder_t *decoder, nody_located_t *out, 
  * decoder: the decoder. It is then as after nody_decoder_feed, so you may mix calls of both.
  * in, in_len, read: as for nody_decoder_feed.
  * out, capacity: where to write faults, and how many. What is after them in `out` does not change.
- * written: receives how many faults were written. A fault may lie up to three bytes before the part: keep these to show its value.
+ * written: receives how many faults were written. A fault may lie up to three bytes before the part (with
+ * nody_decoder_feed too): to show its value, keep the last three bytes of each part.
  * Result:
  *   NODY_STATUS_DONE: the whole part was read.
  *   NODY_STATUS_FULL: the output is full, and the next fault is known already. Empty `out`, and call again with what is left of the

@@ -90,7 +90,7 @@ struct command_spec {
     const char *name;
     enum command_bit bit;
     enum status (*run)(struct run *run);
-    const char *usage, *help;
+    const char *usage, *help, *statuses;
 };
 
 const struct command_spec *command_of(const char *name);

@@ -10,18 +10,18 @@
 enum { ALL = CHECK | LIST | COUNT | AT | RECODE | FIX | VIEW };
 
 const struct command_spec commands[] = {
-    {"check", CHECK, run_check, "[OPTION..] [FILE..]", "say which files are not valid, and where and why"},
-    {"fix", FIX, run_fix, "[OPTION..] FILE..", "replace invalid bytes in files, and leave valid files alone"},
-    {"view", VIEW, run_view, "[OPTION..] FILE", "show a text of any size on the terminal, each invalid byte marked"},
-    {"count", COUNT, run_count, "[OPTION..] [FILE..]", "count bytes, characters, lines and invalid bytes"},
-    {"list", LIST, run_list, "[OPTION..] [FILE..]", "write a line for each character and each invalid byte"},
-    {"at", AT, run_at, "[OPTION..] FILE OFFSET|LINE:COLUMN", "show what is at an offset, and around it"},
-    {"recode", RECODE, run_recode, "[OPTION..] [-o FILE] [FILE]\n       nody recode --in-place [OPTION..] FILE..", "convert to another encoding"},
+    {"check", CHECK, run_check, "[OPTION..] [FILE..]", "say which files are not valid, and where and why", "0 valid, 1 invalid bytes"},
+    {"fix", FIX, run_fix, "[OPTION..] FILE..", "replace invalid bytes in files, and leave valid files alone", "0 fixed or valid, 1 invalid bytes (only with --dry-run)"},
+    {"view", VIEW, run_view, "[OPTION..] FILE", "show a text of any size on the terminal, each invalid byte marked", "0 shown"},
+    {"count", COUNT, run_count, "[OPTION..] [FILE..]", "count bytes, characters, lines and invalid bytes", "0 valid, 1 invalid bytes"},
+    {"list", LIST, run_list, "[OPTION..] [FILE..]", "write a line for each character and each invalid byte", "0 valid, 1 invalid bytes"},
+    {"at", AT, run_at, "[OPTION..] FILE OFFSET|LINE:COLUMN", "show what is at an offset, and around it", "0 a character, 1 an invalid byte"},
+    {"recode", RECODE, run_recode, "[OPTION..] [-o FILE] [FILE]\n       nody recode --in-place [OPTION..] FILE..", "convert to another encoding", "0 converted, 1 invalid bytes (only with --errors strict)"},
 };
 enum { COMMANDS = sizeof commands / sizeof *commands };
 
 const struct word ways[] = {
-    {"replace", REPLACE, "one U+FFFD for each invalid byte"},
+    {"replace", REPLACE, "one U+FFFD for each invalid byte (default)"},
     {"lossy", LOSSY, "one U+FFFD for each maximal subpart, as browsers do"},
     {"strict", STRICT, "stop at the first invalid byte"},
     {NULL, 0, NULL},
@@ -41,7 +41,7 @@ static const struct spec {
     const char *argument; /* what follows it, or NULL */
     const char *help;     /* NULL for another name of the option before */
 } specs[] = {
-    {"encoding", FROM, ALL, "ENCODING", "the encoding of the input: utf-8 (default), utf-16le, utf-16be, or auto: by its byte order mark"},
+    {"encoding", FROM, ALL, "ENCODING", "the encoding of the input, also --from: utf-8 (default), utf-16le, utf-16be, or auto: by its byte order mark"},
     {"from", FROM, ALL, "ENCODING", NULL},
     {"to", TO, RECODE, "ENCODING", "the encoding of the output; utf-8 by default"},
     {"errors", ERRORS, RECODE | FIX, "HOW", "what becomes of invalid bytes"},
@@ -97,7 +97,7 @@ static void show_command(const struct command_spec *command) {
     printf("%s.\n\n", command->help);
     for (int i = 0; i < SPECS; i++)
         if (specs[i].takers & (unsigned)command->bit && specs[i].help) show_option(&specs[i]);
-    puts("\nExit status: 0 valid, 1 invalid bytes, 2 wrong arguments, 3 a file could not be read or written. man nody has more.");
+    printf("\nExit status: %s, 2 wrong arguments, 3 a file could not be read or written. man nody has more.\n", command->statuses);
 }
 
 void show_help(void) {

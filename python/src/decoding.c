@@ -117,23 +117,25 @@ static size_t held_utf8(const uint8_t *bytes, size_t len) {
     return 0;
 }
 
-static size_t held(nody_encoding_t encoding, const uint8_t *bytes, size_t len) {
-    return encoding == NODY_UTF8 ? held_utf8(bytes, len) : undecided(encoding, bytes, len);
+/* How many bytes at the end are held: what may yet become a character and, unless faults are wanted at once, faults whose kind the next
+ * bytes decide. */
+static size_t held(nody_encoding_t encoding, const uint8_t *bytes, size_t len, int at_once) {
+    return at_once && encoding == NODY_UTF8 ? held_utf8(bytes, len) : undecided(encoding, bytes, len);
 }
 
-/* decode(encoding, data, final): the text, and the bytes that are held: what may yet become a character, unless no more follows. If there
- * is a fault before these: its offset, length and kind, all bytes, and where those that are held begin. */
+/* decode(encoding, data, final, at_once): the text, and the bytes that are held, unless no more follows. If there is a fault before
+ * these: its offset, length and kind, all bytes, and where those that are held begin. */
 PyObject *decode(PyObject *module, PyObject *args) {
     PyObject *encoding_number, *data, *text, *source, *made = NULL;
     Py_buffer view;
     Window window;
     nody_encoding_t encoding;
-    int final;
+    int final, at_once;
     (void)module;
-    if (!PyArg_ParseTuple(args, "OOp:decode", &encoding_number, &data, &final) || !take_encoding(encoding_number, &encoding) || !take_bytes(data, &view))
+    if (!PyArg_ParseTuple(args, "OOpp:decode", &encoding_number, &data, &final, &at_once) || !take_encoding(encoding_number, &encoding) || !take_bytes(data, &view))
         return NULL;
     if (open_window(&window, &view)) {
-        size_t end = (size_t)view.len - (final ? 0 : held(encoding, view.buf, (size_t)view.len));
+        size_t end = (size_t)view.len - (final ? 0 : held(encoding, view.buf, (size_t)view.len, at_once));
         Fault fault = first_fault(&window, STREAMED, encoding, &view);
         size_t stop = fault.at < end ? fault.at : end;
         if (stop == end && (text = text_of(encoding, view.buf, end)) != NULL)
@@ -298,7 +300,8 @@ PyObject *replaced(PyObject *module, PyObject *args) {
 /* What the loop over faults has. `source` changes when a handler puts other bytes into the error. */
 typedef struct {
     nody_encoding_t encoding;
-    int final; /* whether no more follows */
+    int final;   /* whether no more follows */
+    int at_once; /* whether a fault is reported before its kind is sure */
     PyObject *source, *error, *handler, *kinds, *reasons;
     Py_ssize_t at, before;
     PyObject *names[3]; /* of the attributes: offset, error, reason */
@@ -317,7 +320,7 @@ static size_t left_len(const Asking *asking) {
  * inside of one. */
 static size_t decided(const Asking *asking) {
     size_t len = left_len(asking);
-    return asking->final ? len : len - held(asking->encoding, left_bytes(asking), len);
+    return asking->final ? len : len - held(asking->encoding, left_bytes(asking), len, asking->at_once);
 }
 
 /* Puts the text up to the next fault, if that is within `left` bytes, and returns that fault. */
@@ -399,7 +402,7 @@ static int put_handled(Text *text, Asking *asking) {
     return 1;
 }
 
-/* handled(encoding, source, valid, final, before, error, handler, kinds, reasons): the text of the source with each fault put through a
+/* handled(encoding, source, valid, final, at_once, before, error, handler, kinds, reasons): the text of the source with each fault put through a
  * handler, and the bytes that are held, as decode() has it; the first bytes are known to be valid. The error gets the place and the kind
  * of each fault; its offset counts `before` too. */
 PyObject *handled(PyObject *module, PyObject *args) {
@@ -410,7 +413,7 @@ PyObject *handled(PyObject *module, PyObject *args) {
     int is_made = 1;
     (void)module;
     memset(&asking, 0, sizeof asking);
-    if (!PyArg_ParseTuple(args, "O&SnpnO!OO!O!:handled", take_encoding, &asking.encoding, &asking.source, &asking.at, &asking.final, &asking.before,
+    if (!PyArg_ParseTuple(args, "O&SnppnO!OO!O!:handled", take_encoding, &asking.encoding, &asking.source, &asking.at, &asking.final, &asking.at_once, &asking.before,
                           (PyTypeObject *)PyExc_UnicodeDecodeError, &asking.error, &asking.handler, &PyTuple_Type, &asking.kinds,
                           &PyTuple_Type, &asking.reasons))
         return NULL;

@@ -535,6 +535,30 @@ class EverySplit(unittest.TestCase):
                     self.assertEqual(text, whole, (parts, name, errors))
 
 
+class EachReason(unittest.TestCase):
+    """A handler is told the reason that a `Decoder` gives for the whole input, however it comes in parts."""
+
+    def test_reasons(self):
+        told = []
+
+        def handler(error):
+            told.append((error.offset, error.error))
+            return "", error.end
+
+        codecs.register_error("noddychest-test-reasons", handler)
+        faulty = [bytes.fromhex(it) for it in ("f4908080", "e08080", "f0808080", "eda080", "f490", "e08041", "f4908041", "edbf", "f080ff")]
+        for data in [*faulty, *outside.inputs(500, 9, seed=29)]:
+            for name, encoding in zip(outside.CODECS, ("utf8", "utf16le", "utf16be")):
+                whole = [(it.offset, it.error) for it in noddychest.stream_faults([data], encoding)]
+                for parts in splits(data):
+                    told.clear()
+                    decoding = codecs.getincrementaldecoder(name)("noddychest-test-reasons")
+                    for part in parts:
+                        decoding.decode(part)
+                    decoding.decode(b"", True)
+                    self.assertEqual(told, whole, (parts, name))
+
+
 def all_splits(data):
     for count in range(1 << max(len(data) - 1, 0)):
         cuts = [at for at in range(1, len(data)) if count >> (at - 1) & 1]

@@ -39,9 +39,11 @@ def _own_way(handler: Any, form: int) -> Optional[int]:
 
 
 def _decode(form: int, data: ReadableBuffer, errors: Optional[str], final: bool, before: int = 0) -> tuple[str, bytes]:
-    """The text, and the bytes that are held: what may yet become a character, unless no more follows. `before` is the number of bytes of
-    all input that were read before."""
-    made: Any = _noddychest.decode(form, data, final)
+    """The text, and the bytes that are held, unless no more follows: what may yet become a character, and invalid bytes whose reason the
+    next bytes decide. Strictly, as Python's own decoders do, an invalid byte is reported at once, with the reason that the bytes so far
+    have. `before` is the number of bytes of all input that were read before."""
+    at_once = errors is None or errors == "strict"
+    made: Any = _noddychest.decode(form, data, final, at_once)
     if len(made) == 2:
         return made[0], made[1]
     at, length, kind, source, end = made
@@ -53,7 +55,7 @@ def _decode(form: int, data: ReadableBuffer, errors: Optional[str], final: bool,
     if errors == "surrogatepass":  # it knows encodings by name
         error.encoding = STANDARD[form]
     try:
-        return _noddychest.handled(form, source, at, final, before, error, handler, ERRORS, REASONS)
+        return _noddychest.handled(form, source, at, final, at_once, before, error, handler, ERRORS, REASONS)
     finally:
         error.encoding = NAMES[form]
 
