@@ -159,6 +159,12 @@ fn faults_come_with_their_offsets(rt: HostRuntime) {
     assert!(rt; faults_into(&bytes[5..], 15, &mut room) == came(1, 1, false));
     assert!(rt; room[0] == is_fault(15, 1, FaultKind::Utf8(Utf8ErrorKind::TooFewBytes)));
     assert!(rt; faults_into(b"abc", 0, &mut room) == came(3, 0, false));
+}
+
+// a ff, and a ff ff, with capacity for one fault: only the second time more faults are left.
+#[test]
+fn the_last_fault_fills_the_buffer(rt: HostRuntime) {
+    let mut room = empty();
     assert!(rt; faults_into(b"a\xff", 0, &mut room[..1]) == came(2, 1, false));
     assert!(rt; faults_into(b"a\xff\xff", 0, &mut room[..1]) == came(2, 1, true));
 }
