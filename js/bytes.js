@@ -58,5 +58,5 @@ export function bytesOf(data) {
         hold(false);
     }
     if (bytes) return bytes;
-    throw new TypeError("noddychest: bytes are a Uint8Array, another view or an ArrayBuffer; encode a string by TextEncoder first");
+    throw new TypeError("noddychest: bytes are a Uint8Array, another view or an ArrayBuffer; encode a string by TextEncoder, and await arrayBuffer() of a File or Blob");
 }

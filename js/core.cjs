@@ -60,7 +60,7 @@ function bytesOf(data) {
         hold(false);
     }
     if (bytes) return bytes;
-    throw new TypeError("noddychest: bytes are a Uint8Array, another view or an ArrayBuffer; encode a string by TextEncoder first");
+    throw new TypeError("noddychest: bytes are a Uint8Array, another view or an ArrayBuffer; encode a string by TextEncoder, and await arrayBuffer() of a File or Blob");
 }
 
 // The calls of the proved module, as plain numbers. This is the only file that knows their names and the layout of the memory. There

@@ -47,7 +47,10 @@ export interface Character {
     error: null;
 }
 
-/** A single invalid byte; in UTF-16 a lone surrogate of two bytes, or a single byte at the end. Offsets and lengths count bytes. */
+/**
+ * A single invalid byte; in UTF-16 a lone surrogate of two bytes, or a single byte at the end. Offsets and lengths count bytes. It has no
+ * value: that is in the bytes at `offset`. In a stream it may lie up to three bytes before the part: keep the last three bytes of each.
+ */
 export interface Fault {
     offset: number;
     length: 1 | 2;
@@ -147,15 +150,15 @@ export function encodingOfBom(data: Bytes): { encoding: "utf-8" | "utf-16le" | "
 
 export interface RecodeOptions {
     /**
-     * What to do with invalid bytes. `"replace"`, the default, puts one U+FFFD, the replacement character, for each. `"lossy"` puts one for
-     * each maximal subpart, as `TextDecoder` does. `"strict"` throws a `FaultError` at the first one.
+     * What to do with invalid bytes. `"replace"`, the default, puts one U+FFFD, the replacement character, for each; in UTF-16 for each
+     * lone surrogate. `"lossy"` puts one for each maximal subpart, as `TextDecoder` does. `"strict"` throws a `FaultError` at the first one.
      */
     errors?: "replace" | "lossy" | "strict" | undefined;
     /** `errors: "strict"`, by its name in `TextDecoder`; false by default. */
     fatal?: boolean | undefined;
 }
 
-/** That text which had to be valid is not. */
+/** Thrown where text has to be valid and is not. */
 export class FaultError extends TypeError {
     /** Made of a fault, as `firstFault` gives it, and its encoding. What is no fault is a `TypeError`. */
     constructor(fault: { offset: number; length: number; error: FaultKind }, encoding?: Encoding);
@@ -174,11 +177,11 @@ export class FaultError extends TypeError {
  */
 export function recode(data: Bytes, from: Encoding, to: Encoding, options?: RecodeOptions): Uint8Array;
 
-/** How many bytes `recode` gives, with one U+FFFD for each invalid byte. O(n). */
+/** How many bytes `recode` gives with `errors: "replace"`. O(n). */
 export function recodedLength(data: Bytes, from: Encoding, to: Encoding): number;
 
 /**
- * The text as a string, and the list of what was wrong, one entry for each invalid byte. A byte order mark stays in the text. A text that is
+ * The text as a string, and the list of what was wrong, one entry for each invalid byte or lone surrogate. A byte order mark stays in the text. A text that is
  * longer than a string can be (in V8 about 2^29 units of UTF-16) is a `RangeError`, before any of it is made. O(n).
  */
 export function decode(data: Bytes, encoding?: Encoding, options?: RecodeOptions): { text: string; faults: Fault[] };
@@ -189,7 +192,7 @@ export function decode(data: Bytes, encoding?: Encoding, options?: RecodeOptions
  */
 export class Recoder {
     constructor(from: Encoding, to: Encoding, options?: RecodeOptions);
-    /** What the part, and bytes held from parts before, become. At most three bytes are held back. */
+    /** What the part, and bytes held from parts before, become, in a buffer of its own. At most three bytes are held back. */
     feed(part: Bytes): Uint8Array;
     /** What the bytes that are still held become: call it once, after the last part. */
     finish(): Uint8Array;
@@ -202,12 +205,12 @@ export class Recoder {
 
 /**
  * Gives the pieces of input that comes in parts, with offsets from the first byte of all. They do not depend on how the input is divided.
- * They are those that `pieces` gives for the whole, but for the kind in one case: a byte that breaks a character is named when it comes. So
- * at the end of the input the first byte of `F0 41` is `InterruptedSequence` here, and `TooFewBytes` there.
+ * They are those that `pieces` gives for the whole, but for the kind in one case: at
+ * the end of the input the first byte of `F0 41` is `InterruptedSequence` here, and `TooFewBytes` there.
  *
  * The generators make pieces as they are asked for, 4,096 at most before; the part itself is copied, and may be changed, or sent away, once
- * a call has returned. Each piece is given once, in order, by whichever generator of the decoder is asked: what one of them left, since it
- * was not gone through to its end, the next one gives first. So a decoder may be fed between two pieces.
+ * a call has returned. Each piece is given once, in order, by whichever generator of the decoder is asked. If you leave a
+ * generator before its end, the next one begins with the pieces that are left. So a decoder may be fed between two pieces.
  *
  * A part that is no bytes, or whose buffer was detached, is a `TypeError`, and one that ends beyond `Number.MAX_SAFE_INTEGER` a
  * `RangeError`; the decoder is then as it was. Offsets are exact.
@@ -215,13 +218,16 @@ export class Recoder {
 export class Decoder {
     /** `offset` is the offset of the first byte, 0 by default: a whole number from 0 on, or a `RangeError` is thrown. */
     constructor(encoding?: Encoding, options?: { offset?: number | undefined });
-    /** The pieces that are decided with this part. Bytes that may still become a character wait for the next one, at most three. O(n). */
+    /**
+     * The pieces that are decided with this part. At most three bytes wait for the next part: the front of a character, or invalid bytes
+     * whose kind the next bytes decide. O(n).
+     */
     feed(part: Bytes): Generator<Piece, void, undefined>;
     /** Only the invalid bytes among the pieces of `feed`: text is skipped as fast as `isValid` scans it. O(n). */
     feedFaults(part: Bytes): Generator<Fault, void, undefined>;
     /** Ends the input: the pieces of what waits, which are invalid. What is fed after that is other input, and offsets go on. */
     finish(): Generator<Piece, void, undefined>;
-    /** The same, without characters that no generator has given yet. */
+    /** Ends the input as `finish` does, and gives only the invalid bytes of what waits. */
     finishFaults(): Generator<Fault, void, undefined>;
     /** The offset of the next piece that will be given. */
     readonly offset: number;
