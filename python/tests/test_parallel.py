@@ -106,6 +106,19 @@ class SameAsOne(InFolder):
         parallel.recode(memoryview(data), self.out, "utf8", "utf8", 2)
         self.assertEqual((os.path.islink(self.out), self.read(self.path)), (True, recode(data, "utf8", "utf8")))
 
+    def test_long_names(self):
+        """A file system takes names of 255 bytes, and so does the output."""
+        for name in ("m" * 255, "m" * 231, "é" * 127, "😀" * 63):
+            out = os.path.join(self.folder, name)
+            for resume in (False, True):
+                with open(self.path, "wb") as file:
+                    file.write(b"a\xff\n")
+                self.assertEqual(parallel.recode(self.path, out, "utf8", "utf8", resume=resume), Recoded(3, 5, 1), (len(name), resume))
+                with open(out, "rb") as file:
+                    self.assertEqual(file.read(), "a\ufffd\n".encode())
+            os.remove(out)
+        self.assertEqual(os.listdir(self.folder), ["text"])
+
     def test_progress(self):
         data, seen = mixed(20_000_000), []
         self.write(data)

@@ -1,6 +1,6 @@
 """The calls of noddychest.parallel on many machines: workers of dask.distributed read shards, and only what they found crosses the network.
 
-It needs the packages dask and distributed (`pip install noddychest[dask]`; of Debian python3-dask and python3-distributed), and on the workers
+It needs the packages dask and distributed (`pip install './python[dask]'` in a clone; of Debian python3-dask and python3-distributed), and on the workers
 this package. On one machine noddychest.parallel does the same without them, and is faster.
 
     from distributed import Client
@@ -534,7 +534,7 @@ def recode(client: Any, source: Sources, out: Path, from_: str, to: str, progres
     resume: what such a run made before, and has the length that it should have, is not made again. `.noddychest-manifest.json` in the folder
     of the output tells which run made a file: the source with its length and time of change, the arguments, and the version of this package
     (with `parts` `size` too). What does not fit it is made anew. A run into one file writes the manifest only with `resume`.
-    Result: how many bytes were read and written, and how many invalid bytes were replaced (not counted in what stood already). `failed` has
+    Result: how many bytes were read and written (also of what stood already), and how many invalid bytes this run replaced. `failed` has
     the files of a folder that cannot be read, by name, each with its OSError, as in the result of `check`; they have no output.
     A file is written under another name beside it, is brought to the disk, and gets its name then.
     Errors: as for `check`. With `strict` FaultError, for the first invalid byte of the first file that has one; then no file is written.

@@ -26,6 +26,7 @@ from concurrent.futures import ThreadPoolExecutor
 from typing import TYPE_CHECKING, NamedTuple, Optional, TypeVar, Union
 
 from ._names import form_of
+from ._pieces import boundary_before
 from ._recoding import Recoder
 from ._shards import BLOCK, ChangedError, Counts, Faults, Recoded, Shard, no_faults, opened, path_of, place_of, shards
 from ._version import __version__
@@ -324,11 +325,17 @@ def _run_name(them: list[Shard], to: str, errors: str) -> str:
     return hashlib.sha256(repr(words).encode("utf-8", "surrogatepass")).hexdigest()[:16]
 
 
+def _beside(target: str, end: str) -> str:
+    """The target's name with this at its end: of a long name its front, since file systems take at most 255 bytes."""
+    folder, name = os.path.split(os.fsencode(target))
+    return os.path.join(os.fsdecode(folder), os.fsdecode(name[: boundary_before(name, max(min(len(name), 255 - len(end)), 0))]) + end)
+
+
 @contextlib.contextmanager
 def partial(target: str, name: Optional[str], last_look: Callable[[], None]) -> Iterator[int]:
     """A file beside the target, that gets its name at the end, if the last look raises nothing. Without a name of its own it goes away if
     anything fails."""
-    path = f"{target}.{name or secrets.token_hex(8)}.partial"
+    path = _beside(target, f".{name or secrets.token_hex(8)}.partial")
     file = os.open(path, os.O_RDWR | os.O_CREAT | os.O_NOFOLLOW | os.O_CLOEXEC | (0 if name else os.O_EXCL), 0o666)
     try:
         if name is not None:
