@@ -191,7 +191,7 @@ function chooser(input, way, use) {
 export function showGuesses(input, use) {
     const ways = guessesOf(input);
     $("guess-part").hidden = !ways.length && !(input.found?.isLast && input.found.invalid && input.form === UTF8);
-    if (!ways.length) return $("guess").replaceChildren(element("li", "none", {}, element("p", "soft", {}, "No encoding fits better than UTF-8 with damage.")));
+    if (!ways.length) return $("guess").replaceChildren(element("li", "none", {}, element("p", "soft", {}, input.guess?.name === "binary" ? `Nothing to repair: open ${input.guess.file ?? "it"} with a program for such files.` : "No encoding fits better than UTF-8 with damage.")));
     const rows = ways.map((way, i) => {
         const how = i === 0 && way.hasOthers && isLabel(input.how) && !ways.some((it) => it.how === input.how) ? input.how : way.how;
         const isInUse = input.how === how && input.form === formOf(how);

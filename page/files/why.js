@@ -59,7 +59,7 @@ function ofPlace(input, place, own, at, line) {
     const said = told(place, codec.names, { form, after, size, next: next?.offset === place.offset + place.length ? next : null, previous: previous && previous.offset + previous.length === place.offset ? previous : null });
     const isBroken = said.error === "InterruptedSequence" || said.error === "TooFewBytes";
     return [element("p", "say", {}, said.sentence), ...(form === UTF8 ? [bits(own, true, isBroken ? after : -1)] : []),
-        element("p", "prob", {}, element("b", "", {}, "Probably: "), said.probably),
+        element("p", "prob", {}, element("b", "", {}, "Probably: "), input.guess?.name === "binary" ? `This is a byte of ${input.guess.file ?? "a file that is not text"}, and means no character.` : said.probably),
         element("p", "soft", {}, element("code", "", { title: codec.sentences[place.kind] }, said.error), line ? ` · ${line}` : "", element("br"), replacements(place, form))];
 }
 

@@ -86,18 +86,18 @@ const BY_CAUSE = [
     ({ bytes, need }) => ["Cut off at the end", "cut off", `The input ends inside a character: ${bytes.length === 1 ? "one" : bytes.length} of its ${need} bytes ${bytes.length === 1 ? "is" : "are"} there.`,
         "The file or download was cut, or the rest is still to come. In a stream, keep these bytes for the next part."],
     ({ bytes, hex, need, after, name }) => [`${latinOf(bytes[0])} in Windows-1252`, `${latinOf(bytes[0])}?`,
-        name === "NonUtf8Byte" ? `${hex} never stands in UTF-8.` : need === 1 ? `${hex} continues a character, but none has begun.` : `${hex} begins a character of ${need} bytes, but only one is here: ${following(after)} follows.`,
+        name === "NonUtf8Byte" ? `${hex} never occurs in UTF-8.` : need === 1 ? `${hex} continues a character, but none has begun.` : `${hex} begins a character of ${need} bytes, but only one is here: ${following(after)} follows.`,
         `This is Latin-1 or Windows-1252, where ${hex} is ${latinOf(bytes[0])}, and was not converted.`],
     ({ hex, place, bytes }) => ["Begins nothing", "stray", `${hex} continues a character, but none has begun.`,
         place.offset === 0 ? "The beginning was cut off: the first byte of this character is gone."
             : `The first byte of a character was lost or overwritten.${latinOf(bytes[0]) && bytes[0] < 0xa0 ? ` Or this is Windows-1252, where ${hex} is ${latinOf(bytes[0])}.` : ""}`],
-    ({ hex, bytes, place, next }) => ["Never in UTF-8", "never", `${hex} never stands in UTF-8.`, neverProbably(bytes[0], place, next)],
+    ({ hex, bytes, place, next }) => ["Never in UTF-8", "never", `${hex} never occurs in UTF-8.`, neverProbably(bytes[0], place, next)],
     ({ hex, bytes, name }) => {
         const scalar = valueOf(bytes);
         const isNul = joined(bytes) === "C080";
         const said = asciiOr(scalar);
         return [isNul ? "NUL of Java" : `Overlong ${said}`, "overlong",
-            name === "NonUtf8Byte" ? `${hexByte(bytes[0])} never stands in UTF-8. ${hex} would be ${said} in 2 bytes; the shortest is ${hexOf(new TextEncoder().encode(String.fromCodePoint(scalar)))}.`
+            name === "NonUtf8Byte" ? `${hexByte(bytes[0])} never occurs in UTF-8. ${hex} would be ${said} in 2 bytes; the shortest is ${hexOf(new TextEncoder().encode(String.fromCodePoint(scalar)))}.`
                 : `${hex} is ${said} in ${bytes.length} bytes; UTF-8 takes only the shortest, ${hexOf(new TextEncoder().encode(String.fromCodePoint(scalar)))}.`,
             isNul ? "A NUL, written by Java’s modified UTF-8." : "No correct program writes this. It was used to get ../ past filters: do not decode it."];
     },
