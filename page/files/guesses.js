@@ -199,7 +199,9 @@ export function showGuesses(input, use) {
         const told = element("div", "", {}, element("b", "", {}, ...unbroken(`${i ? "Or" : "Best guess:"} ${name}`)), element("br"), element("span", "soft", {}, way.note), ...(way.hasOthers && i === ways.findIndex((it) => it.hasOthers) ? [" ", chooser(input, { how }, use)] : []));
         const parts = preview(input, how);
         const text = element("pre", parts ? "" : "waits", {}, element("bdi", "", {}, ...drawn(parts ?? [])));
-        const pressed = button(isInUse ? "✓ In use" : "Read it so", () => use(how), { "aria-pressed": String(isInUse), "aria-label": `${isInUse ? "In use" : "Read it so"}: ${name}` });
+        // (a text in another encoding is to be read so before anything else is done)
+        const isNext = i === 0 && formOf(how) !== input.form;
+        const pressed = button(isInUse ? "✓ In use" : "Read it so", () => use(how), { "aria-pressed": String(isInUse), "aria-label": `${isInUse ? "In use" : "Read it so"}: ${name}` }, isNext ? "go" : "");
         return element("li", "", { "data-how": how }, told, text, pressed);
     });
     $("guess").replaceChildren(...rows);

@@ -151,7 +151,7 @@ function showCopying() {
     const isShort = size <= COPIED;
     for (const [id, isOn] of [["copy-text", isRead && isShort], ["copy-bytes", isShort], ["copy-report", isRead], ["copy-link", isLinked], ["save-text", isRead]]) $(id).disabled = !isOn;
     $("copy-text").textContent = found?.invalid || input.how !== "utf-8" ? "repaired text" : "text";
-    $("copy-text").classList.toggle("go", input.guess?.name !== "binary");
+    $("copy-text").classList.toggle("go", input.guess?.name !== "binary" && !$("guess").querySelector(".go"));
     $("copy-note").textContent = !size || isLinked ? "" : isShort ? "(no link: 48 kB fit)" : "(too large: save it)";
 }
 
