@@ -114,6 +114,28 @@ impl FaultKind {
             FaultKind::Incomplete => "Incomplete",
         }
     }
+
+    /// A sentence about it, as the programs and the library for C write it.
+    ///
+    /// ```
+    /// use noddychest::FaultKind;
+    /// assert_eq!(FaultKind::TooHighCodepoint.sentence(), "too high: the value is above 10FFFF");
+    /// ```
+    #[must_use]
+    pub fn sentence(self) -> &'static str {
+        match self {
+            FaultKind::TooFewBytes => "too few bytes: the input ends inside a character",
+            FaultKind::NonUtf8Byte => "invalid byte: C0, C1 and F5 to FF never occur in UTF-8",
+            FaultKind::UnexpectedContinuationByte => "unexpected continuation byte: no character begins with it",
+            FaultKind::InterruptedSequence => "interrupted sequence: a continuation byte is missing",
+            FaultKind::OverlongEncoding => "overlong encoding: the value has a shorter code",
+            FaultKind::Utf16ReservedCodepoint => "surrogate: the value is one of D800 to DFFF",
+            FaultKind::TooHighCodepoint => "too high: the value is above 10FFFF",
+            FaultKind::UnexpectedTrailingSurrogate => "unexpected trailing surrogate: no leading one stands before it",
+            FaultKind::UnmatchedLeadingSurrogate => "unmatched leading surrogate: no trailing one follows it",
+            FaultKind::Incomplete => "incomplete: the input ends inside a character of UTF-16",
+        }
+    }
 }
 
 impl From<Utf8ErrorKind> for FaultKind {

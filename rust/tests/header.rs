@@ -1,14 +1,18 @@
-//! The names, numbers and version of the crate compared with those of `c/noddychest.h`, if that is: in the repository.
+//! The names, numbers, sentences and version of the crate compared with those of the library for C, in the repository.
 
 use noddychest::{Encoding, FaultKind};
 
-/// The header, or nothing in the package.
-fn header() -> String {
-    let path = format!("{}/../c/noddychest.h", env!("CARGO_MANIFEST_DIR"));
+/// A file of the repository, or nothing in the package.
+fn read(file: &str) -> String {
+    let path = format!("{}/../{file}", env!("CARGO_MANIFEST_DIR"));
     std::fs::read_to_string(&path).unwrap_or_else(|_| {
         eprintln!("left out: {path} is not there");
         String::new()
     })
+}
+
+fn header() -> String {
+    read("c/noddychest.h")
 }
 
 /// `TooFewBytes` as the header has it: `TOO_FEW_BYTES`.
@@ -44,6 +48,14 @@ fn numbers_are_those_of_the_header() {
 fn names_are_those_of_the_kinds() {
     for &kind in FaultKind::ALL {
         assert_eq!(kind.name(), format!("{kind:?}"));
+    }
+}
+
+#[test]
+fn sentences_are_those_of_the_library_for_c() {
+    let kinds = read("crates/c_api/src/kinds.rt");
+    for &kind in FaultKind::ALL {
+        assert!(kinds.is_empty() || kinds.contains(&format!("b\"{}\\0", kind.sentence())), "{kind}");
     }
 }
 
