@@ -418,8 +418,8 @@ impl Recoder {
     /// Writes what is held, at most nine bytes, when no more follows. [`Status::Full`]: call this again with an empty buffer. The rest of the
     /// buffer may hold anything.
     ///
-    /// Of a strict recoder bytes that are held are the front of a character whose end is missing: a [`Status::Fault`]. Call this
-    /// again for the next one, until it is done.
+    /// A strict recoder gives a [`Status::Fault`] for the first invalid byte of those that it holds. Call this again until it is done: valid
+    /// bytes after that one are written.
     ///
     /// ```
     /// use noddychest::{Encoding, Recoder};
