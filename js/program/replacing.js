@@ -94,7 +94,7 @@ async function write(file, input, parts) {
 
 // Replaces the file of an input by parts that are made of it. Node has no locks of files: two runs at once are told apart by the last look.
 export async function replaceFile(input, parts, suffix) {
-    const target = fs.realpathSync.native(input.name, { encoding: "buffer" });
+    const target = fs.lstatSync(input.name).isSymbolicLink() ? fs.realpathSync.native(input.name, { encoding: "buffer" }) : input.name;
     const folder = folderOf(target);
     const temporary = Buffer.concat([folder, Buffer.from(`.noddychest-${randomBytes(8).toString("hex")}`)]);
     const remove = () => ignoring(() => fs.unlinkSync(temporary));

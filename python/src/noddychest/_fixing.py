@@ -63,7 +63,7 @@ class _Old:
 
     def __init__(self, it: Input, target: str, suffix: Optional[str]) -> None:
         self._it, self._target, self._about = it, target, it.about
-        self._backup = None if suffix is None else target + suffix
+        self._backup = None if suffix is None else (target if os.path.islink(it.name) else it.name) + suffix
         self._is_linked = False
 
     def look_again(self) -> None:
