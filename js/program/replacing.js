@@ -109,6 +109,7 @@ export async function replaceFile(input, parts, suffix) {
         await turn();
         exchange(input, target, temporary, suffix);
         syncFolder(folder);
+        await turn();
     } catch (error) {
         remove();
         throw error instanceof InputError ? error : new InputError(input.name, reasonOf(error));
