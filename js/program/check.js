@@ -1,6 +1,5 @@
 // `noddychest check`: whether input is valid, and each invalid byte with its place and the reason.
-import { isatty } from "node:tty";
-import { sentence } from "../node.js";
+import { sentence } from "./calls.js";
 import { Input, START, encodingOf, foundIn, plus } from "./inputs.js";
 import { AUTO } from "./options.js";
 import { jsonLine, shown } from "./outputs.js";
@@ -27,11 +26,17 @@ function foundLine(name, { offset, length, error, place }, asked) {
     return `${shown(name)}:${line}:${column}: offset ${offset}: ${reason}\n`;
 }
 
+// Only the name: as it is for a program, and as it can be shown for people.
+async function nameLine(name, asked) {
+    const { isatty } = await import("node:tty");
+    return Buffer.concat([isatty(1) ? Buffer.from(shown(name)) : name, Buffer.from(asked.null ? "\0" : "\n")]);
+}
+
 // What is said of the whole of an input at its end.
 function endOf(name, told, asked) {
     const { encoding, mark, count, first, isBinary, isWhole, isFile } = told;
     if (asked.quiet) return "";
-    if (asked.names) return count ? Buffer.concat([isatty(1) ? Buffer.from(shown(name)) : name, Buffer.from(asked.null ? "\0" : "\n")]) : "";
+    if (asked.names) return count ? nameLine(name, asked) : "";
     if (asked.json) {
         const members = { encoding: NAMES[encoding], valid: count === 0, binary: isBinary, invalid: count, ...(isBinary && count ? { first } : {}), complete: isWhole };
         return jsonLine(name, members);
@@ -42,12 +47,12 @@ function endOf(name, told, asked) {
 }
 
 // Checks an input. Returns the status.
-export function check(out, name, asked) {
+export async function check(out, name, asked) {
     const input = new Input(name, asked.encoding);
     try {
         input.refuseOutput();
         const told = checked(out, input, asked);
-        out.write(endOf(input.name, told, asked));
+        out.write(await endOf(input.name, told, asked));
         return told.count ? 1 : 0;
     } finally {
         input.close();

@@ -1,5 +1,5 @@
 // `noddychest fix`: replaces the invalid bytes of a file in place, as nody(1) does.
-import { Recoder, isValid, recode, shardEnd } from "../node.js";
+import { Recoder, isValid, recode, shardEnd } from "./calls.js";
 import { nounOf } from "./check.js";
 import { Input, InputError, START, foundIn, lineEnd, linesOf, plus } from "./inputs.js";
 import { complain, isHidden, shown, shownBy } from "./outputs.js";

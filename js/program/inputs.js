@@ -1,6 +1,6 @@
 // What the program reads: inputs in blocks, and the invalid bytes of a block with their lines and columns.
 import fs from "node:fs";
-import { boundaryBefore, charCount, encodingOfBom, faults } from "../node.js";
+import { boundaryBefore, charCount, encodingOfBom, faults } from "./calls.js";
 import { AUTO } from "./options.js";
 import { waiting } from "./outputs.js";
 import { bytesOf } from "./words.js";

@@ -1,5 +1,5 @@
 // `noddychest list`: a line for each piece.
-import { pieces, sentence } from "../node.js";
+import { pieces, sentence } from "./calls.js";
 import { Input } from "./inputs.js";
 import { isHidden, jsonLine } from "./outputs.js";
 

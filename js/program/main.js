@@ -1,19 +1,21 @@
 // Runs a command on its inputs, one by one. The status is that of the worst.
-import { check } from "./check.js";
-import { fix } from "./fix.js";
 import { InputError } from "./inputs.js";
-import { list } from "./list.js";
 import { COMMANDS, SHORT_USAGE, WrongWords, askedBy, canRead, helpOfAll, usageOf, version } from "./options.js";
 import { Output, OutputError, complain, reasonOf, shown, tell } from "./outputs.js";
 import { bytesOf, wordsAsBytes } from "./words.js";
 
 const [WRONG, FAILED] = [2, 3];
-const RUN = { check, fix, list };
+// (what a command does not need takes time to load)
+const RUN = {
+    check: async () => (await import("./check.js")).check,
+    fix: async () => (await import("./fix.js")).fix,
+    list: async () => (await import("./list.js")).list,
+};
 
 // The status for one input; one that cannot be read is reported.
-async function statusOf(out, name, asked) {
+async function statusOf(run, out, name, asked) {
     try {
-        return await RUN[asked.command](out, name, asked);
+        return await run(out, name, asked);
     } catch (error) {
         if (error instanceof OutputError || !(error instanceof InputError || error.code)) throw error;
         out.flush();
@@ -37,8 +39,9 @@ async function writing(write) {
 }
 
 async function runAll(out, asked) {
+    const run = await RUN[asked.command]();
     let worst = 0;
-    for (const name of asked.files.length ? asked.files : ["-"]) worst = Math.max(worst, await statusOf(out, name, asked));
+    for (const name of asked.files.length ? asked.files : ["-"]) worst = Math.max(worst, await statusOf(run, out, name, asked));
     return worst;
 }
 

@@ -1,7 +1,7 @@
 // The command line of `noddychest`: its commands and options, which are those of nody(1) as far as both have them.
 import { readFileSync } from "node:fs";
 import * as util from "node:util";
-import { Decoder } from "../node.js";
+import { Decoder } from "./calls.js";
 import { bytesOf } from "./words.js";
 
 export const AUTO = "auto";

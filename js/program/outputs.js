@@ -1,7 +1,7 @@
 // What the program writes: standard output, messages, and names as both show them.
 import fs from "node:fs";
 import * as util from "node:util";
-import { decode, pieces } from "../node.js";
+import { decode, pieces } from "./calls.js";
 
 const ROOM = 1 << 16;
 const HIDDEN = /[\0-\x1f\x7f-\x9f\u061c\u200b-\u200f\u2028-\u202e\u2060-\u206f\ufeff]/;

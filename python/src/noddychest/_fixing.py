@@ -77,11 +77,12 @@ class _Old:
 
     def _link(self, backup: str) -> None:
         """Gives the file its second name, which changes no contents."""
+        self._is_linked = True  # (a signal may come before the call returns)
         try:
             os.link(self._target, backup, follow_symlinks=False)
         except OSError as error:
-            raise InputError(backup, error.strerror) from None
-        self._is_linked = True
+            self._is_linked = False
+            raise InputError(backup, error.strerror or str(error)) from None
         now = os.fstat(self._it.file)
         if _stamp(now)[:-1] == _stamp(self._about)[:-1]:
             self._about = now
