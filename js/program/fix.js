@@ -1,7 +1,7 @@
 // `noddychest fix`: replaces the invalid bytes of a file in place, as nody(1) does.
 import { Recoder, isValid, recode, shardEnd } from "./calls.js";
 import { nounOf } from "./check.js";
-import { Input, InputError, START, foundIn, lineEnd, linesOf, plus } from "./inputs.js";
+import { Input, START, foundIn, lineEnd, linesOf, plus } from "./inputs.js";
 import { complain, isHidden, shown, shownBy } from "./outputs.js";
 import { replaceFile } from "./replacing.js";
 
@@ -20,9 +20,8 @@ function isAllValid(input) {
 
 // Replaces the invalid bytes of a file, or shows the lines that would change. A valid file is not touched. Returns the status.
 export async function fix(out, name, asked) {
-    const input = new Input(name, asked.encoding, { mayWait: false });
+    const input = new Input(name, asked.encoding, { isReplaced: true });
     try {
-        if (!input.isFile) throw new InputError(input.name, input.about.isDirectory() ? "it is a folder" : "it is no regular file");
         if (isAllValid(input)) return 0;
         input.rewind();
         if (asked["dry-run"]) {

@@ -24,18 +24,20 @@ export const encodingOf = (front) => encodingOfBom(front)?.encoding ?? "utf-8";
 
 export const aboutOf = (file) => fs.fstatSync(file, { bigint: true });
 
-// An input, which is read once, in blocks. `about` is what it was when it was opened.
+// An input, which is read once, in blocks. `about` is what it was when it was opened. One that is to be replaced has to be a file, and no
+// pipe is waited for.
 export class Input {
     #front = Buffer.alloc(0);
     #hasEnded = false;
     // How many bytes were read, from where a file is read; -1 of what is no file.
     #at = -1;
 
-    constructor(name, encoding, { mayWait = true } = {}) {
+    constructor(name, encoding, { isReplaced = false } = {}) {
         this.name = bytesOf(name);
-        this.file = name === "-" ? 0 : fs.openSync(this.name, fs.constants.O_RDONLY | (mayWait ? 0 : fs.constants.O_NONBLOCK ?? 0));
+        this.file = name === "-" ? 0 : fs.openSync(this.name, fs.constants.O_RDONLY | (isReplaced ? fs.constants.O_NONBLOCK ?? 0 : 0));
         try {
             this.about = aboutOf(this.file);
+            if (isReplaced && !this.isFile) throw new InputError(this.name, this.about.isDirectory() ? "it is a folder" : "it is no regular file");
             this.encoding = encoding === AUTO ? this.#encodingByBom() : encoding;
         } catch (error) {
             this.close();

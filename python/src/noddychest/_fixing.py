@@ -4,7 +4,6 @@ from __future__ import annotations
 import argparse
 import contextlib
 import os
-import stat
 from collections.abc import Iterator
 from typing import NamedTuple, Optional
 
@@ -27,9 +26,7 @@ class Fixed(NamedTuple):
 
 def fix(out: Output, name: str, asked: argparse.Namespace) -> Fixed:
     """Replaces the invalid bytes of a file, or shows the lines that would change. A valid file is not touched."""
-    with Input(name, asked.encoding, may_wait=False) as it:
-        if not it.is_file:
-            raise InputError(name, "it is a folder" if stat.S_ISDIR(it.about.st_mode) else "it is no regular file")
+    with Input(name, asked.encoding, is_replaced=True) as it:
         if all(is_valid(memoryview(data)[:cut], it.encoding) for _, data, cut in it.blocks()):
             return Fixed(0, 0, it.encoding)
         it.rewind()

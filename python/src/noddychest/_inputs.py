@@ -29,13 +29,16 @@ class InputError(OSError):
 
 
 class Input:
-    """An input, which is read once, in blocks. `about` is what it was when it was opened."""
+    """An input, which is read once, in blocks. `about` is what it was when it was opened. One that is to be replaced has to be a file, and no
+    pipe is waited for."""
 
-    def __init__(self, name: str, encoding: str, *, may_wait: bool = True) -> None:
+    def __init__(self, name: str, encoding: str, *, is_replaced: bool = False) -> None:
         self.name, self._front, self._has_ended = name, b"", False
-        self.file = 0 if name == "-" else os.open(name, _FLAGS | (0 if may_wait else os.O_NONBLOCK))
+        self.file = 0 if name == "-" else os.open(name, _FLAGS | (os.O_NONBLOCK if is_replaced else 0))
         try:
             self.about = os.fstat(self.file)
+            if is_replaced and not self.is_file:
+                raise InputError(name, "it is a folder" if stat.S_ISDIR(self.about.st_mode) else "it is no regular file")
             self._origin = os.lseek(self.file, 0, os.SEEK_CUR) if self.is_file else 0  # (of standard input)
             self.encoding = self._encoding_by_bom() if encoding == AUTO else STANDARD[form_of(encoding)]
         except BaseException:

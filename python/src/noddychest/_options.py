@@ -158,6 +158,21 @@ def _parser_of(command: str) -> _Parser:
     return parser
 
 
+_VALUED = {word for it in _OPTIONS if it.metavar is not None for word in it.words}
+
+
+def _apart(words: Sequence[str]) -> list[str]:
+    """The letters of each word apart, and each value joined to its option. So a value may begin with a minus, as for getopt_long."""
+    made, left = [], iter(words)
+    for word in left:
+        while re.match("-[^-].", word, re.DOTALL) and word[:2] not in _VALUED:
+            made.append(word[:2])
+            word = "-" + word[2:]
+        value = next(left, None) if word in _VALUED else None
+        made.append(word if value is None else f"{word}={value}" if word.startswith("--") else word + value)
+    return made
+
+
 def _split(words: Sequence[str]) -> tuple[list[str], list[str]]:
     """The words before --, and those after it, which are all files."""
     end = words.index("--") if "--" in words else len(words)
@@ -184,7 +199,7 @@ def asked_by(command: str, words: Sequence[str]) -> argparse.Namespace:
     before, after = _split(words)
     parser = _parser_of(command)
     try:
-        asked, rest = parser.parse_known_args(before)
+        asked, rest = parser.parse_known_args(_apart(before))
     except argparse.ArgumentError as error:
         if error.argument_name is None:
             raise WrongWords(error.message) from None
