@@ -27,6 +27,11 @@ def ran(*words, given=b"", **more):
     return it.returncode, it.stdout, it.stderr.decode()
 
 
+def heed_interrupts():
+    """What a script starts in the background passes over an interrupt, and so does what that starts."""
+    signal.signal(signal.SIGINT, signal.SIG_DFL)
+
+
 class Program(unittest.TestCase):
     def setUp(self):
         folder = tempfile.TemporaryDirectory()
@@ -239,8 +244,7 @@ class Program(unittest.TestCase):
 
     def test_what_comes_in_time_is_told_of_in_time(self):
         """Each part of a pipe is reported before the next one is waited for; an interrupt ends it as a signal does."""
-        # (what a script starts in the background passes over an interrupt, and so does what that starts)
-        how = {"stdin": subprocess.PIPE, "stdout": subprocess.PIPE, "stderr": subprocess.PIPE, "preexec_fn": lambda: signal.signal(signal.SIGINT, signal.SIG_DFL)}
+        how = {"stdin": subprocess.PIPE, "stdout": subprocess.PIPE, "stderr": subprocess.PIPE, "preexec_fn": heed_interrupts}
         with subprocess.Popen([sys.executable, "-m", "noddychest", "check"], **how) as it:
             it.stdin.write(b"a\xffbcdefgh")
             it.stdin.flush()
@@ -294,7 +298,7 @@ from noddychest.__main__ import main
 sys.argv[1:] = ["fix", *{[*words, self.path]!r}]
 sys.exit(main())
 """
-        it = subprocess.run([sys.executable, "-c", program], stdout=subprocess.PIPE, stderr=subprocess.PIPE, timeout=60)
+        it = subprocess.run([sys.executable, "-c", program], stdout=subprocess.PIPE, stderr=subprocess.PIPE, timeout=60, preexec_fn=heed_interrupts)
         return it.returncode, it.stdout, it.stderr.decode()
 
     def files(self):
@@ -346,8 +350,8 @@ sys.exit(main())
         self.assertEqual((about.st_uid, about.st_gid, about.st_mode & 0o7777), (1234, 4321, 0o4640))
 
 
-@unittest.skipUnless(shutil.which("noddychest", path=os.path.dirname(sys.executable)), "the package is not installed with its command")
 class Command(unittest.TestCase):
+    @unittest.skipUnless(shutil.which("noddychest", path=os.path.dirname(sys.executable)), "the package is not installed with its command")
     def test_it_is_the_same_program(self):
         it = subprocess.run([os.path.join(os.path.dirname(sys.executable), "noddychest"), "check"], input=b"a\xff", stdout=subprocess.PIPE)
         self.assertEqual((it.returncode, it.stdout), ran("check", given=b"a\xff")[:2])
