@@ -32,7 +32,7 @@ function encodingOf(label) {
 // A number in decimal, or in hexadecimal after 0x.
 function numberOf(word) {
     if (!/^(0[xX][0-9a-fA-F]+|[0-9]+)$/.test(word)) return undefined;
-    const number = BigInt(/^0x/i.test(word) ? word : word.replace(/^0+(?=.)/, ""));
+    const number = BigInt(word);
     return number < 1n << 64n ? Number(number) : undefined;
 }
 
