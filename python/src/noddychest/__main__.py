@@ -8,6 +8,7 @@ import argparse
 import array
 import contextlib
 import errno
+import itertools
 import os
 import re
 import signal
@@ -18,12 +19,13 @@ from io import BufferedReader, TextIOWrapper
 from typing import NamedTuple, Optional
 
 from . import FaultKind, FaultError, Faults, Recoder, Shard, _noddychest, boundary_before, parallel, pieces, shards
-from ._names import form_of
+from ._names import form_of, is_auto
 from ._parts import waits
-from ._shards import arrays, taken
+from ._shards import BOM, arrays, bom_at, taken
 
 _SIZE = 1 << 20
 _NAMES = ("UTF-8", "UTF-16LE", "UTF-16BE")  # by the numbers of the C library
+_NAMES_OF_INPUT = "utf8, utf16le, utf16be, or auto: by the byte order mark"
 _HIDDEN = re.compile("[\0-\x1f\x7f-\x9f\u061c\u200b-\u200f\u2028-\u202e\u2060-\u206f\ufeff]")
 _LINE_FEEDS = ("\n".encode(), "\n".encode("utf-16-le"), "\n".encode("utf-16-be"))
 
@@ -34,6 +36,10 @@ def _encoding(name: str) -> str:
     except LookupError as error:
         raise argparse.ArgumentTypeError(str(error)) from None
     return name
+
+
+def _encoding_of_input(name: str) -> str:
+    return name if is_auto(name) else _encoding(name)
 
 
 def _arguments() -> argparse.ArgumentParser:
@@ -48,8 +54,8 @@ def _arguments() -> argparse.ArgumentParser:
     for it in (split, convert):
         it.add_argument("file", nargs="?", default="-", metavar="FILE", help="standard input, if there is none, or for -")
     for it in (check, split):
-        it.add_argument("--encoding", type=_encoding, default="utf8", metavar="NAME", help="utf8, utf16le or utf16be")
-    convert.add_argument("--from", dest="from_", type=_encoding, required=True, metavar="NAME", help="utf8, utf16le or utf16be")
+        it.add_argument("--encoding", type=_encoding_of_input, default="utf8", metavar="NAME", help=_NAMES_OF_INPUT)
+    convert.add_argument("--from", dest="from_", type=_encoding_of_input, required=True, metavar="NAME", help=f"{_NAMES_OF_INPUT}, which is left out")
     convert.add_argument("--to", type=_encoding, required=True, metavar="NAME")
     convert.add_argument("--errors", choices=["replace", "strict", "lossy"], default="replace")
     for it in (check, convert):
@@ -143,15 +149,35 @@ def _parts(file: BufferedReader) -> Iterator[bytes]:
         yield part
 
 
-def _blocks(file: BufferedReader, encoding: str) -> Iterator[tuple[int, bytes, int]]:
-    """Bytes, the offset at which they begin, and how many of them are to be taken: four more are there to tell why one is invalid."""
-    offset, data = 0, b""
-    for part in _parts(file):
-        data += part
-        cut = boundary_before(data, max(len(data) - 4, 0), encoding)
-        yield offset, data, cut
-        offset, data = offset + cut, data[cut:]
-    yield offset, data, len(data)
+class _Input(NamedTuple):
+    """A file from its front."""
+
+    encoding: str
+    mark: int  # how many bytes the byte order mark has that tells the encoding
+    parts: Iterator[bytes]
+
+    def blocks(self) -> Iterator[tuple[int, bytes, int]]:
+        """Bytes, the offset at which they begin, and how many of them are to be taken: four more are there to tell why one is invalid."""
+        offset, data = 0, b""
+        for part in self.parts:
+            data += part
+            cut = boundary_before(data, max(len(data) - 4, 0), self.encoding)
+            yield offset, data, cut
+            offset, data = offset + cut, data[cut:]
+        yield offset, data, len(data)
+
+
+@contextlib.contextmanager
+def _input(name: str, encoding: str) -> Iterator[_Input]:
+    """Opens a file. With `auto` it is read until a byte order mark would be whole."""
+    with _open(name) as file:
+        parts, front = _parts(file), b""
+        if not is_auto(encoding):
+            yield _Input(encoding, 0, parts)
+            return
+        while len(front) < BOM and (part := next(parts, b"")):
+            front += part
+        yield _Input(*bom_at(front), itertools.chain([front], parts))
 
 
 # ---- places ----
@@ -183,9 +209,10 @@ def _passed(form: int, data: bytes) -> _Place:
 
 
 class _Found(NamedTuple):
-    """The invalid bytes of a block, with their offsets in the whole input; their lines and columns, counted from the front of the block; and
-    where the block ends."""
+    """The invalid bytes of a block in an encoding, with their offsets in the whole input; their lines and columns, counted from the front of the
+    block; and where the block ends."""
 
+    form: int
     faults: Faults
     lines: array.array[int]
     columns: array.array[int]
@@ -199,7 +226,7 @@ class _Found(NamedTuple):
 
 def _found_in(form: int, data: bytes, end: int, base: int) -> _Found:
     """What is invalid in a block up to `end`; it begins at the offset `base`."""
-    found = _Found(arrays(form, data, end, base), array.array("Q"), array.array("Q"), _Place())
+    found = _Found(form, arrays(form, data, end, base), array.array("Q"), array.array("Q"), _Place())
     place, counted = _Place(), 0
     for offset in found.faults.offsets:
         place, counted = place.plus(_passed(form, data[counted : offset - base])), offset - base
@@ -217,9 +244,9 @@ def _found(name: str, encoding: str, jobs: int) -> Iterator[_Found]:
         for found in parallel.each(_found_in_shard, shards(name, parallel.SIZE, encoding), jobs, True):
             yield from found
         return
-    with _open(name) as file:
-        for offset, data, cut in _blocks(file, encoding):
-            yield _found_in(form_of(encoding), data, cut, offset)
+    with _input(name, encoding) as it:
+        for offset, data, cut in it.blocks():
+            yield _found_in(form_of(it.encoding), data, cut, offset)
 
 
 def _told(shown: bytes, offset: int, kind: int, place: _Place) -> bytes:
@@ -230,16 +257,17 @@ def _told(shown: bytes, offset: int, kind: int, place: _Place) -> bytes:
 # ---- jobs ----
 
 
-def _summary(encoding: str, count: int) -> bytes:
+def _summary(form: int, count: int) -> bytes:
     """What is said of a file at the end of its check."""
-    form = form_of(encoding)
     noun = ("byte" if form == 0 else "unit") + ("" if count == 1 else "s")
     return f"not valid {_NAMES[form]}: {count:,} invalid {noun}".encode() if count else f"valid {_NAMES[form]}".encode()
 
 
 def _check(out: _Output, name: str, asked: argparse.Namespace) -> int:
     count, front, shown = 0, _Place(), _shown(name)
+    form = 0 if is_auto(asked.encoding) else form_of(asked.encoding)
     for found in _found(name, asked.encoding, asked.jobs):
+        form = found.form
         count += len(found.faults.offsets)
         if asked.quiet and count:
             return 1
@@ -249,15 +277,15 @@ def _check(out: _Output, name: str, asked: argparse.Namespace) -> int:
         front = front.plus(found.end)
         out.flush()
     if not asked.quiet:
-        out.write(b"%s: %s\n" % (shown, _summary(asked.encoding, count)))
+        out.write(b"%s: %s\n" % (shown, _summary(form, count)))
     return 1 if count else 0
 
 
 def _pieces(out: _Output, name: str, encoding: str) -> int:
     status = 0
-    with _open(name) as file:
-        for offset, data, cut in _blocks(file, encoding):
-            for piece in taken(iter(pieces(data, encoding)), offset, cut):
+    with _input(name, encoding) as it:
+        for offset, data, cut in it.blocks():
+            for piece in taken(iter(pieces(data, it.encoding)), offset, cut):
                 if piece.error is not None:
                     status = 1
                     out.write(f"{piece.offset} {piece.length} {piece.error.name.replace('_', ' ').title().replace(' ', '')}\n".encode())
@@ -270,23 +298,25 @@ def _pieces(out: _Output, name: str, encoding: str) -> int:
 def _recode(out: _Output, name: str, asked: argparse.Namespace) -> int:
     if asked.errors == "strict":
         return _recode_strictly(out, name, asked.from_, asked.to)
-    recoder = Recoder(asked.from_, asked.to, asked.errors)
-    with _open(name) as file:
-        for part in _parts(file):
-            out.write(recoder.feed(part))
+    with _input(name, asked.from_) as it:
+        recoder, mark = Recoder(it.encoding, asked.to, asked.errors), it.mark
+        for part in it.parts:
+            out.write(recoder.feed(part[mark:]))
             out.flush()
+            mark = 0
     out.write(recoder.finish())
     return 0
 
 
 def _recode_strictly(out: _Output, name: str, from_: str, to: str) -> int:
     """Writes what is before the first invalid byte, and reports that byte as `check` does."""
-    recoder, front = Recoder(from_, to), _Place()
-    with _open(name) as file:
-        for offset, data, cut in _blocks(file, from_):
-            found = _found_in(form_of(from_), data, cut, offset)
+    front = _Place()
+    with _input(name, from_) as it:
+        recoder = Recoder(it.encoding, to)
+        for offset, data, cut in it.blocks():
+            found = _found_in(form_of(it.encoding), data, cut, offset)
             first = next(found.places(front), None)
-            out.write(recoder.feed(data[: cut if first is None else first[0] - offset]))
+            out.write(recoder.feed(data[0 if offset else it.mark : cut if first is None else first[0] - offset]))
             out.flush()
             if first is not None:
                 _tell(_told(_shown(name), *first))
@@ -301,7 +331,7 @@ def _place_of(name: str, encoding: str, offset: int) -> _Place:
     for shard in shards(name, parallel.SIZE, encoding):
         for start, data, cut in shard.blocks():
             if start < offset:
-                place = place.plus(_passed(form_of(encoding), bytes(data)[: min(cut, offset - start)]))
+                place = place.plus(_passed(form_of(shard.encoding), bytes(data)[: min(cut, offset - start)]))
     return place
 
 
