@@ -79,14 +79,25 @@ def _own_way(handler: Any, form: int) -> Optional[int]:
     return None if way == 3 and form != 0 else way
 
 
-def _decode(codec: _Codec, form: int, data: ReadableBuffer, errors: Optional[str], final: bool, before: int) -> tuple[str, bytes]:
-    """The text, and the bytes that are held, unless no more follows: what may yet become a character, and invalid bytes whose reason the
-    next bytes decide. Strictly, as Python's own decoders do, an invalid byte is reported at once, with the reason that the bytes so far
-    have. `before` is the number of bytes of all input that were read before."""
+def _decode(codec: _Codec, form: Optional[int], data: ReadableBuffer, errors: Optional[str], final: bool,
+            before: int = 0) -> tuple[str, bytes, Optional[int]]:
+    """The text; the bytes that are held, unless no more follows: what may yet become a character, and invalid bytes whose reason the
+    next bytes decide; and the encoding of what follows. Strictly, as Python's own decoders do, an invalid byte is reported at once, with the
+    reason that the bytes so far have. `before` is the number of bytes of all input that were read before. With a `form` of None the data is
+    the front of all input, and a mark may tell the encoding."""
+    mark = 0
+    if form is None:
+        form, mark = codec.front(data, final)
+        if form is None:
+            return "", bytes(data), None
     at_once = errors is None or errors == "strict"
     made: Any = _noddychest.decode(form, data, final, at_once)
-    if len(made) == 2:
-        return made[0], made[1]
+    text, held = made if len(made) == 2 else _handled(codec, form, made, errors, final, at_once, before)
+    return text[1:] if mark else text, held, form
+
+
+def _handled(codec: _Codec, form: int, made: Any, errors: Optional[str], final: bool, at_once: bool, before: int) -> tuple[str, bytes]:
+    """The text and the bytes that are held, where there is an invalid byte."""
     at, length, kind, source, end = made
     handler = codecs.lookup_error(errors or "strict")
     way = _own_way(handler, form)
@@ -99,22 +110,6 @@ def _decode(codec: _Codec, form: int, data: ReadableBuffer, errors: Optional[str
         return _noddychest.handled(form, source, at, final, at_once, before, error, handler, ERRORS, REASONS)
     finally:
         error.encoding = codec.name
-
-
-class _Place(NamedTuple):
-    """How far input was read: the encoding there, None if a mark may tell it, and the number of bytes before."""
-
-    form: Optional[int]
-    before: int = 0
-
-    def decode(self, codec: _Codec, data: ReadableBuffer, errors: Optional[str], final: bool) -> tuple[str, bytes, _Place]:
-        """The text, the bytes that are held, and the place at which these begin."""
-        form, mark = codec.front(data, final) if self.form is None else (self.form, 0)
-        if form is None:
-            return "", bytes(data), self
-        text, held = _decode(codec, form, data, errors, final, self.before)
-        read = memoryview(data).nbytes - len(held)
-        return text[1:] if mark else text, held, _Place(form, self.before + read)
 
 
 class _Held(bytes):
@@ -131,7 +126,7 @@ class _Decoder(codecs.BufferedIncrementalDecoder):
 
     def __init__(self, errors: str = "strict") -> None:
         super().__init__(errors)
-        self._place = _Place(self.codec.first)
+        self._before, self._form = 0, self.codec.first
         self._turn = _noddychest.Turn()
 
     def decode(self, input: ReadableBuffer, final: bool = False) -> str:
@@ -139,8 +134,10 @@ class _Decoder(codecs.BufferedIncrementalDecoder):
         return text
 
     def _decode_part(self, input: ReadableBuffer, final: bool) -> str:
-        text, held, place = self._place.decode(self.codec, self.buffer + input, self.errors, final)
-        self.buffer, self._place = held, place  # (both, or none if a signal handler raises)
+        data = self.buffer + input
+        text, held, form = _decode(self.codec, self._form, data, self.errors, final, self._before)
+        before = self._before + len(data) - len(held)
+        self.buffer, self._before, self._form = held, before, form  # (all, or none if a signal handler raises)
         return text
 
     def reset(self) -> None:
@@ -148,8 +145,8 @@ class _Decoder(codecs.BufferedIncrementalDecoder):
 
     def getstate(self) -> tuple[bytes, int]:
         held = _Held(self.buffer)
-        held.before = self._place.before
-        return held, next(number for number, form in self.codec.states().items() if form == self._place.form)
+        held.before = self._before
+        return held, 0 if self._form is None or self._form == self.codec.first else 1 + self._form
 
     def setstate(self, state: tuple[bytes, int]) -> None:
         if not isinstance(state[0], bytes):
@@ -160,7 +157,7 @@ class _Decoder(codecs.BufferedIncrementalDecoder):
         self._turn.take(self._set, state[0], states[state[1]])
 
     def _set(self, held: bytes, form: Optional[int]) -> None:
-        self.buffer, self._place = held, _Place(form, getattr(held, "before", 0))
+        self.buffer, self._before, self._form = held, getattr(held, "before", 0), form
 
     def __getstate__(self) -> dict[str, Any]:
         return {name: it for name, it in self.__dict__.items() if name != "_turn"}
@@ -175,16 +172,17 @@ class _Marking:
     codec: _Codec
     _is_begun = False
 
-    def _marked(self, text: str, errors: str) -> bytes:
-        made = _encode(self.codec, text, errors)[0]
-        mark = b"" if self._is_begun else self.codec.mark
-        self._is_begun = True
-        return mark + made
+    def _marked(self, text: str, errors: str) -> tuple[bytes, int]:
+        made, length = _encode(self.codec, text, errors)
+        if not self._is_begun:
+            made = self.codec.mark + made
+            self._is_begun = True
+        return made, length
 
 
 class _Encoder(_Marking, codecs.IncrementalEncoder):
     def encode(self, input: str, final: bool = False) -> bytes:
-        return self._marked(input, self.errors)
+        return self._marked(input, self.errors)[0]
 
     def reset(self) -> None:
         self._is_begun = False
@@ -199,7 +197,7 @@ class _Encoder(_Marking, codecs.IncrementalEncoder):
 
 class _Writer(_Marking, codecs.StreamWriter):
     def encode(self, input: str, errors: str = "strict") -> tuple[bytes, int]:
-        return self._marked(input, errors), len(input)
+        return self._marked(input, errors)
 
     def reset(self) -> None:
         super().reset()
@@ -208,25 +206,32 @@ class _Writer(_Marking, codecs.StreamWriter):
 
 class _Reader(codecs.StreamReader):
     codec: _Codec
-    _place: Optional[_Place] = None
+    _before = 0
+
+    def __init__(self, stream: Any, errors: str = "strict") -> None:
+        super().__init__(stream, errors)
+        self._form = self.codec.first
 
     def decode(self, input: ReadableBuffer, errors: str = "strict") -> tuple[str, int]:
-        before = self._place or _Place(self.codec.first)
-        text, _, self._place = before.decode(self.codec, input, errors, False)
-        return text, self._place.before - before.before
+        text, held, self._form = _decode(self.codec, self._form, input, errors, False, self._before)
+        read = memoryview(input).nbytes - len(held)
+        self._before += read
+        return text, read
 
     def reset(self) -> None:
         super().reset()
-        self._place = None
+        self._before, self._form = 0, self.codec.first
 
 
 def _info(it: _Codec) -> codecs.CodecInfo:
+    first, mark = it.first, it.mark
+
     def encode(input: str, errors: str = "strict") -> tuple[bytes, int]:
         made, length = _encode(it, input, errors)
-        return it.mark + made, length
+        return mark + made, length
 
     def decode(input: ReadableBuffer, errors: str = "strict") -> tuple[str, int]:
-        return _Place(it.first).decode(it, input, errors, True)[0], memoryview(input).nbytes
+        return _decode(it, first, input, errors, True)[0], memoryview(input).nbytes
 
     class IncrementalEncoder(_Encoder):
         codec = it
