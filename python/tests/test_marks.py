@@ -235,8 +235,9 @@ class Files(unittest.TestCase):
                 if not mark and encoding != encodings[0]:
                     continue
                 data = (mark + TEXT).encode(encoding)
-                text = mark[1:] + TEXT
-                file = io.TextIOWrapper(io.BytesIO(data), name, newline="")
+                newline = source.choice([None, ""])
+                text = mark[1:] + (TEXT if newline == "" else TEXT.replace("\r\n", "\n"))
+                file = io.TextIOWrapper(io.BytesIO(data), name, newline=newline)
                 file._CHUNK_SIZE = source.choice([1, 2, 3, 7, 100, 8192])
                 at, places = 0, {0: 0}
                 for _ in range(300):
@@ -439,7 +440,7 @@ class AutoInFiles(unittest.TestCase):
         return ran.returncode, ran.stdout, ran.stderr
 
     def test_program(self):
-        for data in (*(mark + it for mark in MARKS.values() for it in (b"", b"a\0b\xff", b"\0a\xdc\0\n\0\xdc")), b"", b"a", b"\xff", b"\xef\xbb"):
+        for data in (*(mark + it for mark, it in zip(MARKS.values(), (b"a\xffb\n", b"a\0b\xff", b"\0a\xdc\0\n\0\xdc"))), codecs.BOM_UTF8, b"", b"\xff"):
             encoding, mark = told(data)
             with open(self.path, "wb") as file:
                 file.write(data)

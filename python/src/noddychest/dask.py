@@ -122,7 +122,7 @@ class _Planned(NamedTuple):
 _Divided = Callable[[str, int, str], list[Shard]]
 
 
-def _planned(divided: _Divided, source: str, size: int, encoding: str) -> _Planned:
+def _planned(source: str, size: int, encoding: str, divided: _Divided) -> _Planned:
     them = divided(source, size, encoding)
     if them:
         return _Planned(them[0].stamp, them)
@@ -454,7 +454,8 @@ def _plan(client: Any, source: Sources, size: int, encoding: str, retries: int, 
     given = _given(source) if isinstance(source, (str, bytes, os.PathLike)) else _list_given(source)
     inputs, = _each(client, _inputs, [(given,)], retries)
     plan = _Plan([], dict(inputs.odd), (OSError,) if inputs.is_folder else ())
-    planned = _told_each(client, _planned, [(divided, it.source, size, encoding) for it in inputs.files], retries, None, None, plan.told)
+    # (of a tuple that begins with a function dask makes what that returns)
+    planned = _told_each(client, _planned, [(it.source, size, encoding, divided) for it in inputs.files], retries, None, None, plan.told)
     for file, it in zip(inputs.files, planned):
         if isinstance(it, OSError):
             plan.failed[file.name] = it
