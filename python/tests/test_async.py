@@ -23,6 +23,9 @@ async def everything(stream):
 
 
 class Awaited(unittest.IsolatedAsyncioTestCase):
+    async def asyncSetUp(self):
+        asyncio.get_running_loop().slow_callback_duration = 60  # (so that a busy machine prints no warnings)
+
     async def test_every_division(self):
         for data in outside.inputs(400, 7, seed=111):
             for encoding in ("utf8", "utf16le", "utf16be", "auto"):

@@ -104,6 +104,18 @@ class Decoding(unittest.TestCase):
                         opened().read()
                     self.assertEqual((raised.exception.offset, raised.exception.encoding), (expected, name))
 
+    def test_offsets_in_a_file_that_tells_and_seeks(self):
+        for name, encodings in CODECS.items():
+            for encoding in encodings:
+                before = ("\ufeff" + "größer\n" * 1000).encode(encoding)
+                file = io.TextIOWrapper(io.BytesIO(before + (b"\xff" if encoding == "utf-8" else "\udc00".encode(encoding, "surrogatepass"))), name)
+                for _ in range(2):
+                    with self.assertRaises(FaultError) as raised:
+                        while file.readline():
+                            file.tell()
+                    self.assertEqual(raised.exception.offset, len(before), name)
+                    file.seek(0)
+
     def test_a_mark_that_is_begun(self):
         """Nothing is lost at the end; and until then it is waited for."""
         for data, name in ((b"\xef\xbb", "noddychest-utf8-sig"), (b"\xff", "noddychest-utf16"), (b"\xfe", "noddychest-utf16")):
