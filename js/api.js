@@ -659,12 +659,13 @@ export function callsOf(codec) {
     // (a text is made when it is asked for: a TransformStream that fails forgets what it has given and nobody has read yet)
     function textStream(encoding = "utf-8", options) {
         const [form, way, onFault] = [formOf(encoding), wayOf(options), onFaultOf(options)];
-        let input;
+        let [input, isLeft] = [null, false];
         const { readable, writable } = new TransformStream(own({ start: (controller) => void (input = controller) }));
         const reader = readable.getReader();
         const texts = textsOf(own({ [Symbol.asyncIterator]: () => own({ next: () => reader.read() }) }), form, way);
         const give = async (controller) => {
             const { done, value } = await texts.next();
+            if (isLeft) return;
             if (done) return controller.close();
             if (onFault) for (const it of value.faults) onFault(it);
             controller.enqueue(value.text);
@@ -673,7 +674,11 @@ export function callsOf(codec) {
             input.error(error);
             throw error;
         });
-        return { readable: new ReadableStream(own({ pull, cancel: (reason) => reader.cancel(reason) }), own({ highWaterMark: 0 })), writable };
+        const cancel = (reason) => {
+            isLeft = true;
+            return reader.cancel(reason);
+        };
+        return { readable: new ReadableStream(own({ pull, cancel }), own({ highWaterMark: 0 })), writable };
     }
 
     return { Decoder, Ends, FaultError, Recoder, boundaryAfter, boundaryBefore, changedRange, charCount, decode, encodingOf, encodingOfBom, faults, firstFault, isValid, numberOf, offsetOf, pieces, piecesBack, recode, recodedLength, recoderStream, sentence, shardEnd, streamFaults, streamPieces, streamText, textStream, undecidedLength };

@@ -347,6 +347,24 @@ test("textStream tells those who write, and those who gave the bytes, of what fa
     for (const it of ["text", 5, null, undefined]) await assert.rejects(all(streamOf([it]).pipeThrough(textStream())), { name: "TypeError", message: /bytes are a Uint8Array/ });
 });
 
+test("textStream that is left while it waits: nothing more is told, and who writes learns why", { skip }, async () => {
+    const { readable, writable } = textStream("utf-8", { onFault: () => assert.fail() });
+    const [writer, reader] = [writable.getWriter(), readable.getReader()];
+    writer.closed.catch(() => {});
+    const [, first] = await Promise.all([writer.write(ofHex("61e2")), reader.read()]);
+    assert.equal(first.value, "a");
+    const waiting = reader.read();
+    await new Promise((go) => setTimeout(go));
+    await reader.cancel(new Error("enough"));
+    assert.deepEqual(await waiting, { done: true, value: undefined });
+    await assert.rejects(writer.write(ofHex("61")), { message: "enough" });
+    // (and nothing is read ahead)
+    const [ahead, done] = [textStream().writable.getWriter(), []];
+    ahead.write(ofHex("61")).then(() => done.push(1));
+    await new Promise((go) => setTimeout(go));
+    assert.deepEqual(done, []);
+});
+
 test("textStream: what it is given is looked at at once", () => {
     for (const it of [null, 5, "replace"]) assert.throws(() => textStream("utf-8", it), { name: "TypeError", message: /options are an object/ });
     for (const it of [null, 5, "call", {}]) assert.throws(() => textStream("utf-8", { onFault: it }), { name: "TypeError", message: /onFault is a function/ });
