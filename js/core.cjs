@@ -661,13 +661,23 @@ const LABELS = [
     ["utf-16be", "utf16be", "unicodefffe"],
 ];
 
-function formOf(label) {
-    if (ArrayBuffer.isView(label)) throw new TypeError('noddychest: an encoding is a string, as "utf-8", and no bytes');
-    const told = String(label);
+// A label, which may be of no encoding here: then the form is below 0.
+function labelOf(given) {
+    if (ArrayBuffer.isView(given)) throw new TypeError('noddychest: an encoding is a string, as "utf-8", and no bytes');
+    const told = String(given);
     const name = told.replace(/^[\t\n\f\r ]+|[\t\n\f\r ]+$/g, "").toLowerCase();
-    const form = LABELS.findIndex((it) => it.includes(name));
+    return { told, form: LABELS.findIndex((it) => it.includes(name)) };
+}
+
+function formOf(label) {
+    const { told, form } = labelOf(label);
     if (form < 0) throw new RangeError(`noddychest: the encoding ${told} is not one of ${FORMS.join(", ")}`);
     return form;
+}
+
+function encodingOf(label) {
+    const { form } = labelOf(label);
+    return form < 0 ? null : FORMS[form];
 }
 
 // Bytes and their form. (a label may run code, which may take the bytes away: so it is asked first)
@@ -702,6 +712,13 @@ function wayOf(options = {}) {
     if (!Object.keys(WAYS).includes(name)) throw new RangeError(`noddychest: errors is "replace", "lossy" or "strict", and not ${name}`);
     if (fatal && WAYS[name] !== STRICT) throw new TypeError(`noddychest: fatal is the same as errors: "strict", and here errors is "${name}"`);
     return WAYS[name];
+}
+
+// What options ask to call with each fault.
+function onFaultOf(options = {}) {
+    const onFault = optionOf(objectOf(options, "{ onFault: (fault) => .. }"), "onFault");
+    if (onFault === undefined || typeof onFault === "function") return onFault;
+    throw new TypeError(`noddychest: onFault is a function, and not ${onFault === null ? "null" : `a ${typeof onFault}`}`);
 }
 
 // An offset that a caller gives.
@@ -1269,8 +1286,7 @@ function callsOf(codec) {
         for await (const { bytes, end, base } of windowsOf(stream, form)) yield* faultsIn(bytes, form, { base, end });
     }
 
-    async function* streamText(stream, encoding = "utf-8", options) {
-        const [form, way] = [formOf(encoding), wayOf(options)];
+    async function* textsOf(stream, form, way) {
         for await (const { bytes, end, base } of windowsOf(stream, form)) {
             const found = [...faultsIn(bytes, form, { base, end, ...(way === STRICT ? { most: 1 } : {}) })];
             const stop = way === STRICT && found.length ? found[0].offset - base : end;
@@ -1280,7 +1296,36 @@ function callsOf(codec) {
         }
     }
 
-    return { Decoder, Ends, FaultError, Recoder, boundaryAfter, boundaryBefore, changedRange, charCount, decode, encodingOfBom, faults, firstFault, isValid, numberOf, offsetOf, pieces, piecesBack, recode, recodedLength, recoderStream, sentence, shardEnd, streamFaults, streamPieces, streamText, undecidedLength };
+    async function* streamText(stream, encoding = "utf-8", options) {
+        yield* textsOf(stream, formOf(encoding), wayOf(options));
+    }
+
+    // (a text is made when it is asked for: a TransformStream that fails forgets what it has given and nobody has read yet)
+    function textStream(encoding = "utf-8", options) {
+        const [form, way, onFault] = [formOf(encoding), wayOf(options), onFaultOf(options)];
+        let [input, isLeft] = [null, false];
+        const { readable, writable } = new TransformStream(own({ start: (controller) => void (input = controller) }));
+        const reader = readable.getReader();
+        const texts = textsOf(own({ [Symbol.asyncIterator]: () => own({ next: () => reader.read() }) }), form, way);
+        const give = async (controller) => {
+            const { done, value } = await texts.next();
+            if (isLeft) return;
+            if (done) return controller.close();
+            if (onFault) for (const it of value.faults) onFault(it);
+            controller.enqueue(value.text);
+        };
+        const pull = (controller) => give(controller).catch((error) => {
+            input.error(error);
+            throw error;
+        });
+        const cancel = (reason) => {
+            isLeft = true;
+            return reader.cancel(reason);
+        };
+        return { readable: new ReadableStream(own({ pull, cancel }), own({ highWaterMark: 0 })), writable };
+    }
+
+    return { Decoder, Ends, FaultError, Recoder, boundaryAfter, boundaryBefore, changedRange, charCount, decode, encodingOf, encodingOfBom, faults, firstFault, isValid, numberOf, offsetOf, pieces, piecesBack, recode, recodedLength, recoderStream, sentence, shardEnd, streamFaults, streamPieces, streamText, textStream, undecidedLength };
 }
 
 let calls;

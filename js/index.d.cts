@@ -149,6 +149,12 @@ export function undecidedLength(data: Bytes, encoding?: Encoding): number;
  */
 export function encodingOfBom(data: Bytes): { encoding: "utf-8" | "utf-16le" | "utf-16be"; length: 2 | 3 } | null;
 
+/**
+ * The encoding that a label of the Encoding Standard, or `"utf16le"` or `"utf16be"`, is of, as a `charset` of HTTP gives one: of `"Unicode-1-1-UTF-8"` it
+ * is `"utf-8"`, and of `"utf-16"` `"utf-16le"`. Case does not matter, nor white space around it. Null of a label of another encoding, and of what is no label. O(1).
+ */
+export function encodingOf(label: string): "utf-8" | "utf-16le" | "utf-16be" | null;
+
 export interface RecodeOptions {
     /**
      * What to do with invalid bytes. `"replace"`, the default, puts one U+FFFD, the replacement character, for each; in UTF-16 for each
@@ -269,3 +275,15 @@ export function streamFaults(parts: Parts, encoding?: Encoding): AsyncGenerator<
  * are what `decode` gives for the whole. With `strict` the text before the first invalid byte comes, and then a `FaultError` is thrown.
  */
 export function streamText(parts: Parts, encoding?: Encoding, options?: RecodeOptions): AsyncGenerator<{ offset: number; text: string; faults: Fault[] }, void, undefined>;
+
+export interface TextStreamOptions extends RecodeOptions {
+    /** Called with each invalid byte, in order, before the text that has its U+FFFD; not with `strict`. What it throws ends the stream. */
+    onFault?: ((fault: Fault) => void) | undefined;
+}
+
+/**
+ * `streamText` as a stream from bytes to strings, for `body.pipeThrough(..)`, as a `TextDecoderStream` is. A string has whole characters. A byte
+ * order mark stays in the text. With `strict` the text before the first invalid byte comes, and then the stream fails with a `FaultError`,
+ * and so do writes. It needs Node 18 or a browser.
+ */
+export function textStream(encoding?: Encoding, options?: TextStreamOptions): TransformStream<Bytes, string>;

@@ -6,7 +6,7 @@ import { createRequire } from "node:module";
 import test from "node:test";
 import vm from "node:vm";
 import { MessageChannel, Worker, receiveMessageOnPort } from "node:worker_threads";
-import { Decoder, Ends, FaultError, Recoder, boundaryAfter, boundaryBefore, changedRange, charCount, decode, encodingOfBom, faults, firstFault, isValid, numberOf, offsetOf, pieces, piecesBack, recode, recodedLength, recoderStream, streamFaults, streamPieces, streamText, undecidedLength } from "noddychest";
+import { Decoder, Ends, FaultError, Recoder, boundaryAfter, boundaryBefore, changedRange, charCount, decode, encodingOfBom, faults, firstFault, isValid, numberOf, offsetOf, pieces, piecesBack, recode, recodedLength, recoderStream, streamFaults, streamPieces, streamText, textStream, undecidedLength } from "noddychest";
 import { callsOf } from "../api.js";
 import { codecOf } from "../loading.js";
 import { chances, damaged, hexOf, ofHex } from "./help.js";
@@ -254,6 +254,15 @@ async function answers() {
             all.push(it.message);
         }
         all.push(await Promise.all(written));
+        const texts = textStream("utf-8", ...given);
+        const sent = texts.writable.getWriter();
+        const sending = [sent.write(bytes.subarray(0, 3)), sent.close()].map((it) => it.catch((error) => error.message));
+        try {
+            for await (const it of texts.readable) all.push(it);
+        } catch (it) {
+            all.push(it.message);
+        }
+        all.push(await Promise.all(sending));
         try {
             for await (const it of streamText([bytes.subarray(0, 2), bytes.subarray(2)], "utf-8", ...given)) all.push(it);
         } catch (it) {

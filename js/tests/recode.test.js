@@ -1,6 +1,6 @@
 import assert from "node:assert/strict";
 import test from "node:test";
-import { FaultError, Recoder, firstFault, isValid, pieces, recode, recoderStream } from "noddychest";
+import { FaultError, Recoder, encodingOf, firstFault, isValid, pieces, recode, recoderStream } from "noddychest";
 import { chances, damaged, hexOf, ofHex, rows } from "./help.js";
 
 const NAMES = { utf8: "utf-8", utf16le: "utf-16le", utf16be: "utf-16be" };
@@ -193,4 +193,16 @@ test("unknown encodings and strings", () => {
     assert.throws(() => new Recoder(Symbol("utf-8"), "utf-8"), told("Symbol(utf-8)"));
     assert.throws(() => recode("text", "utf-8", "utf-8"), TypeError);
     assert.throws(() => new Recoder("utf-8", "utf-8").feed("text"), TypeError);
+});
+
+test("encodingOf: of each label what TextDecoder makes of it, and null of other labels", () => {
+    const labels = ["utf-8", "utf8", "unicode-1-1-utf-8", "unicode11utf8", "unicode20utf8", "x-unicode20utf8", "utf-16le", "utf-16", "unicode", "unicodefeff", "csunicode", "iso-10646-ucs-2", "ucs-2", "utf-16be", "unicodefffe"];
+    for (const it of labels) {
+        const { encoding } = new TextDecoder(it);
+        for (const label of [it, it.toUpperCase(), ` ${it}\t\n\f\r`]) assert.equal(encodingOf(label), encoding, label);
+    }
+    assert.deepEqual(["utf16le", "UTF16BE"].map(encodingOf), ["utf-16le", "utf-16be"]);
+    for (const it of ["latin1", "ascii", "windows-1252", "utf-7", "utf-32", "gb18030", "", " ", "utf 8", "utf-8\0", "\u00a0utf-8", "auto", "__proto__", "constructor", "0", "-1"]) assert.equal(encodingOf(it), null, it);
+    for (const it of [undefined, null, 0, {}, [], Symbol("utf-8")]) assert.equal(encodingOf(it), null);
+    assert.throws(() => encodingOf(new Uint8Array(1)), TypeError);
 });

@@ -5,7 +5,7 @@ import { tmpdir } from "node:os";
 import test from "node:test";
 import vm from "node:vm";
 import { MessageChannel } from "node:worker_threads";
-import { FaultError, decode, faults, pieces, streamFaults, streamPieces, streamText } from "noddychest";
+import { FaultError, decode, faults, pieces, streamFaults, streamPieces, streamText, textStream } from "noddychest";
 import { chances, damaged, divided, hexOf, ofHex } from "./help.js";
 
 const FORMS = ["utf-8", "utf-16le", "utf-16be"];
@@ -274,4 +274,100 @@ test("offsets from 2^32 on", async () => {
         for (let i = 0; i < 2; i++) yield last;
     })())))[1];
     assert.deepEqual([offset, text], [4, "\ufffd\ufffdA\ufffdé"]);
+});
+
+test("textStream: however the input is divided, the strings and the faults are those of the whole", { skip }, async () => {
+    const chance = chances(26);
+    for (let i = 0; i < 300; i++) {
+        const [encoding, errors] = [FORMS[chance(3)], ["replace", "lossy"][chance(2)]];
+        const bytes = damaged(chance, chance(i % 100 ? 30 : 30000));
+        const [found, want] = [[], decode(bytes, encoding, { errors })];
+        const texts = await all(streamOf(divided(chance, bytes, i % 100 ? 4 : 9000)).pipeThrough(textStream(encoding, { errors, onFault: (it) => found.push(it) })));
+        assert.equal(texts.join(""), want.text, `${encoding} ${errors} ${hexOf(bytes)}`);
+        assert.deepEqual(found, want.faults);
+        assert.ok(texts.every((it) => typeof it === "string" && it.length));
+    }
+    const whole = "\ufeff né€😀";
+    const texts = await all(streamOf(Array.from(new TextEncoder().encode(whole), (it) => Uint8Array.of(it))).pipeThrough(textStream()));
+    assert.deepEqual(texts, [...whole]);
+});
+
+test("textStream gives what TextDecoderStream gives", { skip: typeof TextDecoderStream === "undefined" && "this node has no TextDecoderStream" }, async () => {
+    const chance = chances(27);
+    for (let i = 0; i < 200; i++) {
+        const [encoding, bytes] = [FORMS[chance(3)], damaged(chance, chance(40))];
+        const parts = divided(chance, bytes, 3);
+        const [ours, theirs] = [textStream(encoding, { errors: "lossy" }), new TextDecoderStream(encoding, { ignoreBOM: true })];
+        const texts = await Promise.all([ours, theirs].map((it) => all(streamOf(parts).pipeThrough(it))));
+        assert.equal(texts[0].join(""), texts[1].join(""), `${encoding} ${hexOf(bytes)}`);
+    }
+});
+
+test("textStream, strict: the text before the first invalid byte is not lost, also at the end and with a slow reader", { skip }, async () => {
+    const chance = chances(28);
+    for (let i = 0; i < 300; i++) {
+        const [encoding, bytes] = [FORMS[chance(3)], damaged(chance, chance(12))];
+        const [found] = [...faults(bytes, encoding)];
+        const { readable, writable } = textStream(encoding, { errors: "strict", onFault: () => assert.fail() });
+        const sending = streamOf(divided(chance, bytes, 3)).pipeTo(writable).then(() => null, (it) => it);
+        if (i % 2) await new Promise((go) => setTimeout(go));
+        let [text, error] = ["", null];
+        try {
+            for await (const it of readable) text += it;
+        } catch (it) {
+            error = it;
+        }
+        assert.equal(text, decode(bytes.subarray(0, found?.offset ?? bytes.length), encoding).text);
+        assert.deepEqual(error && [error.constructor, error.offset, error.error], found ? [FaultError, found.offset, found.error] : null);
+        // (what is at the end is read after all is written)
+        assert.ok([null, error].includes(await sending));
+    }
+});
+
+test("textStream tells those who write, and those who gave the bytes, of what failed", { skip }, async () => {
+    const strict = textStream("utf-8", { fatal: true });
+    const [writer, reader] = [strict.writable.getWriter(), strict.readable.getReader()];
+    writer.write(ofHex("4142ff43")).catch(() => {});
+    assert.deepEqual(await reader.read(), { done: false, value: "AB" });
+    await assert.rejects(reader.read(), (it) => it instanceof FaultError && it.offset === 2);
+    await assert.rejects(writer.write(ofHex("41")), FaultError);
+
+    const reasons = [];
+    const endless = () => new ReadableStream({ pull: (it) => it.enqueue(ofHex("41ff")), cancel: (it) => void reasons.push(it?.message) });
+    const left = endless().pipeThrough(textStream()).getReader();
+    assert.equal((await left.read()).value, "A\ufffd");
+    await left.cancel(new Error("enough"));
+    await assert.rejects(all(endless().pipeThrough(textStream("utf-8", { onFault: () => { throw new Error("no fault is allowed"); } }))), { message: "no fault is allowed" });
+    await assert.rejects(all(endless().pipeThrough(textStream("utf-8", { fatal: true }))), FaultError);
+    await new Promise((go) => setTimeout(go));
+    assert.deepEqual(reasons, ["enough", "no fault is allowed", "noddychest: invalid UTF-8 at offset 1: NonUtf8Byte"]);
+
+    const failing = new ReadableStream({ start: (it) => it.enqueue(ofHex("41")), pull: (it) => it.error(new Error("the line is cut")) });
+    await assert.rejects(all(failing.pipeThrough(textStream())), { message: "the line is cut" });
+    for (const it of ["text", 5, null, undefined]) await assert.rejects(all(streamOf([it]).pipeThrough(textStream())), { name: "TypeError", message: /bytes are a Uint8Array/ });
+});
+
+test("textStream that is left while it waits: nothing more is told, and who writes learns why", { skip }, async () => {
+    const { readable, writable } = textStream("utf-8", { onFault: () => assert.fail() });
+    const [writer, reader] = [writable.getWriter(), readable.getReader()];
+    writer.closed.catch(() => {});
+    const [, first] = await Promise.all([writer.write(ofHex("61e2")), reader.read()]);
+    assert.equal(first.value, "a");
+    const waiting = reader.read();
+    await new Promise((go) => setTimeout(go));
+    await reader.cancel(new Error("enough"));
+    assert.deepEqual(await waiting, { done: true, value: undefined });
+    await assert.rejects(writer.write(ofHex("61")), { message: "enough" });
+    // (and nothing is read ahead)
+    const [ahead, done] = [textStream().writable.getWriter(), []];
+    ahead.write(ofHex("61")).then(() => done.push(1));
+    await new Promise((go) => setTimeout(go));
+    assert.deepEqual(done, []);
+});
+
+test("textStream: what it is given is looked at at once", () => {
+    for (const it of [null, 5, "replace"]) assert.throws(() => textStream("utf-8", it), { name: "TypeError", message: /options are an object/ });
+    for (const it of [null, 5, "call", {}]) assert.throws(() => textStream("utf-8", { onFault: it }), { name: "TypeError", message: /onFault is a function/ });
+    assert.throws(() => textStream("latin1"), RangeError);
+    assert.throws(() => textStream("utf-8", { errors: "ignore" }), RangeError);
 });

@@ -1,5 +1,5 @@
 // Read only by tsc: each call as a caller with types writes it, and what has to be rejected.
-import { Decoder, Ends, FaultError, Recoder, boundaryAfter, boundaryBefore, changedRange, charCount, decode, encodingOfBom, faults, firstFault, isValid, numberOf, offsetOf, pieces, piecesBack, recode, recodedLength, recoderStream, streamFaults, streamPieces, streamText, undecidedLength } from "noddychest";
+import { Decoder, Ends, FaultError, Recoder, boundaryAfter, boundaryBefore, changedRange, charCount, decode, encodingOf, encodingOfBom, faults, firstFault, isValid, numberOf, offsetOf, pieces, piecesBack, recode, recodedLength, recoderStream, streamFaults, streamPieces, streamText, textStream, undecidedLength } from "noddychest";
 import type { Encoding, FaultKind, Fault, Piece } from "noddychest";
 import { load } from "noddychest/load";
 import type { Noddychest, Source } from "noddychest/load";
@@ -24,6 +24,8 @@ const offset: number | null = offsetOf(bytes, 3, "utf-16le");
 const changed: { start: number; end: number } = changedRange(bytes, 0, numberOf(bytes, offset ?? bytes.length));
 const mark: { encoding: Encoding; length: number } | null = encodingOfBom(bytes);
 const marked: Piece[] = [...pieces(bytes.subarray(mark?.length ?? 0, changed.start + changed.end), mark?.encoding ?? "utf-8")];
+const labelled: "utf-8" | "utf-16le" | "utf-16be" | null = encodingOf("latin1");
+const strings: ReadableStream<string> = new ReadableStream<Uint8Array>().pipeThrough(textStream(labelled ?? "utf-8", { errors: "lossy", onFault: (fault) => console.log(fault.offset) }));
 const { text, faults: wrong }: { text: string; faults: Fault[] } = decode(bytes, "utf-8", { errors: "lossy" });
 export async function read(stream: ReadableStream<Uint8Array>): Promise<string> {
     let all = text + wrong.length + numbers.join();
@@ -60,6 +62,11 @@ export async function loaded(given: Uint8Array | ArrayBuffer | WebAssembly.Modul
 load(5);
 // @ts-expect-error: an error is made of a fault
 new FaultError("text");
+// @ts-expect-error: null may be no encoding
+isValid(bytes, encodingOf("latin1"));
+// @ts-expect-error: a fault is no number
+textStream("utf-8", { onFault: (fault: number) => console.log(fault) });
+console.log(strings);
 // @ts-expect-error: a stream of strings is no bytes
 streamText(new ReadableStream<string>());
 // @ts-expect-error: no such way

@@ -209,6 +209,8 @@ typedef struct {
     PyObject *parts; /* an iterator over bytes-like objects; otherwise those of a file; NULL at the end */
     PyObject *read, *waits, *again;
     PyObject *given; /* the next part, if it is there */
+    char by_mark;    /* 1 while a byte order mark is looked for */
+    PyObject *front; /* `bytes`, at most one, of which the next one tells whether it begins a mark; or NULL */
 } Stream;
 
 static void stream_dealloc(PyObject *object) {
@@ -219,6 +221,7 @@ static void stream_dealloc(PyObject *object) {
     Py_XDECREF(self->waits);
     Py_XDECREF(self->again);
     Py_XDECREF(self->given);
+    Py_XDECREF(self->front);
     part_dealloc(object);
 }
 
@@ -245,20 +248,21 @@ static int take_parts(Stream *self, PyObject *parts) {
     return 1;
 }
 
-/* Stream(encoding, parts, asked, type, errors) */
+/* Stream(encoding, parts, asked, type, errors): an encoding of None is that of the byte order mark, or UTF-8. */
 static PyObject *stream_new(PyTypeObject *type, PyObject *args, PyObject *names) {
-    PyObject *parts, *pieces, *errors;
-    nody_encoding_t encoding;
+    PyObject *number, *parts, *pieces, *errors;
+    nody_encoding_t encoding = NODY_UTF8;
     int asked;
     Stream *self;
     (void)names;
-    if (!PyArg_ParseTuple(args, "O&OiOO:Stream", take_encoding, &encoding, &parts, &asked, &pieces, &errors))
+    if (!PyArg_ParseTuple(args, "OOiOO:Stream", &number, &parts, &asked, &pieces, &errors) || (number != Py_None && !take_encoding(number, &encoding)))
         return NULL;
     self = (Stream *)PyType_GenericAlloc(type, 0);
     if (self == NULL)
         return NULL;
     self->part.decoder = nody_decoder(encoding);
     self->each = asked == FAULTS ? FAULTS : PIECES;
+    self->by_mark = number == Py_None;
     if (!take_parts(self, parts) || !maker_begin(&self->part.maker, pieces, errors) || !make_block(&self->part, self->each, BLOCK)) {
         Py_DECREF(self);
         return NULL;
@@ -341,6 +345,52 @@ static PyObject *next_block(Stream *self) {
     return block;
 }
 
+/* The part that is given, after the bytes in front of it. */
+static PyObject *with_front(const Stream *self) {
+    size_t held = self->front != NULL ? (size_t)PyBytes_Size(self->front) : 0;
+    PyObject *whole;
+    Py_buffer view;
+    if (!take_bytes(self->given, &view))
+        return NULL;
+    whole = PyBytes_FromStringAndSize(NULL, (Py_ssize_t)held + view.len);
+    if (whole != NULL && held > 0)
+        memcpy(PyBytes_AsString(whole), PyBytes_AsString(self->front), held);
+    if (whole != NULL && view.len > 0)
+        memcpy(PyBytes_AsString(whole) + held, view.buf, (size_t)view.len);
+    PyBuffer_Release(&view);
+    return whole;
+}
+
+/* Looks for a byte order mark. Two bytes tell: a mark of UTF-8 has three, but without one it is UTF-8 too. A single byte that may begin a
+ * mark waits in front, and then no part is given. Returns 0 with an error. */
+static int look_for_mark(Stream *self) {
+    nody_encoding_t encoding = NODY_UTF8;
+    PyObject *whole = with_front(self);
+    const uint8_t *bytes;
+    size_t len;
+    if (whole == NULL)
+        return 0;
+    bytes = (const uint8_t *)PyBytes_AsString(whole), len = (size_t)PyBytes_Size(whole);
+    Py_CLEAR(self->given);
+    Py_CLEAR(self->front);
+    if (len == 0 || (len == 1 && bytes[0] >= 0xFE)) {
+        self->front = whole;
+        return 1;
+    }
+    nody_encoding_of_bom(bytes, len, &encoding);
+    self->part.decoder = nody_decoder(encoding);
+    self->by_mark = 0;
+    self->given = whole;
+    return 1;
+}
+
+/* Gets the next part, unless it is there. Returns 0 at the end, or with an error. */
+static int get_part(Stream *self) {
+    if (self->given == NULL)
+        self->given = self->read != NULL ? next_block(self) : PyIter_Next(self->parts);
+    return self->given != NULL;
+}
+
 /* Goes to the next part, or after the last one to what is held then. Returns 0 if nothing is left, or with an error. */
 static int next_part(Stream *self) {
     Part *part = &self->part;
@@ -349,15 +399,17 @@ static int next_part(Stream *self) {
     part->view.len = 0, part->read = 0;
     if (self->parts == NULL && self->read == NULL)
         return 0;
-    if (self->given == NULL)
-        self->given = self->read != NULL ? next_block(self) : PyIter_Next(self->parts);
-    if (self->given != NULL) {
-        if (!take_part(self, self->given))
+    while (get_part(self)) {
+        if (self->by_mark && !look_for_mark(self))
             return 0;
-        Py_CLEAR(self->given);
-        return 1;
+        if (self->given != NULL) {
+            if (!take_part(self, self->given))
+                return 0;
+            Py_CLEAR(self->given);
+            return 1;
+        }
     }
-    if (PyErr_Occurred())
+    if (PyErr_Occurred() || (self->front != NULL && !take_bytes(self->front, &part->view)))
         return 0;
     Py_CLEAR(self->parts);
     Py_CLEAR(self->read);

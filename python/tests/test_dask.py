@@ -131,6 +131,41 @@ class SameAsOne(OnWorkers):
         self.assertEqual(made.written, sum(map(os.path.getsize, names)))
 
 
+class ByMark(OnWorkers):
+    """The encoding `auto` is that of each file; what is converted has no mark."""
+
+    TEXT = "né 😀\n" * 30
+
+    def test_a_folder(self):
+        folder, them = os.path.join(self.folder, "folder"), {"plain": ("utf8", b""), "8": ("utf8", codecs.BOM_UTF8), "le": ("utf16le", codecs.BOM_UTF16_LE), "be": ("utf16be", codecs.BOM_UTF16_BE)}
+        os.mkdir(folder)
+        for name, (form, mark) in them.items():
+            self.write(mark + recode(self.TEXT.encode(), "utf8", form) + b"\xff", os.path.join(folder, name))
+        self.write(b"", os.path.join(folder, "empty"))
+        found, counted = (call(self.client, folder, "auto", size=50) for call in (nody_dask.check, nody_dask.count))
+        for resume in (False, True):
+            made = self.recode(folder, self.out, "auto", "utf8", size=50, resume=resume)
+            self.assertEqual((made.failed, made.replaced), ({}, 0 if resume else 4))
+        self.assertEqual(self.read(os.path.join(self.out, "empty")), b"")
+        for name, (form, mark) in them.items():
+            path = os.path.join(folder, name)
+            self.assertEqual([found[path], counted[path]], [call(self.client, path, form)[path] for call in (nody_dask.check, nody_dask.count)])
+            self.assertEqual(self.read(os.path.join(self.out, name)), self.TEXT.encode() + "\ufffd".encode())
+            # (what was made with another encoding, which keeps the mark, is not taken for this)
+            self.recode(path, self.out + "-one", form, "utf8", resume=True)
+            self.assertEqual(self.read(self.out + "-one"), "\ufeff".encode() * bool(mark) + self.TEXT.encode() + "\ufffd".encode())
+            self.recode(path, self.out + "-one", "auto", "utf8", resume=True)
+            self.assertEqual(self.read(self.out + "-one"), self.TEXT.encode() + "\ufffd".encode())
+
+    def test_parts(self):
+        self.write(codecs.BOM_UTF16_BE + self.TEXT.encode("utf-16-be"))
+        self.recode(self.path, self.out, "auto", "utf8", parts=True, size=50)
+        self.assertEqual(b"".join(map(self.read, self.parts(self.out))), self.TEXT.encode())
+
+    def test_where_it_makes_no_sense(self):
+        self.assertRaises(LookupError, self.recode, self.path, self.out, "utf8", "auto")
+
+
 class Manifests(OnWorkers):
     """A file is kept if it is of this run: the source as it is, the arguments, the version of the package. All else is made anew."""
 

@@ -317,7 +317,7 @@ class Interrupted(InFolder):
         self.write(b"abc" * 100)
         victim = os.path.join(self.folder, "victim")
         self.write(b"mine", victim)
-        name = parallel._run_name(shards(self.path, parallel.SIZE), "utf8", "replace")
+        name = parallel._run_name(shards(self.path, parallel.SIZE), "utf8", "utf8", "replace")
         os.symlink(victim, f"{self.out}.{name}.partial")
         self.assertRaises(OSError, parallel.recode, self.path, self.out, "utf8", "utf8", resume=True)
         self.assertEqual(self.read(victim), b"mine")

@@ -114,7 +114,7 @@ pub use support::alloc::AllocError;
 #[cfg(feature = "alloc")]
 pub use table::{PieceTable, TablePieces};
 #[cfg(feature = "alloc")]
-pub use text_buffer::{BufferBytes, TextBuffer};
+pub use text_buffer::{BufferBytes, BufferPieces, TextBuffer};
 
 /// Whether this CPU has what the crate needs. It needs nothing: if the CPU lacks what some code uses, other code runs.
 ///

@@ -1,5 +1,6 @@
 //! A text that is edited, in chunks.
 
+use crate::pieces::Element;
 use crate::proved::cuts;
 use crate::support::alloc::Global;
 use crate::table::{granted, piece};
@@ -174,6 +175,24 @@ impl TextBuffer {
         BufferBytes { text: self, range }
     }
 
+    /// The pieces that begin in the range, as [`pieces`](crate::pieces) gives them for all bytes. What of the range lies past the end is left
+    /// out.
+    ///
+    /// ```
+    /// let text = noddychest::TextBuffer::new("one é two".as_bytes());
+    /// let line: String = text.pieces_in(4..7).filter_map(|piece| piece.char()).collect();
+    /// assert_eq!(line, "é ");
+    /// assert_eq!(text.pieces_in(5..7).next().map(|piece| piece.offset), Some(6));
+    /// assert_eq!(text.pieces_in(0..usize::MAX).next_back().and_then(|piece| piece.char()), Some('o'));
+    /// ```
+    pub fn pieces_in(&self, range: Range<usize>) -> BufferPieces<'_> {
+        let start = match self.piece_at(range.start) {
+            Some(over) if over.offset < range.start => over.range().end,
+            _ => range.start,
+        };
+        BufferPieces { text: self, range: start..range.end.min(self.len()), part: self.inner.chunk_at(start) }
+    }
+
     /// A copy of all bytes.
     ///
     /// ```
@@ -328,3 +347,58 @@ impl<'a> Iterator for BufferBytes<'a> {
 }
 
 impl FusedIterator for BufferBytes<'_> {}
+
+/// The pieces of a range of a text. [`TextBuffer::pieces_in`] makes it.
+///
+/// ```
+/// let text = noddychest::TextBuffer::new(b"a\xFFb");
+/// assert!(text.pieces_in(1..3).rev().map(|piece| piece.char()).eq([Some('b'), None]));
+/// ```
+#[derive(Clone, Debug)]
+#[must_use = "iterators do nothing unless consumed"]
+pub struct BufferPieces<'a> {
+    text: &'a TextBuffer,
+    /// From where a piece begins, or the text ends.
+    range: Range<usize>,
+    /// The bytes from the start of the range up to the end of their chunk.
+    part: &'a [u8],
+}
+
+impl Iterator for BufferPieces<'_> {
+    type Item = Piece;
+
+    fn next(&mut self) -> Option<Piece> {
+        if self.range.is_empty() {
+            return None;
+        }
+        // Four bytes decide the piece that they begin with.
+        let piece = match self.part {
+            [_, _, _, _, ..] => u8::first_of(self.part, self.range.start),
+            _ => self.text.piece_at(self.range.start),
+        }?;
+        self.range.start += piece.len;
+        self.part = &self.part[piece.len..];
+        if self.part.is_empty() {
+            self.part = self.text.inner.chunk_at(self.range.start);
+        }
+        Some(piece)
+    }
+
+    /// A piece has at most four bytes.
+    fn size_hint(&self) -> (usize, Option<usize>) {
+        (self.range.len().div_ceil(4), Some(self.range.len()))
+    }
+}
+
+impl DoubleEndedIterator for BufferPieces<'_> {
+    fn next_back(&mut self) -> Option<Piece> {
+        if self.range.is_empty() {
+            return None;
+        }
+        let piece = self.text.piece_at(self.range.end - 1)?;
+        self.range.end = piece.offset;
+        Some(piece)
+    }
+}
+
+impl FusedIterator for BufferPieces<'_> {}

@@ -134,6 +134,65 @@ fn parts_of_a_range() {
     assert_eq!(text.bytes(usize::MAX - 1..usize::MAX).next(), None);
 }
 
+/// The pieces that begin in a range, from both ends in turn, as those of all bytes are.
+fn has_pieces_in(text: &TextBuffer, pieces: &[(usize, usize, Option<char>)], start: usize, end: usize, chance: &mut Chance) {
+    let want: Vec<_> = pieces.iter().filter(|it| (start..end).contains(&it.0)).copied().collect();
+    assert_eq!(text.pieces_in(start..end).map(shown).collect::<Vec<_>>(), want, "{start}..{end}");
+    assert!(text.pieces_in(start..end).rev().map(shown).eq(want.iter().rev().copied()), "{start}..{end}");
+    let (mut left, mut front, mut back) = (text.pieces_in(start..end), Vec::new(), Vec::new());
+    while front.len() + back.len() < want.len() {
+        let (least, most) = left.size_hint();
+        assert!((least..=most.unwrap()).contains(&(want.len() - front.len() - back.len())));
+        match chance.below(2) {
+            0 => front.extend(left.next().map(shown)),
+            _ => back.extend(left.next_back().map(shown)),
+        }
+    }
+    assert_eq!((left.next(), left.next_back(), left.next()), (None, None, None));
+    assert!(front.into_iter().chain(back.into_iter().rev()).eq(want));
+}
+
+#[test]
+fn pieces_of_a_range() {
+    let mut chance = Chance(32);
+    for round in 0..60 {
+        let mut bytes = some(&mut chance, [9, 60, 9_000][round % 3]);
+        let mut text = TextBuffer::new(&bytes);
+        for _ in 0..4 {
+            let at = chance.below(bytes.len() + 1);
+            let new = some(&mut chance, [3, 20, 2_000][round % 3]);
+            text.insert(at, &new);
+            bytes.splice(at..at, new);
+        }
+        let pieces = cut(&bytes);
+        has_pieces_in(&text, &pieces, 0, bytes.len(), &mut chance);
+        for _ in 0..20 {
+            let (start, end) = (chance.below(bytes.len() + 3), chance.below(bytes.len() + 3));
+            has_pieces_in(&text, &pieces, start, end, &mut chance);
+        }
+        for (start, end) in [(0, 0), (0, usize::MAX), (usize::MAX - 1, usize::MAX), (usize::MAX, 0)] {
+            has_pieces_in(&text, &pieces, start, end, &mut chance);
+        }
+    }
+}
+
+/// A piece at the end of a chunk is what it is in all bytes: the next chunk may have what decides its kind.
+#[test]
+fn pieces_over_the_ends_of_chunks() {
+    let mut chance = Chance(33);
+    for unit in ["😀", "\u{10FFFF}€é!"].map(str::as_bytes).into_iter().chain([
+        &b"\xF0\x9F\x98"[..],
+        b"\xE2\x82",
+        b"\xF4\x90\x80\x80",
+        b"\xED\xA0\x80",
+    ]) {
+        for front in 0..4 {
+            let bytes = [&b"abc"[..front], &unit.repeat(9_000 / unit.len())].concat();
+            has_pieces_in(&TextBuffer::new(&bytes), &cut(&bytes), 0, bytes.len(), &mut chance);
+        }
+    }
+}
+
 #[test]
 fn what_lies_past_the_end() {
     let mut text = TextBuffer::new(b"a\nb");

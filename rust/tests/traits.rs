@@ -3,8 +3,8 @@
 use noddychest::encode_unicode::{error, iterator, Utf8Char};
 use noddychest::parts::{Span, SplitAscii, SplitLines};
 use noddychest::{
-    io, units, AllocError, BufferBytes, Change, Counts, Decoder, Encoding, Fault, FaultKind, Faults, Piece, PieceTable, Pieces,
-    Progress, Recoder, Status, TablePieces, TextBuffer, UnknownEncoding,
+    io, units, AllocError, BufferBytes, BufferPieces, Change, Counts, Decoder, Encoding, Fault, FaultKind, Faults, Piece,
+    PieceTable, Pieces, Progress, Recoder, Status, TablePieces, TextBuffer, UnknownEncoding,
 };
 use std::collections::{BTreeSet, HashSet};
 use std::error::Error;
@@ -88,6 +88,7 @@ fn types_have_their_traits() {
     is_shared::<Change>();
     is_shared::<Counts>();
     is_shared::<BufferBytes<'static>>();
+    is_shared::<BufferPieces<'static>>();
     is_shared::<Span<'static>>();
     is_shared::<iterator::Utf8CharMerger<u8, std::vec::IntoIter<u8>>>();
     is_shared::<iterator::Utf16CharMerger<u16, std::vec::IntoIter<u16>>>();

@@ -17,7 +17,8 @@ Data is any bytes-like object: `bytes`, `bytearray`, `memoryview`, `array.array`
 at its size in bytes. A `str` is a TypeError, and bytes that do not lie one after another in memory are a BufferError
 (those of numpy a ValueError).
 
-Importing the package registers the codecs `noddychest-utf8`, `noddychest-utf16le` and `noddychest-utf16be`.
+Importing the package registers the codecs `noddychest-utf8`, `noddychest-utf16le`, `noddychest-utf16be` and, with a byte order mark,
+`noddychest-utf8-sig` and `noddychest-utf16`.
 """
 from ._version import __version__
 from ._parts import Decoder, stream_faults, stream_pieces

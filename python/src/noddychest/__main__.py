@@ -13,17 +13,24 @@ from types import FrameType
 from typing import NoReturn, Optional
 
 from . import _options as options
-from ._inputs import Found, Input, Place, encoding_of, found_in, passed
-from ._names import form_of
+from ._inputs import Found, Input, Place, found_in, passed
+from ._names import form_of, is_auto
 from ._outputs import Output, OutputError, complain, complain_of, is_closed_pipe, is_hidden, json_line, open_streams, shown, tell
 from ._pieces import FaultError, FaultKind, Piece, pieces
 from ._recoding import Recoder
-from ._shards import Shard, opened, place_of, shards, taken
+from ._shards import Shard, bom_at, opened, place_of, shards, taken
 
 _FRONT = 8192  # a file is binary if its first bytes contain a NUL
 _NAMES = ("UTF-8", "UTF-16LE", "UTF-16BE")  # by the numbers of the C library
 _Line = Callable[[Piece, bytes], bytes]
 _SIGNALS = ("SIGINT", "SIGTERM", "SIGHUP", "SIGQUIT", "SIGALRM", "SIGXCPU")
+
+
+def _front_of(name: str, encoding: str) -> tuple[bytes, str]:
+    """The first bytes of a file, and the encoding that is meant of it."""
+    with opened(place_of(name)) as it:
+        front = bytes(it.read(0, min(it.stamp()[0], _FRONT)))
+    return front, bom_at(front)[0] if is_auto(encoding) else encoding
 
 
 def _name_of(encoding: str) -> str:
@@ -72,7 +79,7 @@ class _Checked:
         return bool(self._asked.quiet or self._asked.names)
 
     def _begin(self, front: bytes, encoding: str, is_file: bool) -> None:
-        self._encoding, self._mark, self._is_file = encoding, encoding_of(front), is_file
+        self._encoding, self._mark, self._is_file = encoding, bom_at(front)[0], is_file
         self._look_for_nul(0, front)
 
     def _look_for_nul(self, offset: int, data: bytes) -> None:
@@ -93,9 +100,7 @@ class _Checked:
     def _found_by_jobs(self) -> Iterator[tuple[int, bytes, Found]]:
         from . import parallel
 
-        with opened(place_of(self._name)) as it:
-            front = bytes(it.read(0, min(it.stamp()[0], _FRONT)))
-        encoding = encoding_of(front) if self._asked.encoding == options.AUTO else self._asked.encoding
+        front, encoding = _front_of(self._name, self._asked.encoding)
         self._begin(front, encoding, True)
 
         def found(shard: Shard) -> list[Found]:
@@ -137,7 +142,7 @@ class _Checked:
             self._out.write(json_line(self._name, encoding=_name_of(self._encoding), **about))
         elif not asked.names and (self._count or asked.verbose):
             self._say(self._summary())
-            if self._count and self._is_file and asked.encoding != options.AUTO and form_of(self._encoding) == 0 and form_of(self._mark) != 0:
+            if self._count and self._is_file and not is_auto(asked.encoding) and form_of(self._encoding) == 0 and form_of(self._mark) != 0:
                 self._say(f"begins with the mark of {_name_of(self._mark)}: try --encoding auto")
 
     def _say(self, text: str) -> None:
@@ -208,13 +213,14 @@ def _fix(out: Output, name: str, asked: argparse.Namespace) -> int:
 
 
 def _recode(out: Output, name: str, asked: argparse.Namespace) -> int:
-    recoder, front = Recoder(asked.encoding, asked.to, "replace" if asked.errors == "strict" else asked.errors), Place()
+    front = Place()
     with Input(name, asked.encoding) as it:
         it.refuse_output()
+        recoder = Recoder(it.encoding, asked.to, "replace" if asked.errors == "strict" else asked.errors)
         for offset, data, cut in it.blocks():
             found = found_in(it.encoding, data, cut, offset, 1) if asked.errors == "strict" else None
             stop = found.faults.offsets[0] - offset if found and found.faults.offsets else cut
-            out.write(recoder.feed(memoryview(data)[:stop]))
+            out.write(recoder.feed(memoryview(data)[0 if offset else it.mark : stop]))
             out.flush()
             if found and found.faults.offsets:
                 tell(_told(shown(name), offset + stop, FaultKind(found.faults.kinds[0]), front.plus(found.places[0])))
@@ -222,7 +228,7 @@ def _recode(out: Output, name: str, asked: argparse.Namespace) -> int:
             front = front.plus(found.end) if found else front
     out.write(recoder.finish())
     out.flush()
-    _tell_replaced(name, asked.encoding, recoder.replaced, asked)
+    _tell_replaced(name, it.encoding, recoder.replaced, asked)
     return 0
 
 
@@ -234,7 +240,7 @@ def _place_of(name: str, encoding: str, offset: int) -> Place:
     for shard in shards(name, parallel.SIZE, encoding):
         for start, data, cut in shard.blocks():
             if start < offset:
-                place = place.plus(passed(form_of(encoding), bytes(data)[: min(cut, offset - start)]))
+                place = place.plus(passed(form_of(shard.encoding), bytes(data)[: min(cut, offset - start)]))
     return place
 
 
@@ -249,7 +255,7 @@ def _recode_into(name: str, asked: argparse.Namespace) -> int:
     except (OSError, ImportError, MemoryError) as error:
         complain_of(asked.output, error)
         return 3
-    _tell_replaced(name, asked.encoding, done.replaced, asked)
+    _tell_replaced(name, _front_of(name, asked.encoding)[1], done.replaced, asked)
     return 0
 
 

@@ -4,7 +4,7 @@ from __future__ import annotations
 
 import codecs
 import types
-from typing import TYPE_CHECKING, Any, Optional
+from typing import TYPE_CHECKING, Any, NamedTuple, Optional, Union
 
 from . import _noddychest
 from ._names import STANDARD, plain
@@ -13,21 +13,62 @@ from ._pieces import ERRORS, REASONS, fault_error
 if TYPE_CHECKING:
     from _typeshed import ReadableBuffer
 
-NAMES = ("noddychest-utf8", "noddychest-utf16le", "noddychest-utf16be")  # by the numbers of the C library
-_SUFFIXES = ("utf8", "utf16le", "utf16be")
-_ENCODERS = (codecs.utf_8_encode, codecs.utf_16_le_encode, codecs.utf_16_be_encode)
+_ENCODERS = (codecs.utf_8_encode, codecs.utf_16_le_encode, codecs.utf_16_be_encode)  # by the numbers of the C library
+_MARKS = (codecs.BOM_UTF8, codecs.BOM_UTF16_LE, codecs.BOM_UTF16_BE)
+
+
+class _Codec(NamedTuple):
+    """What distinguishes a codec from the others."""
+
+    name: str
+    form: int
+    """What is written; and what is read, unless a byte order mark says otherwise."""
+    marked: tuple[int, ...] = ()
+    """The encodings whose mark is looked for at the front of all input, and is no part of the text. If there are any, a mark is written too."""
+
+    @property
+    def mark(self) -> bytes:
+        return _MARKS[self.form] if self.marked else b""
+
+    @property
+    def first(self) -> Optional[int]:
+        """The encoding at the front of all input; None if a mark may tell it."""
+        return None if self.marked else self.form
+
+    def states(self) -> dict[int, Optional[int]]:
+        """The encodings that a decoder may be in, by the numbers that its state has for them: 0 is the front of all input."""
+        return {0: self.first, **{1 + form: form for form in self.marked}}
+
+    def front(self, data: ReadableBuffer, final: bool) -> tuple[Optional[int], int]:
+        """The encoding of input that begins so, and the length of its mark. If more bytes decide, the encoding is None."""
+        found = _noddychest.encoding_of_bom(data)
+        if found is not None and found[0] in self.marked:
+            return found
+        length = memoryview(data).nbytes
+        is_open = length == 0 or (length < 3 and not final and any(_MARKS[it].startswith(bytes(data)) for it in self.marked))
+        return None if is_open else self.form, 0
+
+
+CODECS = (
+    _Codec("noddychest-utf8", 0),
+    _Codec("noddychest-utf16le", 1),
+    _Codec("noddychest-utf16be", 2),
+    _Codec("noddychest-utf8-sig", 0, (0,)),
+    _Codec("noddychest-utf16", 1, (1, 2)),
+)
 
 # The interpreter's own error handlers, which are not called for each fault, since what they do is known. Another handler may be
 # registered under such a name, so they are recognised by what they are. The last is only of UTF-8.
 _OWN = {"ignore_errors": 0, "replace_errors": 1, "backslashreplace_errors": 2, "surrogateescape": 3}
 
 
-def _encode(form: int, text: str, errors: Optional[str]) -> tuple[bytes, int]:
+def _encode(codec: _Codec, text: str, errors: Optional[str]) -> tuple[bytes, int]:
+    """The bytes, without a mark, and the length of the text."""
     try:
-        return _ENCODERS[form](text, errors or "strict")
+        return _ENCODERS[codec.form](text, errors or "strict")
     except UnicodeEncodeError as error:
         if error.encoding.startswith("utf-"):
-            error.encoding = NAMES[form]
+            error.encoding = codec.name
         raise
 
 
@@ -38,26 +79,37 @@ def _own_way(handler: Any, form: int) -> Optional[int]:
     return None if way == 3 and form != 0 else way
 
 
-def _decode(form: int, data: ReadableBuffer, errors: Optional[str], final: bool, before: int = 0) -> tuple[str, bytes]:
-    """The text, and the bytes that are held, unless no more follows: what may yet become a character, and invalid bytes whose reason the
-    next bytes decide. Strictly, as Python's own decoders do, an invalid byte is reported at once, with the reason that the bytes so far
-    have. `before` is the number of bytes of all input that were read before."""
+def _decode(codec: _Codec, form: Optional[int], data: ReadableBuffer, errors: Optional[str], final: bool,
+            before: int = 0) -> tuple[str, bytes, Optional[int]]:
+    """The text; the bytes that are held, unless no more follows: what may yet become a character, and invalid bytes whose reason the
+    next bytes decide; and the encoding of what follows. Strictly, as Python's own decoders do, an invalid byte is reported at once, with the
+    reason that the bytes so far have. `before` is the number of bytes of all input that were read before. With a `form` of None the data is
+    the front of all input, and a mark may tell the encoding."""
+    mark = 0
+    if form is None:
+        form, mark = codec.front(data, final)
+        if form is None:
+            return "", bytes(data), None
     at_once = errors is None or errors == "strict"
     made: Any = _noddychest.decode(form, data, final, at_once)
-    if len(made) == 2:
-        return made[0], made[1]
+    text, held = made if len(made) == 2 else _handled(codec, form, made, errors, final, at_once, before)
+    return text[1:] if mark else text, held, form
+
+
+def _handled(codec: _Codec, form: int, made: Any, errors: Optional[str], final: bool, at_once: bool, before: int) -> tuple[str, bytes]:
+    """The text and the bytes that are held, where there is an invalid byte."""
     at, length, kind, source, end = made
     handler = codecs.lookup_error(errors or "strict")
     way = _own_way(handler, form)
     if way is not None:
         return _noddychest.replaced(form, source, at, end, way), source[end:]
-    error = fault_error(NAMES[form], source, at, length, kind, offset=before + at)
+    error = fault_error(codec.name, source, at, length, kind, offset=before + at)
     if errors == "surrogatepass":  # it knows encodings by name
         error.encoding = STANDARD[form]
     try:
         return _noddychest.handled(form, source, at, final, at_once, before, error, handler, ERRORS, REASONS)
     finally:
-        error.encoding = NAMES[form]
+        error.encoding = codec.name
 
 
 class _Held(bytes):
@@ -70,11 +122,11 @@ class _Held(bytes):
 class _Decoder(codecs.BufferedIncrementalDecoder):
     """Decodes parts. It takes one call at a time, also if an error handler calls it."""
 
-    form: int
+    codec: _Codec
 
     def __init__(self, errors: str = "strict") -> None:
         super().__init__(errors)
-        self._before = 0
+        self._before, self._form = 0, self.codec.first
         self._turn = _noddychest.Turn()
 
     def decode(self, input: ReadableBuffer, final: bool = False) -> str:
@@ -83,26 +135,29 @@ class _Decoder(codecs.BufferedIncrementalDecoder):
 
     def _decode_part(self, input: ReadableBuffer, final: bool) -> str:
         data = self.buffer + input
-        text, held = _decode(self.form, data, self.errors, final, self._before)
+        text, held, form = _decode(self.codec, self._form, data, self.errors, final, self._before)
         before = self._before + len(data) - len(held)
-        self.buffer, self._before = held, before  # (both, or none if a signal handler raises)
+        self.buffer, self._before, self._form = held, before, form  # (all, or none if a signal handler raises)
         return text
 
     def reset(self) -> None:
-        self._turn.take(self._set, b"")
+        self._turn.take(self._set, b"", self.codec.first)
 
     def getstate(self) -> tuple[bytes, int]:
         held = _Held(self.buffer)
         held.before = self._before
-        return held, 0
+        return held, 0 if self._form is None or self._form == self.codec.first else 1 + self._form
 
     def setstate(self, state: tuple[bytes, int]) -> None:
         if not isinstance(state[0], bytes):
             raise TypeError(f"the state of a decoder begins with bytes, not {type(state[0])!r}")
-        self._turn.take(self._set, state[0])
+        states = self.codec.states()
+        if state[1] not in states:
+            raise ValueError(f"no decoder of {self.codec.name} has the state {state[1]!r}")
+        self._turn.take(self._set, state[0], states[state[1]])
 
-    def _set(self, held: bytes) -> None:
-        self.buffer, self._before = held, getattr(held, "before", 0)
+    def _set(self, held: bytes, form: Optional[int]) -> None:
+        self.buffer, self._before, self._form = held, getattr(held, "before", 0), form
 
     def __getstate__(self) -> dict[str, Any]:
         return {name: it for name, it in self.__dict__.items() if name != "_turn"}
@@ -111,46 +166,89 @@ class _Decoder(codecs.BufferedIncrementalDecoder):
         self.__dict__.update(state, _turn=_noddychest.Turn())
 
 
+class _Marking:
+    """What writes a mark before the first text, if its codec has one."""
+
+    codec: _Codec
+    _is_begun = False
+
+    def _marked(self, text: str, errors: str) -> tuple[bytes, int]:
+        made, length = _encode(self.codec, text, errors)
+        if not self._is_begun:
+            made = self.codec.mark + made
+            self._is_begun = True
+        return made, length
+
+
+class _Encoder(_Marking, codecs.IncrementalEncoder):
+    def encode(self, input: str, final: bool = False) -> bytes:
+        return self._marked(input, self.errors)[0]
+
+    def reset(self) -> None:
+        self._is_begun = False
+
+    def getstate(self) -> int:
+        return int(bool(self.codec.mark) and not self._is_begun)
+
+    def setstate(self, state: Union[int, str]) -> None:
+        """0 is after the mark: io sets it if a file is appended to."""
+        self._is_begun = not state
+
+
+class _Writer(_Marking, codecs.StreamWriter):
+    def encode(self, input: str, errors: str = "strict") -> tuple[bytes, int]:
+        return self._marked(input, errors)
+
+    def reset(self) -> None:
+        super().reset()
+        self._is_begun = False
+
+
 class _Reader(codecs.StreamReader):
-    form: int
+    codec: _Codec
     _before = 0
 
+    def __init__(self, stream: Any, errors: str = "strict") -> None:
+        super().__init__(stream, errors)
+        self._form = self.codec.first
+
     def decode(self, input: ReadableBuffer, errors: str = "strict") -> tuple[str, int]:
-        text, held = _decode(self.form, input, errors, False, self._before)
+        text, held, self._form = _decode(self.codec, self._form, input, errors, False, self._before)
         read = memoryview(input).nbytes - len(held)
         self._before += read
         return text, read
 
     def reset(self) -> None:
         super().reset()
-        self._before = 0
+        self._before, self._form = 0, self.codec.first
 
 
-def _codec(number: int) -> codecs.CodecInfo:
+def _info(it: _Codec) -> codecs.CodecInfo:
+    first, mark = it.first, it.mark
+
     def encode(input: str, errors: str = "strict") -> tuple[bytes, int]:
-        return _encode(number, input, errors)
+        made, length = _encode(it, input, errors)
+        return mark + made, length
 
     def decode(input: ReadableBuffer, errors: str = "strict") -> tuple[str, int]:
-        return _decode(number, input, errors, True)[0], memoryview(input).nbytes
+        return _decode(it, first, input, errors, True)[0], memoryview(input).nbytes
 
-    class IncrementalEncoder(codecs.IncrementalEncoder):
-        def encode(self, input: str, final: bool = False) -> bytes:
-            return _encode(number, input, self.errors)[0]
+    class IncrementalEncoder(_Encoder):
+        codec = it
 
     class IncrementalDecoder(_Decoder):
-        form = number
+        codec = it
 
-    class StreamWriter(codecs.StreamWriter):
-        def encode(self, input: str, errors: str = "strict") -> tuple[bytes, int]:
-            return _encode(number, input, errors)
+    class StreamWriter(_Writer):
+        codec = it
 
     class StreamReader(_Reader):
-        form = number
+        codec = it
 
     named: tuple[Any, ...] = (encode, decode, IncrementalEncoder, IncrementalDecoder, StreamWriter, StreamReader)
-    for it in named:
-        it.__name__ = it.__qualname__ = f"{it.__name__}_{_SUFFIXES[number]}"
-        globals()[it.__name__] = it  # (so that pickle finds it)
+    for one in named:
+        one.__name__ = one.__qualname__ = f"{one.__name__}_{plain(it.name.partition('-')[2])}"
+        globals()[one.__name__] = one  # (so that pickle finds it)
     return codecs.CodecInfo(
         encode=encode,
         decode=decode,
@@ -158,19 +256,19 @@ def _codec(number: int) -> codecs.CodecInfo:
         incrementaldecoder=IncrementalDecoder,
         streamwriter=StreamWriter,
         streamreader=StreamReader,
-        name=NAMES[number],
+        name=it.name,
     )
+
+
+_INFOS = tuple(map(_info, CODECS))
 
 
 def _find(name: str) -> Optional[codecs.CodecInfo]:
     """Names are also found with other signs between their words, as `noddychest-utf-8` and `noddychest_utf_16_le`."""
-    for codec in _CODECS:
-        if plain(name) == plain(codec.name):
-            return codec
+    for info in _INFOS:
+        if plain(name) == plain(info.name):
+            return info
     return None
-
-
-_CODECS = tuple(map(_codec, range(len(NAMES))))
 
 
 def register() -> None:

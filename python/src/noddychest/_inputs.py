@@ -9,13 +9,11 @@ from collections.abc import Iterator
 from typing import NamedTuple
 
 from . import _noddychest
-from ._names import STANDARD, form_of
-from ._options import AUTO
+from ._names import STANDARD, form_of, is_auto
 from ._outputs import wait_for
-from ._pieces import boundary_before, encoding_of_bom
-from ._shards import BLOCK, Faults, arrays
+from ._pieces import boundary_before
+from ._shards import BLOCK, BOM, Faults, arrays, bom_at
 
-_LONGEST_BOM = 3
 _FLAGS = os.O_RDONLY | getattr(os, "O_CLOEXEC", 0) | getattr(os, "O_NOCTTY", 0) | getattr(os, "O_BINARY", 0)
 _AHEAD = 4  # the bytes after a block that tell why its last bytes are invalid
 _LINE_FEEDS = ("\n".encode(), "\n".encode("utf-16-le"), "\n".encode("utf-16-be"))
@@ -29,8 +27,8 @@ class InputError(OSError):
 
 
 class Input:
-    """An input, which is read once, in blocks. `about` is what it was when it was opened. One that is to be replaced has to be a file, and no
-    pipe is waited for."""
+    """An input, which is read once, in blocks. `about` is what it was when it was opened, and `mark` the length of the byte order mark, if that was
+    asked for. One that is to be replaced has to be a file, and no pipe is waited for."""
 
     def __init__(self, name: str, encoding: str, *, is_replaced: bool = False) -> None:
         self.name, self._front, self._has_ended = name, b"", False
@@ -40,7 +38,7 @@ class Input:
             if is_replaced and not self.is_file:
                 raise InputError(name, "it is a folder" if stat.S_ISDIR(self.about.st_mode) else "it is no regular file")
             self._origin = os.lseek(self.file, 0, os.SEEK_CUR) if self.is_file else 0  # (of standard input)
-            self.encoding = self._encoding_by_bom() if encoding == AUTO else STANDARD[form_of(encoding)]
+            self.encoding, self.mark = self._by_bom() if is_auto(encoding) else (STANDARD[form_of(encoding)], 0)
         except BaseException:
             self.close()
             raise
@@ -90,10 +88,10 @@ class Input:
         if self.is_file and os.fstat(self.file).st_size < self.about.st_size:
             raise InputError(self.name, "it became shorter while it was read")
 
-    def _encoding_by_bom(self) -> str:
-        while len(self._front) < _LONGEST_BOM and (part := self._read()):
+    def _by_bom(self) -> tuple[str, int]:
+        while len(self._front) < BOM and (part := self._read()):
             self._front += part
-        return encoding_of(self._front)
+        return bom_at(self._front)
 
     def _next(self) -> bytes:
         front, self._front = self._front, b""
@@ -109,12 +107,6 @@ class Input:
             except BlockingIOError:
                 wait_for(self.file, select.POLLIN)
         return b""
-
-
-def encoding_of(front: bytes) -> str:
-    """The encoding of the byte order mark, or UTF-8."""
-    mark = encoding_of_bom(front)
-    return STANDARD[0] if mark is None else mark[0]
 
 
 # ---- places ----

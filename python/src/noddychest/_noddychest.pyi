@@ -66,7 +66,7 @@ class Part(Iterator[Piece]):
 
 class Stream(Iterator[Piece]):
     def __new__(
-        cls, encoding: int, parts: Union[Iterable[ReadableBuffer], _File], asked: int, type: type[Piece], errors: _Errors, /
+        cls, encoding: Optional[int], parts: Union[Iterable[ReadableBuffer], _File], asked: int, type: type[Piece], errors: _Errors, /
     ) -> Stream: ...
     def __next__(self) -> Piece: ...
 

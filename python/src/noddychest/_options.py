@@ -6,11 +6,10 @@ import re
 from collections.abc import Callable, Sequence
 from typing import Any, NamedTuple, Optional, Union
 
-from ._names import form_of
+from ._names import AUTO, form_of
 from ._version import __version__
 
 _ALL = ("check", "fix", "list", "recode", "pieces")
-AUTO = "auto"
 VERSION = f"noddychest {__version__}"
 _MOST_SHOWN = 20
 
@@ -38,9 +37,7 @@ COMMANDS = {
 
 def _encoding(label: str, command: str) -> str:
     """The label of an encoding, or AUTO: that of the byte order mark."""
-    if label in (AUTO, "bom") and command in ("check", "fix", "list"):
-        return AUTO
-    return _encoding_made(label, command)
+    return AUTO if label in (AUTO, "bom") else _encoding_made(label, command)
 
 
 def _encoding_made(label: str, command: str) -> str:
@@ -99,7 +96,7 @@ class _Option(NamedTuple):
 
 
 _OPTIONS = (
-    _Option(("--encoding", "--from"), _ALL, "the encoding of the input: utf-8 (default), utf-16le, utf-16be, or (check, fix, list) auto: by its byte order mark",
+    _Option(("--encoding", "--from"), _ALL, "the encoding of the input: utf-8 (default), utf-16le, utf-16be, or auto: by its byte order mark",
             "ENCODING", _encoding, "utf8"),
     _Option(("--to",), ("recode",), "the encoding of the output; utf-8 by default", "ENCODING", _encoding_made, "utf8"),
     _Option(("--errors",), ("recode", "fix"), "what becomes of invalid bytes. replace: one U+FFFD for each (default); lossy: one for each maximal subpart, as browsers do; "

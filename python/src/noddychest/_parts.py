@@ -5,17 +5,18 @@ import functools
 import io
 import operator
 import os
-from collections.abc import Callable, Iterable, Iterator
-from typing import TYPE_CHECKING, Any, Optional, Protocol, TypeVar, Union
+from collections.abc import AsyncIterable, AsyncIterator, Awaitable, Callable, Iterable, Iterator
+from typing import TYPE_CHECKING, Any, Optional, Protocol, TypeVar, Union, overload
 
 from . import _noddychest
-from ._names import STANDARD, form_of
+from ._names import STANDARD, form_of, form_or_auto
 from ._pieces import ERRORS, Piece
 
 if TYPE_CHECKING:
     from _typeshed import ReadableBuffer
 
 _PIECES, _FAULTS, _LAST = 1, 2, 3  # what a part is asked for, by the numbers of the extension
+_READ_AT_ONCE = 1 << 16  # the bytes that an asynchronous source is asked for
 _Made = TypeVar("_Made")
 
 
@@ -144,6 +145,7 @@ class _Readable(Protocol):
 
 
 Parts = Union["Iterable[ReadableBuffer]", _Readable]
+AsyncParts = AsyncIterable["ReadableBuffer"]
 
 
 def waits(file: Any) -> bool:
@@ -167,34 +169,116 @@ def _readers(file: Any) -> Optional[_noddychest._File]:
     return read1, functools.partial(waits, file), read
 
 
-def _stream(asked: int, parts: Parts, encoding: str) -> Iterator[Piece]:
-    form = form_of(encoding)
-    each: Any = _readers(parts) or iter(parts)  # type: ignore[arg-type]
-    return _noddychest.Stream(form, each, asked, Piece, ERRORS)
+class _NoPart(Exception):
+    """No part is there yet."""
 
 
-def stream_pieces(parts: Parts, encoding: str = "utf8") -> Iterator[Piece]:
+class _Arrived:
+    """The parts of a Stream, of which the next one is put here when it has arrived."""
+
+    def __init__(self) -> None:
+        self.parts: list[ReadableBuffer] = []
+        self.is_over = False
+
+    def __iter__(self) -> _Arrived:
+        return self
+
+    def __next__(self) -> ReadableBuffer:
+        if self.parts:
+            return self.parts.pop()
+        raise StopIteration if self.is_over else _NoPart
+
+
+def _arrivals(parts: Any) -> Callable[[], Awaitable[ReadableBuffer]]:
+    """What gives the next part of an asynchronous source, as its `__anext__` does. A reader of asyncio gives lines there, and loses one that
+    is longer than its limit: so what has a `read` that is awaited is asked for blocks."""
+    read: Any = getattr(parts, "read", None)
+    import inspect  # (it takes longer to import than all of this package)
+
+    if not inspect.iscoroutinefunction(read):
+        next_part: Callable[[], Awaitable[ReadableBuffer]] = parts.__aiter__().__anext__
+        return next_part
+
+    async def next_block() -> ReadableBuffer:
+        block: ReadableBuffer = await read(_READ_AT_ONCE)
+        if isinstance(block, (bytes, bytearray)) and not block:
+            raise StopAsyncIteration
+        return block
+
+    return next_block
+
+
+class _AsyncStream(AsyncIterator[Piece]):
+    """A Stream whose parts are awaited."""
+
+    def __init__(self, make: Callable[[Any], Iterator[Piece]], parts: AsyncParts) -> None:
+        self._arrived = _Arrived()
+        self._pieces, self._next_part, self._is_waiting = make(self._arrived), _arrivals(parts), False
+
+    async def __anext__(self) -> Piece:
+        if self._is_waiting:
+            raise RuntimeError("this iterator is in use by another task: give each task its own")
+        while True:
+            try:
+                return next(self._pieces)
+            except StopIteration:
+                raise StopAsyncIteration from None
+            except _NoPart:
+                pass
+            self._is_waiting = True
+            try:
+                self._arrived.parts.append(await self._next_part())
+            except StopAsyncIteration:
+                self._arrived.is_over = True
+            finally:
+                self._is_waiting = False
+
+
+def _stream(asked: int, parts: Any, encoding: str) -> Any:
+    form = form_or_auto(encoding)
+
+    def made(each: Any) -> Iterator[Piece]:
+        return _noddychest.Stream(form, each, asked, Piece, ERRORS)
+
+    if hasattr(parts, "__aiter__") and not hasattr(parts, "__iter__"):
+        return _AsyncStream(made, parts)
+    return made(_readers(parts) or iter(parts))
+
+
+@overload
+def stream_pieces(parts: Parts, encoding: str = "utf8") -> Iterator[Piece]: ...
+@overload
+def stream_pieces(parts: AsyncParts, encoding: str = "utf8") -> AsyncIterator[Piece]: ...
+def stream_pieces(parts: Union[Parts, AsyncParts], encoding: str = "utf8") -> Union[Iterator[Piece], AsyncIterator[Piece]]:
     """The pieces of input in parts, from the first to the last: what a Decoder gives for all of them.
 
-    parts: a binary file, which is read in blocks of 64 KiB or of what there is, or otherwise any iterable of bytes-like objects.
+    parts: a binary file, which is read in blocks of 64 KiB or of what there is, or otherwise any iterable of bytes-like objects. Of an
+    asynchronous iterable, as a reader of asyncio, the result is an asynchronous iterator. encoding: also `auto`, which is that of the byte
+    order mark, or UTF-8 if there is none; a mark stays, as U+FEFF.
     Errors: LookupError for an unknown encoding, TypeError for what is no such thing, and what the file or the iterable raises.
     BlockingIOError if a file that does not wait has no data now: one whose `read` returns None, as a pipe or a socket after
-    `os.set_blocking(fd, False)`. RuntimeError for a step that is asked for while another one goes on, by another thread or by the file
-    itself. None of these ends the pieces, and no byte is lost: the next step asks again. A part that is no bytes-like object stays the
-    next one, and each step raises TypeError.
+    `os.set_blocking(fd, False)`. RuntimeError for a step that is asked for while another one goes on, by another thread or task, or by the
+    file itself. None of these ends the pieces, and no byte is lost: the next step asks again; so it does after a step that was cancelled.
+    A part that is no bytes-like object stays the next one, and each step raises TypeError.
     Cost: one part is in memory at a time, and a piece is made when it is asked for.
 
     >>> [(piece.offset, piece.char) for piece in stream_pieces([b"n\\xc3", b"\\xa9!"])]
     [(0, 'n'), (1, 'é'), (3, '!')]
     """
-    return _stream(_PIECES, parts, encoding)
+    it: Union[Iterator[Piece], AsyncIterator[Piece]] = _stream(_PIECES, parts, encoding)
+    return it
 
 
-def stream_faults(parts: Parts, encoding: str = "utf8") -> Iterator[Piece]:
+@overload
+def stream_faults(parts: Parts, encoding: str = "utf8") -> Iterator[Piece]: ...
+@overload
+def stream_faults(parts: AsyncParts, encoding: str = "utf8") -> AsyncIterator[Piece]: ...
+def stream_faults(parts: Union[Parts, AsyncParts], encoding: str = "utf8") -> Union[Iterator[Piece], AsyncIterator[Piece]]:
     """Only the invalid bytes, of input in parts; otherwise as `stream_pieces`. Valid text is skipped as fast as it is validated.
 
     >>> import io
     >>> [(piece.offset, piece.error.name) for piece in stream_faults(io.BytesIO(b"ab\\xff"))]
     [(2, 'NON_UTF8_BYTE')]
     """
-    return _stream(_FAULTS, parts, encoding)
+    it: Union[Iterator[Piece], AsyncIterator[Piece]] = _stream(_FAULTS, parts, encoding)
+    return it

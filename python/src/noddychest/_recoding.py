@@ -4,7 +4,7 @@ from __future__ import annotations
 from typing import TYPE_CHECKING, Any, Union
 
 from . import _noddychest
-from ._names import STANDARD, form_of
+from ._names import STANDARD, form_of, form_or_auto
 from ._parts import attributes_for
 from ._pieces import fault_error, shard_of
 
@@ -21,6 +21,11 @@ def _way(errors: str) -> int:
     if found is None:
         raise LookupError(f"unknown errors: {errors!r}; there are 'replace', 'strict' and 'lossy'")
     return found
+
+
+def check_names(from_: str, to: str, errors: str) -> None:
+    """Raises LookupError for a name of no encoding, or of no way with errors. The input may be in `auto`."""
+    form_or_auto(from_), form_of(to), _way(errors)
 
 
 def _shard_in(data: object, from_: str) -> Shard:

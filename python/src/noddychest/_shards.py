@@ -12,8 +12,8 @@ from collections.abc import Callable, Iterator
 from typing import TYPE_CHECKING, Any, NamedTuple, Optional, Protocol, Union
 
 from . import _noddychest
-from ._names import STANDARD, form_of
-from ._pieces import FaultKind, Piece, fault_error
+from ._names import STANDARD, form_of, form_or_auto, is_auto
+from ._pieces import FaultKind, Piece, encoding_of_bom, fault_error
 from ._pieces import faults as _faults
 
 if TYPE_CHECKING:
@@ -23,6 +23,7 @@ if TYPE_CHECKING:
     Source = Union[Path, ReadableBuffer]
 
 BLOCK = 1 << 20
+BOM = 3  # the bytes of a byte order mark, at most
 _AHEAD = 3  # the bytes after a shard that decide where it ends, and why its last bytes are invalid
 _LONGEST_PATH = 4096  # bytes, on Linux
 
@@ -360,12 +361,17 @@ def _cut(data: ReadableBuffer, at: int, form: int) -> int:
     return _noddychest.shard_end(form, data, at)
 
 
+def bom_at(front: ReadableBuffer) -> tuple[str, int]:
+    """The encoding that `auto` is of a source that begins so, and the length of its byte order mark. The first `BOM` bytes are enough."""
+    return encoding_of_bom(front) or (STANDARD[0], 0)
+
+
 def shards(source: Source, size: int, encoding: str = "utf8") -> list[Shard]:
     """Divides a large text into shards that can be read and converted separately, in any order, by many threads, processes or machines.
 
     source: a path, as for open(): a `str`, `bytes` or a PathLike; a URL, a `str` with `://`, which fsspec opens; or text in memory, any
     other bytes-like object, which is not copied: of a `bytes` its memoryview. size: about how many bytes each shard has, at least 1.
-    encoding: the encoding of the source.
+    encoding: the encoding of the source, or `auto`: that of the byte order mark, or UTF-8 if there is none.
     Result: the shards in order; together they are the whole source. An empty source has none. A shard ends at most three bytes before a
     multiple of `size`, where no character lies over it, and no row of invalid bytes that `lossy` makes one U+FFFD.
     Errors: ValueError for a size below 1, and for `bytes` that can be no path; OSError if the source is no regular file or cannot be read, ImportError for a URL without fsspec.
@@ -377,13 +383,16 @@ def shards(source: Source, size: int, encoding: str = "utf8") -> list[Shard]:
     >>> b"".join(it.recode("utf16be") for it in shards(text, 2)) == "aé€".encode("utf-16-be")
     True
     """
-    form = form_of(encoding)
+    form_or_auto(encoding)
     if size < 1:
         raise ValueError("a shard has to have at least 1 byte")
     place, ends = place_of(source), [0]
     with opened(place) as it:
         stamp = it.stamp()
         total = stamp[0]
+        if is_auto(encoding):
+            encoding = bom_at(it.read(0, min(BOM, total)))[0]
+        form = form_of(encoding)
         for at in range(size, total, size):
             end = at - at % 2 if form else at
             front = max(end - 4, 0)
@@ -393,3 +402,14 @@ def shards(source: Source, size: int, encoding: str = "utf8") -> list[Shard]:
                 ends.append(end)
     ends += [total] if total > 0 else []
     return [Shard(place, start, end, encoding, stamp) for start, end in zip(ends, ends[1:])]
+
+
+def shards_to_recode(source: Source, size: int, encoding: str) -> list[Shard]:
+    """The shards that are converted: with `auto` without the byte order mark, which `nody recode` leaves out too."""
+    them = shards(source, size, encoding)
+    if not them or not is_auto(encoding):
+        return them
+    first = them[0]
+    with opened(first.source) as it:
+        mark = bom_at(it.read(0, min(BOM, first.stamp[0])))[1]
+    return [first._replace(start=mark), *them[1:]]

@@ -25,10 +25,10 @@ import stat
 from collections.abc import Callable, Iterator, Sequence
 from typing import TYPE_CHECKING, Any, NamedTuple, Optional, TypeVar, Union
 
-from ._names import form_of
+from ._names import form_of, form_or_auto
 from ._pieces import FaultError
-from ._recoding import Recoder
-from ._shards import ChangedError, Counts, Faults, Recoded, Shard, no_faults, opened, path_of, place_of, shards
+from ._recoding import check_names
+from ._shards import ChangedError, Counts, Faults, Recoded, Shard, no_faults, opened, path_of, place_of, shards, shards_to_recode
 from ._version import __version__
 from .parallel import Bar, look_again, recoded_size, sync_folder, write_at
 
@@ -119,8 +119,11 @@ class _Planned(NamedTuple):
     shards: list[Shard]
 
 
-def _planned(source: str, size: int, encoding: str) -> _Planned:
-    them = shards(source, size, encoding)
+_Divided = Callable[[str, int, str], list[Shard]]
+
+
+def _planned(source: str, size: int, encoding: str, divided: _Divided) -> _Planned:
+    them = divided(source, size, encoding)
     if them:
         return _Planned(them[0].stamp, them)
     with opened(source) as it:
@@ -206,7 +209,7 @@ class _Run(NamedTuple):
 
     source: str
     stamp: _Stamp
-    from_: int
+    from_: Optional[int]
     to: int
     errors: str
     size: int
@@ -446,12 +449,13 @@ def _list_given(source: Sequence[Path]) -> list[_Input]:
     return them
 
 
-def _plan(client: Any, source: Sources, size: int, encoding: str, retries: int) -> _Plan:
+def _plan(client: Any, source: Sources, size: int, encoding: str, retries: int, divided: _Divided) -> _Plan:
     """The shards of each file. Workers look for them, so the client need not see the files."""
     given = _given(source) if isinstance(source, (str, bytes, os.PathLike)) else _list_given(source)
     inputs, = _each(client, _inputs, [(given,)], retries)
     plan = _Plan([], dict(inputs.odd), (OSError,) if inputs.is_folder else ())
-    planned = _told_each(client, _planned, [(it.source, size, encoding) for it in inputs.files], retries, None, None, plan.told)
+    # (of a tuple that begins with a function dask makes what that returns)
+    planned = _told_each(client, _planned, [(it.source, size, encoding, divided) for it in inputs.files], retries, None, None, plan.told)
     for file, it in zip(inputs.files, planned):
         if isinstance(it, OSError):
             plan.failed[file.name] = it
@@ -462,7 +466,7 @@ def _plan(client: Any, source: Sources, size: int, encoding: str, retries: int) 
 
 def _over_all(client: Any, function: Callable[[Shard], _Answer], source: Sources, encoding: str, progress: Progress, size: int,
               retries: int) -> dict[str, Union[list[_Answer], OSError]]:
-    plan = _plan(client, source, size, encoding, retries)
+    plan = _plan(client, source, size, encoding, retries, shards)
     them = [it for file in plan.files for it in file.shards]
     sizes = [it.end - it.start for it in them]
     answers = iter(_told_each(client, function, [(it,) for it in them], retries, Bar(progress, sum(sizes)), sizes, plan.told))
@@ -487,7 +491,8 @@ def check(client: Any, source: Sources, encoding: str = "utf8", progress: Progre
     """All invalid bytes of large texts, by the workers of a distributed.Client.
 
     client: the client. source: a path that all workers can read, or a URL that fsspec opens; a folder, with all files in it; or a list of
-    paths and URLs. A path is as for open(): a `str`, `bytes` or a PathLike. progress: as for noddychest.parallel.check. size: about how many
+    paths and URLs. A path is as for open(): a `str`, `bytes` or a PathLike. encoding: as for noddychest.parallel.check; with `auto` it is
+    that of each file. progress: as for noddychest.parallel.check. size: about how many
     bytes a task reads. retries: how often a task is tried again that fails, as where a file cannot be read; one whose worker is lost is
     given to another in any case.
     Result: for each file its faults as arrays; they cross the network as bytes, 10 for each. What of a folder cannot be read has its OSError
@@ -526,7 +531,7 @@ def recode(client: Any, source: Sources, out: Path, from_: str, to: str, progres
            parts: bool = False, resume: bool = False, size: int = SIZE, retries: int = 3) -> RecodedFiles:
     """Transcodes large texts, by the workers of a distributed.Client.
 
-    client, source, progress, size, retries: as for `check`. from_, to, errors: as for noddychest.recode.
+    client, source, progress, size, retries: as for `check`. from_, to, errors: as for noddychest.parallel.recode.
     out: a path that all workers can write. For one file it is a file: first the lengths are found, and then each shard is written to its
     place. For a folder or a list it is a folder, with a file of the same name for each. With `parts` it is a folder for one file: each
     shard becomes a file `part-00000`, and so on, which joined in order are the text; then the source is read once, and not twice. Other
@@ -541,9 +546,9 @@ def recode(client: Any, source: Sources, out: Path, from_: str, to: str, progres
     OSError if the disk is full, before anything is written (not with `parts`). ChangedError if another run writes other parts into the folder.
     Cost: a worker has some blocks of 1 MB for each task.
     """
-    Recoder(from_, to, errors)
+    check_names(from_, to, errors)
     target = _whole(path_of(out))
-    plan = _plan(client, source, size, from_, retries)
+    plan = _plan(client, source, size, from_, retries, shards_to_recode)
     job = _Job(client, from_, to, errors, progress, resume, retries)
     return job.make_parts(plan, target, size) if parts else job.make_files(plan, target)
 
@@ -585,7 +590,7 @@ class _Job(NamedTuple):
         return _each(self.client, function, rows, self.retries)
 
     def run_of(self, file: _File, size: int = 0) -> _Run:
-        return _Run(file.input.source, file.stamp, form_of(self.from_), form_of(self.to), self.errors, size, __version__)
+        return _Run(file.input.source, file.stamp, form_or_auto(self.from_), form_of(self.to), self.errors, size, __version__)
 
     # ---- one file, as parts ----
 

@@ -25,10 +25,10 @@ from collections.abc import Callable, Iterable, Iterator
 from concurrent.futures import ThreadPoolExecutor
 from typing import TYPE_CHECKING, NamedTuple, Optional, TypeVar, Union
 
-from ._names import form_of
+from ._names import form_of, form_or_auto
 from ._pieces import boundary_before
-from ._recoding import Recoder
-from ._shards import BLOCK, ChangedError, Counts, Faults, Recoded, Shard, no_faults, opened, path_of, place_of, shards
+from ._recoding import check_names
+from ._shards import BLOCK, ChangedError, Counts, Faults, Recoded, Shard, no_faults, opened, path_of, place_of, shards, shards_to_recode
 from ._version import __version__
 
 if TYPE_CHECKING:
@@ -117,7 +117,8 @@ def check(source: Source, encoding: str = "utf8", jobs: Optional[int] = None, pr
     """All invalid bytes of a large text, in several threads.
 
     source: a path, as for open(): a `str`, `bytes` or a PathLike; a URL, a `str` with `://`, that fsspec opens; or text in memory, any other
-    bytes-like object: of a `bytes` its memoryview. jobs: how many threads; by default one for each CPU.
+    bytes-like object: of a `bytes` its memoryview. encoding: that of the source, or `auto`: that of its byte order mark, or UTF-8 if there is
+    none; the mark counts as a character. jobs: how many threads; by default one for each CPU.
     progress: whether to show a line on standard error, if that is a terminal, after a second; or a function that is called with the number
     of bytes that are done, and of all.
     Result: the offsets, the lengths and the kinds, as arrays: those of `faults_array` of the whole.
@@ -275,7 +276,8 @@ def recode(source: Source, out: Path, from_: str, to: str, jobs: Optional[int] =
            *, errors: str = "replace", resume: bool = False) -> Recoded:
     """Transcodes a large text into a file, in several threads. The file has the bytes of `recode` of the whole.
 
-    source, jobs, progress: as for `check`. out: the file, which may be the source itself. from_, to, errors: as for `noddychest.recode`.
+    source, jobs, progress: as for `check`. out: the file, which may be the source itself. from_, to, errors: as for `noddychest.recode`. from_
+    may be `auto` too; then the mark that tells it is left out.
     resume: whether a run that was interrupted goes on. What such a run has written stands in `OUT.….partial` beside the file; the name
     tells the source with its time of change, the arguments and the version of this package, so that only the same run finds it. By its length those shards are found
     that need not be converted again; they are read to know their lengths. After a crash of the machine begin anew.
@@ -286,19 +288,19 @@ def recode(source: Source, out: Path, from_: str, to: str, jobs: Optional[int] =
     Errors: as for `check`. With `strict` FaultError, with the offset of the first invalid byte of all. OSError if the disk is full.
     BlockingIOError if another run with `resume` writes the same. Cost: each job has 1 MB, and the output of three times as many.
     """
-    Recoder(from_, to, errors)  # (unknown names are found before anything is written)
+    check_names(from_, to, errors)  # (before anything is written)
     jobs = _some_jobs(jobs)
-    them = shards(source, _size(source), from_)
+    them = shards_to_recode(source, _size(source), from_)
     if resume and not isinstance(source, (str, bytes, os.PathLike)):
         raise ValueError("resume is for a path or a URL")
     target = os.path.realpath(path_of(out))
     if os.path.exists(target) and not os.path.isfile(target):
         raise OSError(f"{target} is no file that can be replaced")
-    with partial(target, _run_name(them, to, errors) if resume else None, lambda: look_again(place_of(source), stamp_of(them))) as file:
+    with partial(target, _run_name(them, from_, to, errors) if resume else None, lambda: look_again(place_of(source), stamp_of(them))) as file:
         first, place = _standing(file, them, to, errors, jobs) if resume else (0, 0)
         os.ftruncate(file, place)
         bar = Bar(progress, sum(it.end - it.start for it in them))
-        bar.add(them[first].start if first < len(them) else 0)
+        bar.add(them[first].start - them[0].start if first < len(them) else 0)
         line = _Line(them, first, place, jobs, bar)
         _run(line, jobs, them, file, to, errors)
         written = line.end()
@@ -319,9 +321,9 @@ def look_again(source: Union[str, memoryview], stamp: Optional[tuple[int, str]])
             raise ChangedError(f"{source if isinstance(source, str) else 'the buffer'} was changed after it was read")
 
 
-def _run_name(them: list[Shard], to: str, errors: str) -> str:
+def _run_name(them: list[Shard], from_: str, to: str, errors: str) -> str:
     """What distinguishes a run from others: the source as it is, the arguments, and the version of the package."""
-    words = [(os.path.abspath(str(it.source)), *it.stamp, form_of(it.encoding), form_of(to), errors, SIZE, __version__) for it in them[-1:]]
+    words = [(os.path.abspath(str(it.source)), *it.stamp, form_or_auto(from_), form_of(to), errors, SIZE, __version__) for it in them[-1:]]
     return hashlib.sha256(repr(words).encode("utf-8", "surrogatepass")).hexdigest()[:16]
 
 
