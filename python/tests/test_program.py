@@ -166,7 +166,7 @@ class Program(unittest.TestCase):
             self.assertEqual(ran(*words)[0], 2, words)
 
     def test_wrong_arguments(self):
-        for words in ([], ["nonsense"], ["recode", "--from", "auto"], ["recode", "a", "b"], ["check", "--encoding", "latin-1"], ["recode", "--from", "utf8", "--to", "utf8", "-x"]):
+        for words in ([], ["nonsense"], ["recode", "--to", "auto"], ["recode", "a", "b"], ["check", "--encoding", "latin-1"], ["recode", "--from", "utf8", "--to", "utf8", "-x"]):
             status, out, err = ran(*words)
             self.assertEqual((status, out), (2, b""), words)
             self.assertIn("usage: noddychest ", err)
