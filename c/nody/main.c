@@ -2,13 +2,10 @@
 #include "nody.h"
 
 #include <errno.h>
-#include <fcntl.h>
 #include <getopt.h>
-#include <signal.h>
 #include <stdio.h>
 #include <stdlib.h>
 #include <string.h>
-#include <unistd.h>
 
 static struct output out;
 
@@ -117,12 +114,6 @@ static enum status run_all(struct request *request, int count, char **files) {
     return end_output(inputs.status);
 }
 
-/* Closed streams are opened, so that no file gets their numbers; to read or to write them still fails. */
-static void open_streams(void) {
-    for (int file = 0; file < 3; file++)
-        if (fcntl(file, F_GETFD) < 0 && open("/dev/null", file == 0 ? O_WRONLY : O_RDONLY) != file) exit(HAS_FAILED);
-}
-
 static int show_alone(const char *word) {
     if (strcmp(word, "--version") == 0) show_version();
     else show_help();
@@ -153,15 +144,12 @@ static enum status run_command(int argc, char **argv) {
 
 int main(int argc, char **argv) {
     const char *word = argc > 1 ? argv[1] : "";
-    open_streams();
+    start_system();
     if (!nody_supported() || !open_output(&err, STDERR_FILENO)) {
         fputs(nody_supported() ? "nody: there is no memory\n" : "nody: this processor lacks x86-64-v2\n", stderr);
         return HAS_FAILED;
     }
     err.is_shown = false; /* (who writes there takes the bar away first) */
-    signal(SIGPIPE, SIG_IGN);
-    signal(SIGXFSZ, SIG_IGN);
-    set_widths();
     if (strcmp(word, "--version") == 0 || strcmp(word, "--help") == 0 || strcmp(word, "-h") == 0) return show_alone(word);
     command = command_of(word);
     if (!command) {

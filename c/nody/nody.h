@@ -10,6 +10,7 @@
  *   files.c      files that are replaced           at.c        nody at
  *   replace.c    writes a file anew, or in place   recode.c    nody recode
  *   progress.c   the progress bar                  fix.c       nody fix
+ *   system.h     what the system gives             posix.c, windows.c   it, from Linux and macOS, and from Windows
  *   text.h       what nody view is made of         view.c      nody view
  *
  * The input is read in blocks, each of which ends with a piece that no later byte changes. So blocks are worked on one by one, by
@@ -23,12 +24,10 @@
 #ifndef _DARWIN_C_SOURCE
 #define _DARWIN_C_SOURCE
 #endif
+#define _FILE_OFFSET_BITS 64
 
 #include "noddychest.h"
-
-#include <stdbool.h>
-#include <sys/stat.h>
-#include <sys/types.h>
+#include "system.h"
 
 /* The size of a read, or one byte more if blocks are read independently. (tests compile the program with a few bytes, so that blocks end
  * everywhere) */
@@ -129,7 +128,6 @@ struct output {
 /* Standard error, where messages go. */
 extern struct output err;
 
-bool has_waited(int file, short event);
 bool open_output(struct output *out, int file);
 bool flush_output(struct output *out);
 void close_output(struct output *out);
@@ -200,6 +198,7 @@ bool lock_source(struct source *source);
 bool is_source(const struct source *source, const struct stat *about);
 bool is_source_linked(struct source *source);
 bool is_source_unchanged(const struct source *source, const char *name);
+void release_source(struct source *source);
 void close_source(struct source *source);
 uint64_t size_of_source(const struct source *source);
 bool is_shorter_now(const struct source *source);
@@ -223,7 +222,6 @@ struct place {
 
 void go_on(struct place *place, int columns, nody_encoding_t encoding, const uint8_t *bytes, size_t len);
 unsigned width_of(uint32_t scalar);
-void set_widths(void);
 void add_place(struct place *place, const struct place *more);
 
 /* An invalid byte of a block, or an invalid unit. */

@@ -215,13 +215,13 @@ static void complain_of_value(const char *option, const char *value) {
 
 /* Says what getopt_long found wrong: no such option, whose word it took last or whose letter is `optopt`; or a value that lacks, or is too
  * many. (its own messages have the word as it is, which may be the name of a file that commands a terminal) */
-static void complain_of_option(int found, const char *last) {
+static void complain_of_option(const char *last) {
     const char letter[] = {'-', (char)optopt, 0};
     const struct spec *known = optopt ? spec_of(optopt) : NULL;
     put_text(&err, "nody: ");
     put_text(&err, known ? "--" : "there is no option '");
     put_name(&err, known ? known->name : optopt ? letter : last);
-    put_text(&err, !known ? "'\n" : found == ':' ? " needs a value\n" : " takes no value\n");
+    put_text(&err, !known ? "'\n" : known->argument ? " needs a value\n" : " takes no value\n");
     flush_output(&err);
 }
 
@@ -247,7 +247,7 @@ static bool takes_options(struct request *request, const struct command_spec *co
     list_options(options, letters);
     for (int option; (option = getopt_long(argc, argv, letters, options, NULL)) != -1;) {
         if (option == '?' || option == ':') {
-            complain_of_option(option, argv[optind - 1]);
+            complain_of_option(argv[optind - 1]);
             return false;
         }
         if (!(spec_of(option)->takers & (unsigned)command->bit)) {

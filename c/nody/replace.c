@@ -4,7 +4,6 @@
 #include <errno.h>
 #include <stdlib.h>
 #include <string.h>
-#include <unistd.h>
 
 static const char changed[] = "it changed while it was read, and stays as it is";
 
@@ -25,6 +24,11 @@ static bool is_onto_itself(const struct run *run, const char *into) {
     return strcmp(into, run->source.name) == 0 || (stat(into, &about) == 0 && is_source(&run->source, &about));
 }
 
+static enum status give_name(struct run *run, struct replacement *new, const char *into) {
+    release_source(&run->source);
+    return keep_replacement(new) ? IS_VALID : fails(into);
+}
+
 /* Gives the old file another name, which must be free, and then the new file its name. */
 static enum status keep_both(struct run *run, struct replacement *new, const char *into) {
     char *old = malloc(strlen(new->name) + strlen(run->request->backup) + 1);
@@ -34,7 +38,7 @@ static enum status keep_both(struct run *run, struct replacement *new, const cha
     bool is_linked = link(new->name, old) == 0;
     enum status status = is_linked ? IS_VALID : fails(old);
     if (is_linked && !(is_source_linked(&run->source) && is_source_unchanged(&run->source, new->name))) status = refuses(into, changed);
-    if (status == IS_VALID && !keep_replacement(new)) status = fails(into);
+    if (status == IS_VALID) status = give_name(run, new, into);
     if (status != IS_VALID && is_linked) unlink(old);
     free(old);
     return status;
@@ -47,7 +51,7 @@ static enum status keep(struct run *run, struct replacement *new, const char *in
     if (!is_left && !flush_replacement(new)) return fails(into);
     if (is_itself && !is_source_unchanged(&run->source, new->name)) return refuses(into, changed);
     if (is_left) return IS_VALID;
-    return run->request->backup ? keep_both(run, new, into) : keep_replacement(new) ? IS_VALID : fails(into);
+    return run->request->backup ? keep_both(run, new, into) : give_name(run, new, into);
 }
 
 /* Writes the output of a command into a file, which is replaced only when all was written. */

@@ -2,10 +2,8 @@
  * reports the results in order. */
 #include "nody.h"
 
-#include <pthread.h>
 #include <stdlib.h>
 #include <string.h>
-#include <unistd.h>
 
 /* Threads on a file where nobody says how many, and blocks for each thread, so that one which waits for the CPU stops no other. */
 enum { JOBS = 4, MOST_JOBS = 256, EACH = 3 };
@@ -129,8 +127,7 @@ static void *work(void *unused) {
 /* The number of threads to use. (a small file has one, and so has a pipe if the number was not given: it reports each part before it waits
  * for the next) */
 static size_t jobs_of(struct run *run) {
-    long here = sysconf(_SC_NPROCESSORS_ONLN);
-    size_t jobs = run->request->jobs, asked = jobs ? jobs : here < 1 ? 1 : here < JOBS ? (size_t)here : JOBS;
+    size_t here = count_cpus(), jobs = run->request->jobs, asked = jobs ? jobs : here < JOBS ? here : JOBS;
     if (asked == 1 || run->request->is_followed) return 1;
     if (S_ISREG(run->source.about.st_mode)) read_apart(&run->source);
     if (!run->source.is_apart && (!jobs || S_ISREG(run->source.about.st_mode))) return 1;
