@@ -109,7 +109,7 @@ static enum status run_all(struct request *request, int count, char **files) {
     static char *input[] = {"-"};
     struct inputs inputs = {request, visit_input, fail_input, end_folder, has_ended, IS_VALID, 0};
     if (request->bit == AT) request->where = files[--count];
-    if (request->is_followed) inputs.status = run_followed(request, &out, count ? count : 1, count ? files : input);
+    if (!IS_WINDOWS && request->is_followed) inputs.status = run_followed(request, &out, count ? count : 1, count ? files : input);
     else visit_inputs(&inputs, count, files);
     return end_output(inputs.status);
 }

@@ -96,13 +96,14 @@ static void show_command(const struct command_spec *command) {
     show_usage(stdout, command);
     printf("%s.\n\n", command->help);
     for (int i = 0; i < SPECS; i++)
-        if (specs[i].takers & (unsigned)command->bit && specs[i].help) show_option(&specs[i]);
+        if (specs[i].takers & (unsigned)command->bit && specs[i].help && !(IS_WINDOWS && specs[i].value == FOLLOW)) show_option(&specs[i]);
     printf("\nExit status: %s, 2 wrong arguments, 3 a file could not be read or written. man nody has more.\n", command->statuses);
 }
 
 void show_help(void) {
     puts("usage: nody COMMAND [OPTION..] [FILE..]\n");
-    for (int i = 0; i < COMMANDS; i++) printf("  nody %-8s %s\n", commands[i].name, commands[i].help);
+    for (int i = 0; i < COMMANDS; i++)
+        if (!(IS_WINDOWS && commands[i].bit == VIEW)) printf("  nody %-8s %s\n", commands[i].name, commands[i].help);
     puts("\nnody COMMAND --help lists the options of a command, and man nody has the rest.");
 }
 
@@ -270,6 +271,8 @@ static bool takes_options(struct request *request, const struct command_spec *co
 static const char *wrong_with(const struct request *request, int count, char **files) {
     bool has_input = false;
     for (int i = 0; i < count; i++) has_input |= strcmp(files[i], "-") == 0;
+    if (IS_WINDOWS && request->bit == VIEW) return "view is not there on Windows";
+    if (IS_WINDOWS && request->is_followed) return "--follow is not there on Windows";
     if (request->bit == AT && count != 2) return "at takes a FILE and an OFFSET, or LINE:COLUMN";
     if (request->bit == VIEW && count > 1) return "view takes one FILE";
     if (request->bit == FIX && (count == 0 || has_input)) return "fix takes files";

@@ -1,9 +1,10 @@
-/* What nody asks of Linux and macOS: terminals, folders, locks, and what signals do. */
+/* What nody asks of Linux and macOS: streams, terminals, folders, locks, and files that get their names once they are written. */
 #include "nody.h"
 
 #include <dirent.h>
 #include <errno.h>
 #include <fnmatch.h>
+#include <limits.h>
 #include <locale.h>
 #include <poll.h>
 #include <signal.h>
@@ -84,7 +85,184 @@ bool read_folder(const char *folder, bool is_link_followed, take_name *take, voi
     return is_whole && error == 0;
 }
 
+/* ---- Descriptors */
+
+/* The digits after a front, as a number; -1 if the name has another front, or more than digits follow. */
+static int number_after(const char *name, const char *front) {
+    size_t len = strlen(front);
+    if (strncmp(name, front, len) != 0) return -1;
+    const char *digits = name + len;
+    size_t count = strspn(digits, "0123456789");
+    return count > 0 && count < 8 && !digits[count] ? atoi(digits) : -1;
+}
+
+/* The descriptor that a name denotes literally, or -1. */
+static int number_of_name(const char *name) {
+    static const char *const streams[] = {"/dev/stdin", "/dev/stdout", "/dev/stderr"};
+    char own[40];
+    int number = -1;
+    snprintf(own, sizeof own, "/proc/%ld/fd/", (long)getpid());
+    const char *const fronts[] = {"/dev/fd/", "/proc/self/fd/", "/proc/thread-self/fd/", own};
+    for (int i = 0; i < 3; i++)
+        if (strcmp(name, streams[i]) == 0) number = i;
+    for (size_t i = 0; i < sizeof fronts / sizeof *fronts && number < 0; i++) number = number_after(name, fronts[i]);
+    return number;
+}
+
+/* Goes on from a link to what it has; false if the name is no link. */
+static bool follow_link(char *name, size_t room) {
+    char target[PATH_MAX];
+    ssize_t len = readlink(name, target, sizeof target - 1);
+    char *end = strrchr(name, '/');
+    size_t folder = end && len > 0 && target[0] != '/' ? (size_t)(end + 1 - name) : 0;
+    if (len <= 0 || folder + (size_t)len >= room) return false;
+    target[len] = 0;
+    strcpy(name + folder, target);
+    return true;
+}
+
+/* The number of the open descriptor of which a name is another name, as /dev/stdout, or a link that leads there; otherwise -1. It is
+ * written without being replaced, as a file that others append to. ("-" is standard output) */
+int descriptor_of(const char *name) {
+    enum { MOST_LINKS = 40 };
+    char here[PATH_MAX];
+    size_t len = strlen(name);
+    int number = strcmp(name, "-") == 0 ? STDOUT_FILENO : -1;
+    if (len >= sizeof here) return -1;
+    memcpy(here, name, len + 1);
+    for (int i = 0; i < MOST_LINKS && number < 0; i++) {
+        number = number_of_name(here);
+        if (number < 0 && !follow_link(here, sizeof here)) break;
+    }
+    return number >= 0 && fcntl(number, F_GETFD) >= 0 ? number : -1;
+}
+
+/* ---- Signals */
+
+/* Lets signals do something, but for those that are to be passed over. */
+void on_signals(const int *numbers, size_t count, void (*act)(int number)) {
+    struct sigaction had, action;
+    memset(&action, 0, sizeof action);
+    action.sa_handler = act;
+    sigemptyset(&action.sa_mask);
+    for (size_t i = 0; i < count; i++)
+        if (sigaction(numbers[i], NULL, &had) == 0 && had.sa_handler != SIG_IGN) sigaction(numbers[i], &action, NULL);
+}
+
+/* The temporary file that a signal which ends the program takes away. */
+static char *volatile unfinished;
+
+static void drop_and_end(int number) {
+    if (unfinished) unlink(unfinished);
+    signal(number, SIG_DFL);
+    raise(number);
+}
+
+/* Makes the temporary file; no signal comes between that and its being known. */
+static int make_unfinished(char *name) {
+    static const int numbers[] = {SIGINT, SIGTERM, SIGHUP, SIGQUIT, SIGALRM, SIGXCPU};
+    sigset_t all, had;
+    sigfillset(&all);
+    on_signals(numbers, sizeof numbers / sizeof *numbers, drop_and_end);
+    pthread_sigmask(SIG_SETMASK, &all, &had);
+    int file = mkstemp(name);
+    if (file >= 0) unfinished = name;
+    pthread_sigmask(SIG_SETMASK, &had, NULL);
+    return file;
+}
+
+/* ---- Files that are replaced */
+
 /* (a file that is open can be replaced) */
 void release_source(struct source *source) {
     (void)source;
+}
+
+/* The modes that a new file gets here. */
+static mode_t new_mode(void) {
+    mode_t mask = umask(0);
+    umask(mask);
+    return 0666 & ~mask;
+}
+
+/* Gives a file the owner and group of another one, as far as that is allowed, and returns the mode that it may then have: never setuid or
+ * setgid for an owner or a group that is not the other file's. */
+static mode_t take_owner(int file, const struct stat *about) {
+    struct stat now;
+    if (fchown(file, about->st_uid, about->st_gid) != 0 && fchown(file, (uid_t)-1, about->st_gid) != 0) {
+        /* (it is then one of who runs this) */
+    }
+    bool is_same = fstat(file, &now) == 0 && now.st_uid == about->st_uid && now.st_gid == about->st_gid;
+    return about->st_mode & (is_same ? 07777 : 01777);
+}
+
+/* Makes a file in the folder of the name, with the mode and where possible the owner that the name has. (its own name is short, since that
+ * of the file may be as long as names can be) */
+static bool make_temporary(struct replacement *it, const struct stat *about) {
+    static const char ending[] = ".nody-XXXXXX";
+    const char *end = strrchr(it->name, '/');
+    size_t folder = end ? (size_t)(end + 1 - it->name) : 0;
+    if (!(it->temporary = malloc(folder + sizeof ending))) return false;
+    memcpy(it->temporary, it->name, folder);
+    memcpy(it->temporary + folder, ending, sizeof ending);
+    it->file = make_unfinished(it->temporary);
+    return it->file >= 0 && fchmod(it->file, about ? take_owner(it->file, about) : new_mode()) == 0;
+}
+
+/* Opens what will have the name. If that is a link, what it leads to is replaced, and no link: one that leads nowhere fails. In place a
+ * file is replaced that may not be written, if its folder may. */
+bool open_replacement(struct replacement *it, const char *name, bool is_in_place) {
+    struct stat about, link;
+    bool is_there = stat(name, &about) == 0, is_link = lstat(name, &link) == 0 && S_ISLNK(link.st_mode);
+    memset(it, 0, sizeof *it);
+    it->file = -1;
+    it->is_direct = is_there && !S_ISREG(about.st_mode);
+    if (is_there && !is_in_place && faccessat(AT_FDCWD, name, W_OK, AT_EACCESS) != 0) return false;
+    it->name = is_link ? realpath(name, NULL) : strdup(name);
+    if (!it->name) return false;
+    if (!it->is_direct) return make_temporary(it, is_there ? &about : NULL);
+    it->file = open(name, O_WRONLY | O_CLOEXEC);
+    return it->file >= 0;
+}
+
+/* Sees to it that the new name is there after a failure of power. (not all systems can, and the file itself is then safe) */
+static void keep_folder(const char *name) {
+    char *folder = strdup(name), *end = folder ? strrchr(folder, '/') : NULL;
+    if (end) end[end == folder] = 0;
+    int file = folder ? open(end ? folder : ".", O_RDONLY | O_CLOEXEC) : -1;
+    if (file >= 0) {
+        fsync(file);
+        close(file);
+    }
+    free(folder);
+}
+
+/* Ends writing: all of the file is then on the disk. (this may take long) */
+bool flush_replacement(struct replacement *it) {
+    int file = it->file;
+    it->file = -1;
+    bool is_flushed = it->is_direct || fsync(file) == 0;
+    return close(file) == 0 && is_flushed;
+}
+
+/* Gives a file that was flushed its name. */
+bool keep_replacement(struct replacement *it) {
+    if (it->is_direct) return true;
+    if (rename(it->temporary, it->name) != 0) return false;
+    unfinished = NULL;
+    keep_folder(it->name);
+    return true;
+}
+
+/* Ends with it: what did not get its name goes. */
+void drop_replacement(struct replacement *it) {
+    int error = errno;
+    if (it->file >= 0) close(it->file);
+    if (unfinished && unfinished == it->temporary) {
+        unlink(unfinished);
+        unfinished = NULL;
+    }
+    free(it->temporary);
+    free(it->name);
+    errno = error;
 }

@@ -1,8 +1,9 @@
-/* What nody asks of the system, beyond the C library. posix.c has it for Linux and macOS, and windows.c for Windows: there also those calls of
- * POSIX that Windows lacks, or has with other meanings. Names of files are UTF-8 everywhere. */
+/* What nody asks of the system, beyond the C library. posix.c has it for Linux and macOS, and windows.c for Windows: there also the calls of
+ * POSIX that Windows lacks, or that take names in UTF-8. */
 #ifndef NODY_SYSTEM_H
 #define NODY_SYSTEM_H
 
+#include <errno.h>
 #include <fcntl.h>
 #include <pthread.h>
 #include <stdbool.h>
@@ -16,48 +17,38 @@
 #ifdef _WIN32
 
 #undef fstat
-#undef lseek
 #undef stat
-#define fstat stat_of_file
-#define isatty is_console
-#define link add_name_of_file
-#define lseek seek_in_file
-#define lstat stat_of_link
-#define open open_file
-#define pread read_file_at
-#define read read_file
-#define stat stat_of_name
-#define unlink remove_name
-#define write write_file
+#define fstat describe_file
+#define link link_name
+#define lstat describe_link
+#define open open_name
+#define pread read_at_offset
+#define stat describe_name
+#define unlink unlink_name
 
 #define SEPARATORS "/\\"
-enum { IS_WINDOWS = 1 };
-enum { O_CLOEXEC = 0, O_NOCTTY = 0, O_NONBLOCK = 0, O_NOFOLLOW = 1 << 30 };
+enum { IS_WINDOWS = true, O_CLOEXEC = 0, O_NOCTTY = 0, O_NONBLOCK = 0, O_NOFOLLOW = 1 << 30 };
 
 struct stat {
-    mode_t st_mode; /* of a link neither that of a file nor that of a folder */
+    unsigned st_mode; /* of a link: 0 */
     uint64_t st_dev, st_ino;
     off_t st_size;
-    struct timespec st_mtim, st_ctim; /* the latter is when the file was made */
+    struct timespec st_mtim, st_ctim; /* the latter is when it was made */
 };
 
 int fstat(int file, struct stat *about);
-int isatty(int file);
 int link(const char *name, const char *other);
-off_t lseek(int file, off_t offset, int origin);
 int lstat(const char *name, struct stat *about);
 int open(const char *name, int flags);
 ssize_t pread(int file, void *bytes, size_t room, off_t at);
-ssize_t read(int file, void *bytes, size_t room);
 int stat(const char *name, struct stat *about);
 int unlink(const char *name);
-ssize_t write(int file, const void *bytes, size_t len);
 ssize_t getdelim(char **line, size_t *room, int end, FILE *file);
 
 #else
 
 #define SEPARATORS "/"
-enum { IS_WINDOWS = 0 };
+enum { IS_WINDOWS = false };
 
 #endif
 
@@ -74,14 +65,13 @@ int width_of_scalar(uint32_t scalar);
 /* Returns false if another process has locked the file. A file system without locks is no failure. */
 bool lock_file(int file);
 
-/* Returns true if a GLOB fits the whole name. */
+/* Returns true if a GLOB fits all of a name. */
 bool is_like(const char *glob, const char *name);
 
-/* Takes a name, and returns false to end that. */
+/* Takes a name of a folder; returns false if there is no memory. */
 typedef bool take_name(void *to, const char *name);
 
-/* Gives the names in a folder. Returns false and sets `errno` if that fails, or if a name was not taken. A folder that is a link is followed
- * only if `is_link_followed`. */
+/* Gives the names in a folder, which may be a link only if `is_link_followed`. Returns false and sets `errno` if any cannot be read. */
 bool read_folder(const char *folder, bool is_link_followed, take_name *take, void *to);
 
 #endif
