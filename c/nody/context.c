@@ -1,7 +1,6 @@
 /* The line around an invalid byte, as people see it: invalid bytes as \xE9, a mark under the first, and nothing that commands a terminal. */
 #include "nody.h"
 
-#include <stdio.h>
 #include <stdlib.h>
 #include <string.h>
 

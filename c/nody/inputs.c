@@ -1,8 +1,6 @@
 /* The names of the inputs: from the command line, from a list, and in folders. */
 #include "nody.h"
 
-#include <errno.h>
-#include <stdio.h>
 #include <stdlib.h>
 #include <string.h>
 
@@ -10,7 +8,7 @@
 static bool is_excluded(const struct request *request, const char *name) {
     for (size_t i = 0; i < request->excluded_count; i++)
         for (const char *tail = name, *end; tail; tail = (end = strpbrk(tail, SEPARATORS)) ? end + 1 : NULL)
-            if (is_like(request->excluded[i], tail)) return true;
+            if (fnmatch(request->excluded[i], tail, 0) == 0) return true;
     return false;
 }
 

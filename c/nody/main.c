@@ -1,9 +1,7 @@
 /* nody: checks, lists, counts and converts text in UTF-8 and UTF-16, whatever is wrong with it. The man page has the words. */
 #include "nody.h"
 
-#include <errno.h>
 #include <getopt.h>
-#include <stdio.h>
 #include <stdlib.h>
 #include <string.h>
 
@@ -145,6 +143,7 @@ static enum status run_command(int argc, char **argv) {
 int main(int argc, char **argv) {
     const char *word = argc > 1 ? argv[1] : "";
     start_system();
+    set_widths();
     if (!nody_supported() || !open_output(&err, STDERR_FILENO)) {
         fputs(nody_supported() ? "nody: there is no memory\n" : "nody: this processor lacks x86-64-v2\n", stderr);
         return HAS_FAILED;

@@ -128,6 +128,7 @@ struct output {
 /* Standard error, where messages go. */
 extern struct output err;
 
+bool has_waited(int file, short event);
 bool open_output(struct output *out, int file);
 bool flush_output(struct output *out);
 void close_output(struct output *out);
@@ -144,20 +145,6 @@ void put_member(struct output *out, const char *before, uint64_t number);
 bool is_shown(uint32_t scalar);
 enum { SHOWN_ROOM = 16 };
 size_t show_piece(char *shown, const char *bytes, const nody_piece_t *piece);
-
-/* A file that is written next to its final name, and gets that name once all is written. */
-struct replacement {
-    char *name, *temporary;
-    bool is_direct; /* the name is a device or a pipe, which is written as it is */
-    int file;
-};
-
-bool open_replacement(struct replacement *it, const char *name, bool is_in_place);
-bool flush_replacement(struct replacement *it);
-bool keep_replacement(struct replacement *it);
-void drop_replacement(struct replacement *it);
-int descriptor_of(const char *name);
-void on_signals(const int *numbers, size_t count, void (*act)(int number));
 
 /* ---- Input */
 
@@ -198,10 +185,23 @@ bool lock_source(struct source *source);
 bool is_source(const struct source *source, const struct stat *about);
 bool is_source_linked(struct source *source);
 bool is_source_unchanged(const struct source *source, const char *name);
-void release_source(struct source *source);
 void close_source(struct source *source);
 uint64_t size_of_source(const struct source *source);
 bool is_shorter_now(const struct source *source);
+
+/* A file that is written next to its final name, and gets that name once all is written. */
+struct replacement {
+    char *name, *temporary;
+    bool is_direct; /* the name is a device or a pipe, which is written as it is */
+    int file;
+};
+
+bool make_temporary(struct replacement *it, const struct stat *about);
+bool flush_replacement(struct replacement *it);
+bool keep_replacement(struct replacement *it, struct source *replaced);
+void drop_replacement(struct replacement *it);
+int descriptor_of(const char *name);
+void on_signals(const int *numbers, size_t count, void (*act)(int number));
 
 /* ---- Pieces */
 
@@ -222,6 +222,7 @@ struct place {
 
 void go_on(struct place *place, int columns, nody_encoding_t encoding, const uint8_t *bytes, size_t len);
 unsigned width_of(uint32_t scalar);
+void set_widths(void);
 void add_place(struct place *place, const struct place *more);
 
 /* An invalid byte of a block, or an invalid unit. */

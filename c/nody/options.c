@@ -1,9 +1,7 @@
 /* Commands and options: what the command line may say, and the help about it. */
 #include "nody.h"
 
-#include <errno.h>
 #include <getopt.h>
-#include <stdio.h>
 #include <stdlib.h>
 #include <string.h>
 

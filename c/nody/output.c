@@ -1,7 +1,6 @@
 /* Output in a buffer, and names as messages show them. */
 #include "nody.h"
 
-#include <errno.h>
 #include <stdlib.h>
 #include <string.h>
 
@@ -22,6 +21,15 @@ void close_output(struct output *out) {
     free(out->room);
 }
 
+/* After a call that failed, whether it can be tried again: a signal interrupted it; or somebody made the descriptor one that does not block,
+ * and now it is ready. */
+bool has_waited(int file, short event) {
+    struct pollfd it = {file, event, 0};
+    if (errno == EINTR) return true;
+    if (errno != EAGAIN) return false;
+    return poll(&it, 1, -1) > 0 || errno == EINTR;
+}
+
 /* Writes all bytes, or keeps the error of the first write that failed. */
 static void write_all(struct output *out, const char *bytes, size_t len) {
     if (out->is_shown && len > 0) hide_progress();
@@ -30,7 +38,7 @@ static void write_all(struct output *out, const char *bytes, size_t len) {
         if (count > 0) {
             bytes += count;
             len -= (size_t)count;
-        } else if (count == 0 || !has_waited(out->file, TO_WRITE)) {
+        } else if (count == 0 || !has_waited(out->file, POLLOUT)) {
             out->error = count == 0 ? EIO : errno;
         }
     }

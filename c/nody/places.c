@@ -2,13 +2,19 @@
  * bytes, or of cells of a terminal. */
 #include "nody.h"
 
+#include <locale.h>
 #include <string.h>
 
 enum { TAB = 8 };
 
+/* Lets wcwidth know the characters of Unicode. (the names are those of glibc and musl, and of macOS) */
+void set_widths(void) {
+    if (!setlocale(LC_CTYPE, "C.UTF-8")) setlocale(LC_CTYPE, "en_US.UTF-8");
+}
+
 /* How many cells a character takes on a terminal, at most two. A control takes one here. */
 unsigned width_of(uint32_t scalar) {
-    int width = scalar < 0x80 ? 1 : width_of_scalar(scalar);
+    int width = scalar < 0x80 ? 1 : wcwidth(scalar);
     return width < 0 ? 1 : (unsigned)width;
 }
 

@@ -1,74 +1,24 @@
-/* What nody asks of Linux and macOS: streams, terminals, folders, locks, and files that get their names once they are written. */
+/* What nody asks of Linux and macOS: streams, folders, descriptors by their names, and files that get their names once they are written. */
 #include "nody.h"
 
 #include <dirent.h>
-#include <errno.h>
-#include <fnmatch.h>
 #include <limits.h>
-#include <locale.h>
-#include <poll.h>
 #include <signal.h>
 #include <stdlib.h>
 #include <string.h>
-#include <sys/file.h>
 #include <sys/ioctl.h>
-#include <wchar.h>
 
 /* Closed streams are opened, so that no file gets their numbers; to read or to write them still fails. */
-static void open_streams(void) {
+void start_system(void) {
     for (int file = 0; file < 3; file++)
         if (fcntl(file, F_GETFD) < 0 && open("/dev/null", file == 0 ? O_WRONLY : O_RDONLY) != file) exit(HAS_FAILED);
-}
-
-/* (wcwidth then knows the characters of Unicode; the locales' names are those of glibc and musl, and of macOS) */
-void start_system(void) {
-    open_streams();
     signal(SIGPIPE, SIG_IGN);
     signal(SIGXFSZ, SIG_IGN);
-    if (!setlocale(LC_CTYPE, "C.UTF-8")) setlocale(LC_CTYPE, "en_US.UTF-8");
 }
 
-static int wait_for(int file, enum direction direction, int milliseconds) {
-    struct pollfd it = {file, direction == TO_READ ? POLLIN : POLLOUT, 0};
-    return poll(&it, 1, milliseconds);
-}
-
-/* (of an error the read or write itself says more) */
-bool is_ready(int file, enum direction direction) {
-    return wait_for(file, direction, 0) != 0;
-}
-
-/* After a call that failed, whether it can be tried again: a signal interrupted it; or somebody made the descriptor one that does not block,
- * and now it is ready. */
-bool has_waited(int file, enum direction direction) {
-    if (errno == EINTR) return true;
-    if (errno != EAGAIN) return false;
-    return wait_for(file, direction, -1) > 0 || errno == EINTR;
-}
-
-/* How many columns a terminal has; 0 if that is not known. */
 size_t width_of_terminal(int file) {
     struct winsize size;
     return ioctl(file, TIOCGWINSZ, &size) == 0 ? size.ws_col : 0;
-}
-
-size_t count_cpus(void) {
-    long count = sysconf(_SC_NPROCESSORS_ONLN);
-    return count < 1 ? 1 : (size_t)count;
-}
-
-/* How many cells a character takes on a terminal; negative for a control. */
-int width_of_scalar(uint32_t scalar) {
-    return wcwidth((wchar_t)scalar);
-}
-
-/* (the lock is one of flock: a descriptor that only reads can take it, and files are replaced that may not be written) */
-bool lock_file(int file) {
-    return flock(file, LOCK_EX | LOCK_NB) == 0 || errno != EWOULDBLOCK;
-}
-
-bool is_like(const char *glob, const char *name) {
-    return fnmatch(glob, name, 0) == 0;
 }
 
 bool read_folder(const char *folder, bool is_link_followed, take_name *take, void *to) {
@@ -173,11 +123,6 @@ static int make_unfinished(char *name) {
 
 /* ---- Files that are replaced */
 
-/* (a file that is open can be replaced) */
-void release_source(struct source *source) {
-    (void)source;
-}
-
 /* The modes that a new file gets here. */
 static mode_t new_mode(void) {
     mode_t mask = umask(0);
@@ -198,7 +143,7 @@ static mode_t take_owner(int file, const struct stat *about) {
 
 /* Makes a file in the folder of the name, with the mode and where possible the owner that the name has. (its own name is short, since that
  * of the file may be as long as names can be) */
-static bool make_temporary(struct replacement *it, const struct stat *about) {
+bool make_temporary(struct replacement *it, const struct stat *about) {
     static const char ending[] = ".nody-XXXXXX";
     const char *end = strrchr(it->name, '/');
     size_t folder = end ? (size_t)(end + 1 - it->name) : 0;
@@ -207,22 +152,6 @@ static bool make_temporary(struct replacement *it, const struct stat *about) {
     memcpy(it->temporary + folder, ending, sizeof ending);
     it->file = make_unfinished(it->temporary);
     return it->file >= 0 && fchmod(it->file, about ? take_owner(it->file, about) : new_mode()) == 0;
-}
-
-/* Opens what will have the name. If that is a link, what it leads to is replaced, and no link: one that leads nowhere fails. In place a
- * file is replaced that may not be written, if its folder may. */
-bool open_replacement(struct replacement *it, const char *name, bool is_in_place) {
-    struct stat about, link;
-    bool is_there = stat(name, &about) == 0, is_link = lstat(name, &link) == 0 && S_ISLNK(link.st_mode);
-    memset(it, 0, sizeof *it);
-    it->file = -1;
-    it->is_direct = is_there && !S_ISREG(about.st_mode);
-    if (is_there && !is_in_place && faccessat(AT_FDCWD, name, W_OK, AT_EACCESS) != 0) return false;
-    it->name = is_link ? realpath(name, NULL) : strdup(name);
-    if (!it->name) return false;
-    if (!it->is_direct) return make_temporary(it, is_there ? &about : NULL);
-    it->file = open(name, O_WRONLY | O_CLOEXEC);
-    return it->file >= 0;
 }
 
 /* Sees to it that the new name is there after a failure of power. (not all systems can, and the file itself is then safe) */
@@ -246,7 +175,8 @@ bool flush_replacement(struct replacement *it) {
 }
 
 /* Gives a file that was flushed its name. */
-bool keep_replacement(struct replacement *it) {
+bool keep_replacement(struct replacement *it, struct source *replaced) {
+    (void)replaced; /* (its file can be open) */
     if (it->is_direct) return true;
     if (rename(it->temporary, it->name) != 0) return false;
     unfinished = NULL;

@@ -1,7 +1,6 @@
 /* The progress bar: on standard error, if that is a terminal, once a second has passed. */
 #include "nody.h"
 
-#include <stdio.h>
 #include <stdlib.h>
 #include <string.h>
 

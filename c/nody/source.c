@@ -1,7 +1,6 @@
 /* Reads an input in blocks. What the next bytes decide is held from block to block. */
 #include "nody.h"
 
-#include <errno.h>
 #include <string.h>
 
 #ifdef __APPLE__
@@ -38,11 +37,12 @@ static bool is_same_time(const struct timespec *a, const struct timespec *b) {
     return a->tv_sec == b->tv_sec && a->tv_nsec == b->tv_nsec;
 }
 
-/* Locks the file of a source until it is closed. Returns false if another process has locked it. (standard input is not locked: its lock would
- * belong to all who have the descriptor, and outlive the program) */
+/* Locks the file of a source until it is closed. Returns false if another process has locked it. The lock is one of flock: a descriptor that
+ * only reads can take it, and files are replaced that may not be written. A file system that has no such locks is no failure. (standard input
+ * is not locked: its lock would belong to all who have the descriptor, and outlive the program) */
 bool lock_source(struct source *source) {
     if (source->file == STDIN_FILENO) return true;
-    if (!lock_file(source->file)) return false;
+    if (flock(source->file, LOCK_EX | LOCK_NB) != 0 && errno == EWOULDBLOCK) return false;
     if (fstat(source->file, &source->about) != 0) source->error = errno;
     return true;
 }
@@ -80,7 +80,8 @@ bool is_shorter_now(const struct source *source) {
 
 /* Returns true if a read of a pipe that is followed would wait. */
 static bool would_wait(const struct source *source) {
-    return !S_ISREG(source->about.st_mode) && !is_ready(source->file, TO_READ);
+    struct pollfd it = {source->file, POLLIN, 0};
+    return !S_ISREG(source->about.st_mode) && poll(&it, 1, 0) == 0;
 }
 
 /* Reads once, at least a byte, unless the input has ended, a read fails, or what is followed has no more now. */
@@ -91,7 +92,7 @@ static size_t read_some(struct source *source, uint8_t *bytes, size_t room) {
         ssize_t count = read(source->file, bytes, room);
         if (count > 0 && source->is_followed) fstat(source->file, &source->about);
         if (count > 0) return (size_t)count;
-        if (count < 0 && has_waited(source->file, TO_READ)) continue;
+        if (count < 0 && has_waited(source->file, POLLIN)) continue;
         source->is_idle = count == 0 && source->is_followed && S_ISREG(source->about.st_mode);
         if (source->is_idle) return 0;
         source->is_shorter = is_shorter_now(source);
