@@ -52,7 +52,7 @@ int open(const char *name, int flags);
 ssize_t pread(int file, void *bytes, size_t room, off_t at);
 int stat(const char *name, struct stat *about);
 int unlink(const char *name);
-int wcwidth(uint32_t scalar);
+int wcwidth(int scalar);
 
 #else
 

@@ -1,6 +1,7 @@
 /* What nody asks of Windows: the calls of POSIX in system.h, the console, and files that get their names once they are written. */
-#ifdef _WIN32
 #include "nody.h"
+
+#ifdef _WIN32
 
 #include <io.h>
 #include <stdlib.h>
@@ -85,8 +86,8 @@ int fstat(int file, struct stat *about) {
     DWORD type = GetFileType(handle);
     memset(about, 0, sizeof *about);
     about->st_mode = type == FILE_TYPE_CHAR ? S_IFCHR : S_IFIFO;
-    if (type != FILE_TYPE_DISK) return 0;
-    if (!GetFileInformationByHandle(handle, &info)) return fails();
+    /* (a file that says nothing of itself, as standard input under wine, is read as a pipe is) */
+    if (type != FILE_TYPE_DISK || !GetFileInformationByHandle(handle, &info)) return 0;
     about->st_mode = mode_of(handle, info.dwFileAttributes);
     about->st_dev = info.dwVolumeSerialNumber;
     about->st_ino = (uint64_t)info.nFileIndexHigh << 32 | info.nFileIndexLow;
@@ -183,7 +184,7 @@ size_t width_of_terminal(int file) {
 }
 
 /* (Windows knows the characters up to FFFF; above that ideographs and pictures are wide) */
-int wcwidth(uint32_t scalar) {
+int wcwidth(int scalar) {
     wchar_t unit = (wchar_t)scalar;
     WORD kinds = 0;
     if (scalar > 0xFFFF) return (scalar >= 0x1F300 && scalar <= 0x1FAFF) || (scalar >= 0x20000 && scalar <= 0x3FFFD) ? 2 : 1;
