@@ -19,7 +19,7 @@
 #undef stat
 #define S_ISLNK(mode) ((mode) == 0)
 #define SEPARATORS "/\\"
-#define faccessat(folder, name, mode, flags) 0 /* (that it may not is seen when it gets its name) */
+#define faccessat(folder, name, mode, flags) 0 /* (make_temporary looks at it) */
 #define fstat describe_file
 #define open open_name
 #define poll(them, count, milliseconds) ((them)->file >= 0)
@@ -27,6 +27,7 @@
 #define stat describe_name
 #define sysconf(name) pthread_num_processors_np()
 #define unlink unlink_name
+#define write write_file
 enum { IS_WINDOWS = true, O_CLOEXEC = 0, O_NOCTTY = 0, O_NOFOLLOW = 0, O_NONBLOCK = 0, POLLIN = 1, POLLOUT = 2, FNM_NOMATCH = 1 };
 enum { LOCK_NB = 1, LOCK_EX = 2 }; /* as LockFileEx has them */
 
@@ -53,6 +54,7 @@ ssize_t pread(int file, void *bytes, size_t room, off_t at);
 int stat(const char *name, struct stat *about);
 int unlink(const char *name);
 int wcwidth(int scalar);
+ssize_t write(int file, const void *bytes, size_t len);
 
 #else
 

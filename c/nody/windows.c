@@ -20,14 +20,13 @@ static int fails(void) {
     case ERROR_ACCESS_DENIED: case ERROR_SHARING_VIOLATION: case ERROR_LOCK_VIOLATION: case ERROR_WRITE_PROTECT: errno = EACCES; break;
     case ERROR_FILE_EXISTS: case ERROR_ALREADY_EXISTS: errno = EEXIST; break;
     case ERROR_DISK_FULL: case ERROR_HANDLE_DISK_FULL: errno = ENOSPC; break;
+    case ERROR_BROKEN_PIPE: case ERROR_NO_DATA: errno = EPIPE; break;
     case ERROR_NO_UNICODE_TRANSLATION: errno = EILSEQ; break;
     case ERROR_FILENAME_EXCED_RANGE: errno = ENAMETOOLONG; break;
     default: errno = EIO;
     }
     return -1;
 }
-
-/* ---- Names */
 
 /* A name in UTF-8; NULL if there is no memory or, if the flags say so, if it has a lone surrogate, which otherwise becomes U+FFFD. */
 static char *narrow(const wchar_t *wide, DWORD flags) {
@@ -129,6 +128,11 @@ ssize_t pread(int file, void *bytes, size_t room, off_t at) {
     return is_read ? (ssize_t)count : -1;
 }
 
+ssize_t write(int file, const void *bytes, size_t len) {
+    DWORD count;
+    return WriteFile(handle_of(file), bytes, (DWORD)len, &count, NULL) ? (ssize_t)count : fails();
+}
+
 ssize_t getdelim(char **line, size_t *room, int end, FILE *file) {
     size_t len = 0;
     for (int byte = !end; byte != end && (byte = getc(file)) != EOF; (*line)[len] = 0) {
@@ -183,13 +187,17 @@ size_t width_of_terminal(int file) {
     return GetConsoleScreenBufferInfo(handle_of(file), &info) ? (size_t)(info.srWindow.Right - info.srWindow.Left + 1) : 0;
 }
 
-/* (Windows knows the characters up to FFFF; above that ideographs and pictures are wide) */
+/* (the wide characters are those of East Asia, and pictures; Windows knows which marks have no width) */
 int wcwidth(int scalar) {
+    static const int wide[][2] = {{0x1100, 0x115F}, {0x2E80, 0x303E}, {0x3041, 0xA4CF}, {0xA960, 0xA97F}, {0xAC00, 0xD7A3}, {0xF900, 0xFAFF},
+                                  {0xFE30, 0xFE6F}, {0xFF00, 0xFF60}, {0xFFE0, 0xFFE6}, {0x17000, 0x18CFF}, {0x1B000, 0x1B2FF}, {0x1F300, 0x1F64F},
+                                  {0x1F680, 0x1F6FF}, {0x1F900, 0x1FAFF}, {0x20000, 0x3FFFD}};
     wchar_t unit = (wchar_t)scalar;
     WORD kinds = 0;
-    if (scalar > 0xFFFF) return (scalar >= 0x1F300 && scalar <= 0x1FAFF) || (scalar >= 0x20000 && scalar <= 0x3FFFD) ? 2 : 1;
-    GetStringTypeW(CT_CTYPE3, &unit, 1, &kinds);
-    return kinds & (C3_FULLWIDTH | C3_IDEOGRAPH) ? 2 : kinds & C3_NONSPACING ? 0 : 1;
+    for (size_t i = 0; i < sizeof wide / sizeof *wide; i++)
+        if (scalar >= wide[i][0] && scalar <= wide[i][1]) return 2;
+    if (scalar <= 0xFFFF) GetStringTypeW(CT_CTYPE3, &unit, 1, &kinds);
+    return kinds & C3_NONSPACING && !(kinds & C3_ALPHA) ? 0 : 1;
 }
 
 /* The code page that the console had. */
@@ -231,23 +239,25 @@ static bool set_temporary(int file, bool is_temporary) {
     return SetFileInformationByHandle(handle_of(file), FileDispositionInfo, &info, sizeof info);
 }
 
-/* Makes a file in the folder of the name, with the rights of the file that has the name. */
+/* Makes a file in the folder of the name, with the rights of the file that has the name. One that is only to be read is not replaced. */
 bool make_temporary(struct replacement *it, const struct stat *about) {
     enum { MOST_RIGHTS = 1 << 16, HIDING = FILE_ATTRIBUTE_HIDDEN | FILE_ATTRIBUTE_SYSTEM };
     wchar_t path[NAME_ROOM];
     uint64_t rights[MOST_RIGHTS / sizeof(uint64_t)];
     SECURITY_ATTRIBUTES security = {sizeof security, rights, FALSE};
     DWORD len, number = GetCurrentProcessId();
-    bool has_rights = about && widen(path, it->name) && GetFileSecurityW(path, DACL_SECURITY_INFORMATION, rights, sizeof rights, &len);
-    DWORD attributes = has_rights ? GetFileAttributesW(path) & HIDING : 0;
+    DWORD attributes = about && widen(path, it->name) ? GetFileAttributesW(path) : 0;
+    bool has_rights = about && GetFileSecurityW(path, DACL_SECURITY_INFORMATION, rights, sizeof rights, &len);
     size_t folder = strlen(it->name);
+    errno = EACCES;
+    if (attributes & FILE_ATTRIBUTE_READONLY) return false;
     while (folder > 0 && !strchr(SEPARATORS ":", it->name[folder - 1])) folder--;
     it->temporary = malloc(folder + sizeof ".nody-4294967295");
     HANDLE handle = INVALID_HANDLE_VALUE;
     for (DWORD error = ERROR_FILE_EXISTS; it->temporary && error == ERROR_FILE_EXISTS; error = GetLastError()) {
         sprintf(it->temporary, "%.*s.nody-%lu", (int)folder, it->name, number++);
         if (!widen(path, it->temporary)) break;
-        handle = CreateFileW(path, GENERIC_WRITE | DELETE, FILE_SHARE_DELETE, has_rights ? &security : NULL, CREATE_NEW, attributes, NULL);
+        handle = CreateFileW(path, GENERIC_WRITE | DELETE, FILE_SHARE_DELETE, has_rights ? &security : NULL, CREATE_NEW, attributes & HIDING, NULL);
         if (handle != INVALID_HANDLE_VALUE) break;
     }
     it->file = handle == INVALID_HANDLE_VALUE ? fails() : _open_osfhandle((intptr_t)handle, O_WRONLY);
@@ -279,10 +289,7 @@ void drop_replacement(struct replacement *it) {
     errno = error;
 }
 
-/* ---- The command line */
-
 int main(int argc, char **argv);
-
 int wmain(int argc, wchar_t **wide) {
     char **argv = calloc((size_t)argc + 1, sizeof *argv);
     for (int i = 0; argv && i < argc; i++)
