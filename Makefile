@@ -60,7 +60,6 @@ EXE = .exe
 PROTECTED =
 DYNAMIC = $(IN)/noddychest.dll
 SOURCES := $(filter-out %/follow.c %/posix.c %/rows.c %/seek.c %/text.c,$(SOURCES))
-
 WINDOWS = -municode -static -lshlwapi
 CURSES = no
 endif

@@ -7,10 +7,9 @@
  *   source.c     reads blocks                      follow.c    nody check --follow
  *   workers.c    threads over blocks, in order     count.c     nody count
  *   output.c     buffered output                   list.c      nody list
- *   files.c      files that are replaced           at.c        nody at
+ *   system.h     the system: posix.c, windows.c    at.c        nody at
  *   replace.c    writes a file anew, or in place   recode.c    nody recode
  *   progress.c   the progress bar                  fix.c       nody fix
- *   system.h     what the system gives             posix.c, windows.c   it, from Linux and macOS, and from Windows
  *   text.h       what nody view is made of         view.c      nody view
  *
  * The input is read in blocks, each of which ends with a piece that no later byte changes. So blocks are worked on one by one, by

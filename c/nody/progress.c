@@ -19,7 +19,7 @@ static double now(void) {
 /* Whether standard error is a terminal that can go back in a line. */
 static bool can_go_back(void) {
     const char *kind = getenv("TERM");
-    return isatty(STDERR_FILENO) == 1 && !(kind && strcmp(kind, "dumb") == 0);
+    return isatty(STDERR_FILENO) > 0 && !(kind && strcmp(kind, "dumb") == 0);
 }
 
 void start_progress(bool is_quiet) {

@@ -20,7 +20,7 @@ static int fails(void) {
     case ERROR_ACCESS_DENIED: case ERROR_SHARING_VIOLATION: case ERROR_LOCK_VIOLATION: case ERROR_WRITE_PROTECT: errno = EACCES; break;
     case ERROR_FILE_EXISTS: case ERROR_ALREADY_EXISTS: errno = EEXIST; break;
     case ERROR_DISK_FULL: case ERROR_HANDLE_DISK_FULL: errno = ENOSPC; break;
-    case ERROR_BROKEN_PIPE: case ERROR_NO_DATA: errno = EPIPE; break;
+    case ERROR_BROKEN_PIPE: case ERROR_NO_DATA: case ERROR_PIPE_NOT_CONNECTED: errno = EPIPE; break;
     case ERROR_NO_UNICODE_TRANSLATION: errno = EILSEQ; break;
     case ERROR_FILENAME_EXCED_RANGE: errno = ENAMETOOLONG; break;
     default: errno = EIO;
@@ -169,14 +169,15 @@ bool read_folder(const char *folder, bool is_link_followed, take_name *take, voi
     struct stat about;
     bool is_whole = lstat(folder, &about) == 0 && (is_link_followed || S_ISDIR(about.st_mode)) && widen(path, folder);
     HANDLE search = is_whole ? FindFirstFileW(wcscat(path, L"\\*"), &found) : INVALID_HANDLE_VALUE;
-    for (bool is_more = search != INVALID_HANDLE_VALUE; is_more; is_more = FindNextFileW(search, &found)) {
+    if (search == INVALID_HANDLE_VALUE) return is_whole && fails() == 0;
+    do {
         char *name = narrow(found.cFileName, WC_ERR_INVALID_CHARS);
         if (!name || (strcmp(name, ".") != 0 && strcmp(name, "..") != 0)) is_whole &= name && take(to, name);
         free(name);
-    }
-    if (!is_whole) SetLastError(ERROR_NO_UNICODE_TRANSLATION);
-    is_whole = GetLastError() == ERROR_NO_MORE_FILES || fails() == 0;
-    if (search != INVALID_HANDLE_VALUE) FindClose(search);
+    } while (FindNextFileW(search, &found));
+    errno = EILSEQ;
+    if (GetLastError() != ERROR_NO_MORE_FILES) is_whole = fails() == 0;
+    FindClose(search);
     return is_whole;
 }
 
