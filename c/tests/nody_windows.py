@@ -1,10 +1,15 @@
 """Runs nody.exe, and holds it against the nody of this system: the same words, input and files have to give the same status, output, messages and
 files. Then what only Windows has: its names of files, locks, and the ends of a program. c/check-windows runs this; it has the tools."""
+import fcntl
 import os
+import pty
 import random
-import signal
+import select
 import shutil
+import signal
+import struct
 import subprocess
+import termios
 import time
 
 # What damaged text is made of: 1A ends a text for some programs of Windows, and a carriage return is no part of the end of a line.
@@ -188,13 +193,28 @@ def holds_file(check, holder, folder, how):
 def check_locked(pair, holder):
     """A file that another process has locked, or lets nobody open."""
     folder = put_folders(f"{pair.check.folder}/locked")
-    for how, why in ((["lock"], "another process has locked it"), ([], "Permission denied")):
+    locked = (["fix", "bad.txt"], ["recode", "--in-place", "--to", "utf-16le", "bad.txt"])
+    closed = (["fix", "bad.txt"], ["check", "bad.txt"], ["recode", "-o", "new.txt", "bad.txt"], ["recode", "-o", "bad.txt", "ok.txt"])
+    for how, why, runs in ((["lock"], b"another process has locked it", locked), ([], b"Permission denied", closed)):
         process = holds_file(pair.check, holder, folder, how)
-        for words in (["fix"], ["recode", "--in-place", "--to", "utf-16le"]) if how else (["fix"], ["check"], ["recode", "-o", "new.txt"]):
-            status, output, said = pair.check.run([pair.program, *words, "bad.txt"], folder=folder)
-            pair.check.add((status, output, said) == (3, b"", f"nody: bad.txt: {why}\n".encode()), f"nody.exe {' '.join(words)}, held {how}: {status} {output!r} {said!r}")
+        for words in runs:
+            pair.expect(words, (3, b"", b"nody: bad.txt: " + why + b"\n"), folder=folder)
         process.communicate(b"\n", timeout=60)
     pair.check.add(files_of(folder) == FOLDERS, "files that others hold stay as they are")
+
+
+def check_at_once(pair):
+    """Two programs that fix one file at once: both are right, or one of them says that it could not."""
+    folder = put_folders(f"{pair.check.folder}/once")
+    text = text_of("utf-8", random.Random(30), 1_000_000)
+    with open(f"{folder}/bad.txt", "wb") as file:
+        file.write(text)
+    words = [*pair.check.starter, pair.program, "fix", "-q", "bad.txt"]
+    runs = [subprocess.Popen(words, cwd=folder, stdout=subprocess.DEVNULL, stderr=subprocess.DEVNULL) for _ in range(2)]
+    statuses = sorted(it.wait(120) for it in runs)
+    fixed = subprocess.run([pair.here, "recode"], input=text, capture_output=True).stdout
+    pair.check.add(statuses in ([0, 0], [0, 3]), f"two that fix one file end with {statuses}")
+    pair.check.add(files_of(folder) == {**FOLDERS, "bad.txt": fixed}, "two that fix one file leave it fixed, and no other file")
 
 
 def check_ended(pair):
@@ -236,9 +256,36 @@ def check_closed(pair):
     pair.check.add(got == (3, b"", b""), f"nody.exe list into a closed pipe: {got}")
 
 
+def shown_on_console(check, words, folder):
+    """What a program shows on a console, which wine draws on a terminal of this system."""
+    terminal, console = pty.openpty()
+    fcntl.ioctl(console, termios.TIOCSWINSZ, struct.pack("HHHH", 25, 60, 0, 0))
+    process = subprocess.Popen([*check.starter, *words], stdin=console, stdout=console, stderr=console, cwd=folder, env={**os.environ, "TERM": "xterm"}, start_new_session=True)
+    os.close(console)
+    shown, begun = b"", time.monotonic()
+    while (process.poll() is None or select.select([terminal], [], [], 0)[0]) and time.monotonic() - begun < 60:
+        if select.select([terminal], [], [], 0.2)[0]:
+            try:
+                shown += os.read(terminal, 1 << 16)
+            except OSError:
+                break
+    process.kill()
+    os.close(terminal)
+    return shown
+
+
+def check_console(pair):
+    """A console shows the line of an invalid byte, in UTF-8 and with colours."""
+    folder = put_folders(f"{pair.check.folder}/console")
+    for color in ("auto", "never"):
+        shown = shown_on_console(pair.check, [pair.program, "check", "--color", color, "bad.txt"], folder)
+        red = (b"\x1b[1;31m", b"\x1b[0m") if color == "auto" else (b"", b"")
+        pair.check.add(b"caf\xc3\xa9 " + red[0] + b"\\xE2" + red[1] in shown, f"on a console, with colours {color}: {shown!r}")
+
+
 def check_nody(check, program, here, holder):
     pair = Pair(check, program, here)
-    for part in (check_texts, check_words, check_files, check_names, check_changes, check_ended, check_far, check_closed):
+    for part in (check_texts, check_words, check_files, check_names, check_changes, check_at_once, check_ended, check_far, check_closed, check_console):
         before = check.passed
         part(pair)
         print(f"check-windows: nody: {part.__name__}: {check.passed - before} passed", flush=True)
