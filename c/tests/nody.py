@@ -54,7 +54,7 @@ def expect(holds, what):
     global passed, failed
     passed, failed = passed + bool(holds), failed + (not holds)
     if not holds and failed <= 20:
-        print(f"nody.py: FAILED: {what}"[:700], flush=True)
+        print(f"{os.path.basename(sys.argv[0])}: FAILED: {what}"[:700], flush=True)
     return holds
 
 
@@ -155,7 +155,7 @@ def says(words, status, output=None, error=None, data=b"", **more):
     got = run(words, data, **more)
     right = got[0] == status and (output is None or got[1] == output)
     right = right and (error is None or (got[2] == b"" if error == b"" else error in got[2]))
-    return expect(right, f"{words[1:]} on {data[:60]!r}: {got[0]} {got[1][-300:]!r} {got[2][-600:]!r}, not {status} {output and output[-300:]!r} {error!r}")
+    return expect(right, f"{[os.path.basename(words[0]), *words[1:]]} on {data[:60]!r}: {got[0]} {got[1][-300:]!r} {got[2][-600:]!r}, not {status} {output and output[-300:]!r} {error!r}")
 
 
 def sentences(program):

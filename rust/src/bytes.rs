@@ -46,6 +46,9 @@ pub fn last(bytes: &[u8]) -> Option<Piece> {
 
 /// The offset of the first invalid byte, or the length where all is UTF-8, as [`core::str::Utf8Error::valid_up_to`] says it.
 ///
+/// `error_len` of that error is the length of a maximal subpart, where each invalid byte is a fault here. It is `None` if the bytes from
+/// there on are the front of a character: then a [`Recoder`](crate::Recoder) that is fed all bytes holds these.
+///
 /// ```
 /// let bytes = b"ok\xF0\x9F then";
 /// let valid = noddychest::valid_up_to(bytes);

@@ -142,7 +142,8 @@ fn progress(did: cuts::Fed) -> Progress {
     Progress { read: did.read, written: did.written, status: if did.is_full { Status::Full } else { Status::Done } }
 }
 
-/// How many bytes at the end, at most three, depend on the bytes that follow: as many as a [`Decoder`] holds that was fed just these. Keep
+/// How many bytes at the end, at most three, depend on the bytes that follow: the front of a character, or invalid bytes whose kind is open,
+/// as `ED A0`. They are as many as a [`Decoder`] holds that was fed just these. Keep
 /// them back of a block of a large input, and put them before the next block. All pieces before them are known; if nothing follows, all of
 /// them are invalid.
 ///

@@ -7,9 +7,9 @@ use core::ops::{Add, Range};
 
 /// Why a byte, or a unit of UTF-16, is invalid.
 ///
-/// The first seven are of UTF-8 and the last three of UTF-16. If two would be right, the first of these decides: the lead byte
-/// itself, whether enough bytes are left, whether they are continuation bytes, and the value. So `E0 80 41` is an interrupted
-/// sequence and not an overlong encoding.
+/// The first seven are of UTF-8 and the last three of UTF-16. If two would be right, the lead byte itself decides
+/// first, then whether enough bytes are left, then whether they are continuation bytes, and last the value. So `E0 80 41` is an
+/// interrupted sequence and not an overlong encoding.
 ///
 /// ```
 /// use noddychest::{first, FaultKind};

@@ -56,8 +56,8 @@ impl fmt::Debug for Block {
 /// text the error has the kind [`InvalidData`](std::io::ErrorKind::InvalidData) and a [`Fault`] in it, after all that is before it
 /// was given. Reading on goes on after it. Errors of the inner reader are passed on, and nothing is lost by them.
 ///
-/// It is a [`BufRead`], so it has lines. What is before an invalid byte in its line is in the buffer that
-/// [`read_line`](BufRead::read_line) was given; of the iterator [`lines`](BufRead::lines), which has its own, that is lost.
+/// It is a [`BufRead`], so it has lines. If a strict recoder meets invalid text inside a line, the front of that line is in the buffer
+/// that [`read_line`](BufRead::read_line) was given. The iterator [`lines`](BufRead::lines) has a buffer of its own, and loses it.
 ///
 /// ```
 /// use noddychest::io::RecodingReader;
@@ -125,7 +125,7 @@ impl<R> RecodingReader<R> {
         &mut self.inner
     }
 
-    /// The recoder: what it holds, and how many invalid bytes it has replaced of what was read.
+    /// The recoder: what it holds, and how many invalid bytes, or units of UTF-16, it has replaced of what was read.
     ///
     /// ```
     /// use noddychest::{io::RecodingReader, Encoding, Recoder};

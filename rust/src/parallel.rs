@@ -12,6 +12,7 @@
 //! ```
 
 use crate::recode::append_recoded;
+use crate::table::granted;
 use crate::{faults, io, recoded_len_max, shard_end, Encoding, Fault};
 use std::num::NonZeroUsize;
 use std::sync::{Condvar, Mutex, MutexGuard, PoisonError};
@@ -57,7 +58,7 @@ fn recode_shards<'a>(line: &Line<'_, &'a mut [u8]>, from: Encoding, to: Encoding
     let mut made = Vec::new();
     while let Some(shard) = line.take() {
         made.clear();
-        append_recoded(from, to, shard.bytes(), &mut made).expect("there is memory for a shard");
+        granted(append_recoded(from, to, shard.bytes(), &mut made));
         let place = shard.in_turn(|buffer: &mut &'a mut [u8]| {
             let (place, rest) = std::mem::take(buffer).split_at_mut(made.len());
             *buffer = rest;

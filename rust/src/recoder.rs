@@ -139,6 +139,24 @@ impl core::str::FromStr for Encoding {
 /// assert_eq!((encoding, mark), (Encoding::Utf16Be, 2));
 /// assert_eq!(decode(encoding, &bytes[mark..]), "hi");
 /// ```
+///
+/// Of a reader, look at its first three bytes:
+///
+/// ```
+/// # #[cfg(feature = "std")] {
+/// use noddychest::{encoding_of_bom, io::RecodingReader, Encoding, Recoder};
+/// use std::io::{Cursor, Read};
+///
+/// let mut reader = &b"\xFF\xFEh\0i\0"[..];
+/// let mut front = Vec::new();
+/// reader.by_ref().take(3).read_to_end(&mut front)?;
+/// let (encoding, mark) = encoding_of_bom(&front).unwrap_or((Encoding::Utf8, 0));
+/// let all = Cursor::new(front.split_off(mark)).chain(reader);
+/// let text = RecodingReader::new(all, Recoder::new(encoding, Encoding::Utf8));
+/// assert_eq!(std::io::read_to_string(text)?, "hi");
+/// # }
+/// # Ok::<(), Box<dyn core::error::Error>>(())
+/// ```
 #[doc(alias = "byte order mark")]
 #[must_use]
 pub fn encoding_of_bom(bytes: &[u8]) -> Option<(Encoding, usize)> {
@@ -400,8 +418,8 @@ impl Recoder {
     /// Writes what is held, at most nine bytes, when no more follows. [`Status::Full`]: call this again with an empty buffer. The rest of the
     /// buffer may hold anything.
     ///
-    /// Of a strict recoder bytes that are held are the front of a character whose end is missing: a [`Status::Fault`]. Call this
-    /// again for the next one, until it is done.
+    /// A strict recoder gives a [`Status::Fault`] for the first invalid byte of those that it holds. Call this again until it is done: valid
+    /// bytes after that one are written.
     ///
     /// ```
     /// use noddychest::{Encoding, Recoder};
