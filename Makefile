@@ -60,7 +60,7 @@ EXE = .exe
 PROTECTED =
 DYNAMIC = $(IN)/noddychest.dll
 SOURCES := $(filter-out %/follow.c %/posix.c %/rows.c %/seek.c %/text.c,$(SOURCES))
-WINDOWS = -municode -static -lshlwapi
+WINDOWS = -D_FILE_OFFSET_BITS=64 -municode -static -lshlwapi
 CURSES = no
 endif
 ifneq ($(findstring apple,$(MACHINE)),)

@@ -23,7 +23,6 @@
 #ifndef _DARWIN_C_SOURCE
 #define _DARWIN_C_SOURCE
 #endif
-#define _FILE_OFFSET_BITS 64
 
 #include "noddychest.h"
 #include "system.h"
