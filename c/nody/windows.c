@@ -42,6 +42,7 @@ static bool widen(wchar_t *path, const char *name) {
     enum { MARK = sizeof mark / sizeof *mark - 1 };
     wchar_t wide[NAME_ROOM];
     if (!MultiByteToWideChar(CP_UTF8, MB_ERR_INVALID_CHARS, name, -1, wide, NAME_ROOM)) return false;
+    SetLastError(ERROR_INVALID_NAME);
     DWORD len = GetFullPathNameW(wide, NAME_ROOM, path, NULL);
     if (len == 0 || len >= NAME_ROOM - MARK - MOST_ADDED) return false;
     if (len < SHORT_NAME || path[0] == '\\') return true;

@@ -129,7 +129,7 @@ def check_files(pair):
     names = list(FOLDERS)
     for words in (names, ["-v", *names], ["-l", *names], ["-l", "-0", *names], ["-q", *names], ["--json", *names], ["--encoding", "auto", "-v", *names], ["-r", "."], ["-r"], ["-rv", "."],
                   ["-r", "-a", "--max", "1", "--columns", "bytes", "."], ["-r", "-v", "--exclude", "*.bin", "."], ["-r", "-v", "--exclude", "sub", "."], ["-r", "--exclude", "sub/*", "sub", "ok.txt"],
-                  ["--context", "bad.txt"], ["nope.txt", "ok.txt"], ["nope/ok.txt"], ["-r", "nope"], ["sub"], ["--jobs", "2", "bad.txt"], ["--files0-from", "nope"]):
+                  ["--context", "bad.txt"], ["nope.txt", "ok.txt"], ["nope/ok.txt"], [""], ["-r", "nope"], ["sub"], ["--jobs", "2", "bad.txt"], ["--files0-from", "nope"]):
         pair.same(["check", *words], folder=folder)
     pair.same(["check", "-v", "--files0-from", "-"], b"\0".join(it.encode() for it in [*names, "nope", "-"]), folder)
     pair.same(["check", "--files0-from", "-"], b"ok.txt\0\0bad.txt", folder)
