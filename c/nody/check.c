@@ -56,22 +56,25 @@ static bool is_brief(const struct request *request) {
     return request->is_quiet || request->is_named;
 }
 
-/* Returns true if a NUL at the front says that a file is binary. */
-static bool can_be_binary(const struct run *run) {
-    return !run->request->is_text && !run->request->is_followed && run->source.encoding == NODY_UTF8;
+/* Returns true if a NUL at the front says that a file in an encoding is binary. */
+static bool can_be_binary(const struct request *request, nody_encoding_t encoding) {
+    return !request->is_text && !request->is_followed && encoding == NODY_UTF8;
 }
 
-/* Looks for a NUL at the front of a file. */
+/* Looks for a NUL at the front of a file, whose encoding the byte order mark may tell. */
 static void look_at_front(struct run *run) {
     uint8_t front[FRONT];
     int error;
-    if (S_ISREG(run->source.about.st_mode) && can_be_binary(run))
-        run->is_binary = memchr(front, 0, read_at(&run->source, front, sizeof front, 0, &error)) != NULL;
+    if (!S_ISREG(run->source.about.st_mode)) return;
+    nody_encoding_t encoding = run->source.encoding;
+    size_t len = read_at(&run->source, front, sizeof front, 0, &error);
+    if (run->source.is_by_bom) nody_encoding_of_bom(front, len, &encoding);
+    run->is_binary = can_be_binary(run->request, encoding) && memchr(front, 0, len) != NULL;
 }
 
 /* Looks for a NUL at the front of a pipe, in what was read so far. */
 static void look_at_block(struct run *run, const struct block *block) {
-    if (S_ISREG(run->source.about.st_mode) || !can_be_binary(run) || block->at >= FRONT) return;
+    if (S_ISREG(run->source.about.st_mode) || !can_be_binary(run->request, run->source.encoding) || block->at >= FRONT) return;
     size_t len = block->end < FRONT - block->at ? block->end : (size_t)(FRONT - block->at);
     run->is_binary = run->is_binary || memchr(block->bytes, 0, len);
 }

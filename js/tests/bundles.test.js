@@ -67,7 +67,7 @@ const WAYS = {
 
 function put(folder) {
     const package_ = `${folder}/node_modules/noddychest`;
-    for (const it of [package_, `${folder}/site`]) mkdirSync(it, { recursive: true });
+    for (const it of [`${package_}/program`, `${folder}/site`]) mkdirSync(it, { recursive: true });
     for (const it of [...files, "package.json"]) copyFileSync(at(`../${it}`), `${package_}/${it}`);
     for (const it of files.filter((name) => name.endsWith(".wasm"))) copyFileSync(at(`../${it}`), `${folder}/site/${it}`);
     // (rollup alone finds no packages: its plugin node-resolve does)

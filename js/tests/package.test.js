@@ -75,6 +75,7 @@ test("packed, installed offline and imported", { skip: needs("npm") }, () => {
         const loads = 'load().then((n) => console.log(n.firstFault(Uint8Array.of(65, 255)).error));';
         writeFileSync(`${folder}/loads.mjs`, `import { load } from "noddychest/load"; ${loads}`);
         writeFileSync(`${folder}/loads.cjs`, `const { load } = require("noddychest/load"); ${loads}`);
+        assert.equal(execFileSync(`${folder}/node_modules/.bin/noddychest`, ["--version"], { encoding: "utf8" }), `noddychest ${packed.version}\n`);
         for (const it of ["used.mjs", "used.cjs", "loads.mjs", "loads.cjs"]) assert.equal(execFileSync(process.execPath, [it], { cwd: folder, encoding: "utf8" }), "NonUtf8Byte\n");
     } finally {
         rmSync(folder, { recursive: true });

@@ -1,13 +1,17 @@
-"""`python3 -m noddychest`: what it prints, how it ends, and that it reads by parts."""
+"""The program `noddychest`: what it prints, how it ends, and that it reads by parts. compare/commands holds it beside nody(1)."""
+import fcntl
 import os
 import random
 import re
+import shutil
 import signal
 import subprocess
 import sys
 import tempfile
+import time
 import unittest
 
+import noddychest
 from noddychest import FaultKind, pieces, recode
 
 import outside
@@ -21,6 +25,11 @@ LISTING = "0 1 000068\n1 2 0000e9\n3 1 InterruptedSequence\n4 1 UnexpectedContin
 def ran(*words, given=b"", **more):
     it = subprocess.run([sys.executable, "-m", "noddychest", *words], input=given, stdout=subprocess.PIPE, stderr=subprocess.PIPE, **more)
     return it.returncode, it.stdout, it.stderr.decode()
+
+
+def heed_interrupts():
+    """What a script starts in the background passes over an interrupt, and so does what that starts."""
+    signal.signal(signal.SIGINT, signal.SIG_DFL)
 
 
 class Program(unittest.TestCase):
@@ -48,10 +57,12 @@ class Program(unittest.TestCase):
             file.write("é".encode() * 10)
         text = f"{path}:1:3: offset 3: {reason[0]}\n{path}:1:4: offset 4: {reason[1]}\n{path}: not valid UTF-8: 2 invalid bytes\n"
         valid = f"{good}: valid UTF-8\n"
-        self.assertEqual(ran("check", good, path), (1, (valid + text).encode(), ""))
-        self.assertEqual(ran("check", good), (0, valid.encode(), ""))
+        self.assertEqual(ran("check", "-v", good, path), (1, (valid + text).encode(), ""))
+        self.assertEqual(ran("check", good), (0, b"", ""))
+        self.assertEqual(ran("check", good, "-v"), (0, valid.encode(), ""))
         self.assertEqual(ran("check", given=SAMPLE), (1, text.replace(path, "-").encode(), ""))
         for jobs in ([], ["--jobs", "2"]):
+            self.assertEqual(ran("check", *jobs, good, path, good), (1, text.encode(), ""))
             self.assertEqual(ran("check", "--quiet", *jobs, good), (0, b"", ""))
             self.assertEqual(ran("check", "-q", *jobs, good, path, good), (1, b"", ""))
 
@@ -82,15 +93,24 @@ class Program(unittest.TestCase):
                 text = ("né\n😀" * 40).encode(codec) * (size // 200)
                 noise = b"".join(chances.choice([b"\xff", b"\n\0", b"\0\n", b"\xd8\x3d", b"\x3d\xd8", b"\xe2\x82", b"a"]) for _ in range(size % 200))
                 path = self.file(text + noise + text[:500] + noise)
-                of_nody = subprocess.run([NODY, "check", "-v", "-a", "--max", "0", "--from", encoding, path, path + "-none", "-"], input=noise, stdout=subprocess.PIPE, stderr=subprocess.PIPE)
-                for jobs in ("1", "3"):
-                    status, out, err = ran("check", "--encoding", encoding, "--jobs", jobs, path, path + "-none", "-", given=noise)
-                    self.assertEqual((status, out, "noddychest: " + err.partition(": ")[2]), (of_nody.returncode, of_nody.stdout, of_nody.stderr.decode().replace("nody:", "noddychest:")))
+                for more in (["-v", "-a", "--max", "0"], [], ["--max", "7", "--columns", "bytes"], ["--json"], ["-l"], ["--encoding", "auto"]):
+                    words = ["check", "--from", encoding, *more, path, path + "-none", "-"]
+                    of_nody = self.nody(*words, given=noise)
+                    for jobs in ("1", "3"):
+                        self.assertEqual(ran(*words, "--jobs", jobs, given=noise), of_nody)
                 words = ["--to", "utf16be", "--errors", "strict"]
-                strict = subprocess.run([NODY, "recode", "--from", encoding, *words, path], stdout=subprocess.PIPE, stderr=subprocess.PIPE)
-                self.assertEqual(ran("recode", "--from", encoding, *words, path), (strict.returncode, strict.stdout, strict.stderr.decode()))
+                strict = self.nody("recode", "--from", encoding, *words, path)
+                self.assertEqual(ran("recode", "--from", encoding, *words, path), strict)
                 into = ran("recode", "--from", encoding, *words, "-o", path + "-out", path)
-                self.assertEqual(into, (strict.returncode, b"", strict.stderr.decode()))
+                self.assertEqual(into, (strict[0], b"", strict[2]))
+                for errors in ("replace", "lossy"):
+                    words = ["recode", "--from", encoding, "--errors", errors, path]
+                    self.assertEqual(ran(*words), self.nody(*words))
+
+    def nody(self, *words, given=b""):
+        """What nody does, in the words of this program."""
+        it = subprocess.run([NODY, *words], input=given, stdout=subprocess.PIPE, stderr=subprocess.PIPE)
+        return it.returncode, it.stdout, re.sub("^nody:", "noddychest:", it.stderr.decode(), flags=re.M)
 
     def test_files_that_cannot_be_read_stop_no_others(self):
         path, none = self.file(b"a\xff"), self.folder + "/none"
@@ -116,7 +136,9 @@ class Program(unittest.TestCase):
     def test_recode(self):
         for errors in ("replace", "lossy"):
             expected = recode(SAMPLE, "utf8", "utf16le", errors)
-            self.assertEqual(ran("recode", "--from", "utf-8", "--to", "UTF-16LE", "--errors", errors, given=SAMPLE), (0, expected, ""))
+            told = "noddychest: -: 2 invalid bytes became U+FFFD\n" if errors == "replace" else ""
+            self.assertEqual(ran("recode", "--from", "utf-8", "--to", "UTF-16LE", "--errors", errors, given=SAMPLE), (0, expected, told))
+            self.assertEqual(ran("recode", "-q", "--to", "UTF-16LE", "--errors", errors, given=SAMPLE), (0, expected, ""))
         data = "é😀".encode() * 300_000
         status, out, _ = ran("recode", "--from", "utf8", "--to", "utf16be", self.file(data))
         self.assertEqual((status, out), (0, ("é😀" * 300_000).encode("utf-16-be")))
@@ -128,7 +150,8 @@ class Program(unittest.TestCase):
         path, out = self.file(SAMPLE * 600_000), os.path.join(self.folder, "out")
         expected = recode(SAMPLE * 600_000, "utf8", "utf16le")
         for words in (["--jobs", "3"], [], ["--jobs", "2", "--resume"]):
-            self.assertEqual(ran("recode", "--from", "utf8", "--to", "utf16le", "-o", out, *words, path), (0, b"", ""))
+            told = f"noddychest: {path}: 1200000 invalid bytes became U+FFFD\n"
+            self.assertEqual(ran("recode", "--from", "utf8", "--to", "utf16le", "-o", out, *words, path), (0, b"", told))
             with open(out, "rb") as file:
                 self.assertEqual(file.read(), expected)
         self.assertEqual(sorted(os.listdir(self.folder)), ["file", "out"])
@@ -143,17 +166,21 @@ class Program(unittest.TestCase):
             self.assertEqual(ran(*words)[0], 2, words)
 
     def test_wrong_arguments(self):
-        for words in ([], ["nonsense"], ["recode"], ["check", "--encoding", "latin-1"], ["recode", "--from", "utf8", "--to", "utf8", "-x"]):
+        for words in ([], ["nonsense"], ["recode", "--from", "auto"], ["recode", "a", "b"], ["check", "--encoding", "latin-1"], ["recode", "--from", "utf8", "--to", "utf8", "-x"]):
             status, out, err = ran(*words)
             self.assertEqual((status, out), (2, b""), words)
-            self.assertIn("usage: python3 -m noddychest", err)
+            self.assertIn("usage: noddychest ", err)
         status, out, err = ran("recode", "--from", "utf8", "--to", "utf8", "--output", "-", self.file(b"a"), cwd=self.folder)
         self.assertEqual((status, out, "standard output" in err, os.listdir(self.folder)), (2, b"", True, ["file"]))
-        status, out, _ = ran("--help")
-        self.assertEqual((status, b"Exit status" in out), (0, True))
+        self.assertEqual(ran("--version"), (0, f"noddychest {noddychest.__version__}\n".encode(), ""))
+        status, out, err = ran("--help")
+        self.assertEqual((status, out.count(b"\n  noddychest "), err), (0, 5, ""))
+        for command in ("check", "fix", "list", "recode", "pieces"):
+            status, out, err = ran(command, "--help")
+            self.assertEqual((status, f"usage: noddychest {command} ".encode() in out, b"Exit status" in out, err), (0, True, True, ""))
 
     def test_files_that_fail(self):
-        for words in (["check", self.folder], ["pieces", self.folder + "/none"], ["recode", "--from", "utf8", "--to", "utf8", "/none"]):
+        for words in (["check", self.folder], ["fix", self.folder], ["pieces", self.folder + "/none"], ["recode", "--from", "utf8", "--to", "utf8", "/none"]):
             status, out, err = ran(*words)
             self.assertEqual((status, out), (3, b""), words)
             self.assertRegex(err, r"^noddychest: .*\n$")
@@ -170,7 +197,7 @@ class Program(unittest.TestCase):
         return os.pathsep.join([self.folder, *filter(None, [os.environ.get("PYTHONPATH")])])
 
     def test_streams_that_are_closed(self):
-        for words in (["pieces"], ["check"], ["recode", "--from", "utf8", "--to", "utf8"]):
+        for words in (["pieces"], ["check", "-v"], ["list"], ["recode", "--from", "utf8", "--to", "utf8"]):
             for closed, more in (("<&-", []), (">&-", [self.file(b"a")])):
                 it = subprocess.run(["sh", "-c", '"$@" ' + closed, "sh", sys.executable, "-m", "noddychest", *words, *more], stdout=subprocess.PIPE, stderr=subprocess.PIPE)
                 self.assertEqual((it.returncode, it.stdout, it.stderr.count(b"\n")), (3, b"", 1), (words, closed, it.stderr))
@@ -217,8 +244,7 @@ class Program(unittest.TestCase):
 
     def test_what_comes_in_time_is_told_of_in_time(self):
         """Each part of a pipe is reported before the next one is waited for; an interrupt ends it as a signal does."""
-        # (what a script starts in the background passes over an interrupt, and so does what that starts)
-        how = {"stdin": subprocess.PIPE, "stdout": subprocess.PIPE, "stderr": subprocess.PIPE, "preexec_fn": lambda: signal.signal(signal.SIGINT, signal.SIG_DFL)}
+        how = {"stdin": subprocess.PIPE, "stdout": subprocess.PIPE, "stderr": subprocess.PIPE, "preexec_fn": heed_interrupts}
         with subprocess.Popen([sys.executable, "-m", "noddychest", "check"], **how) as it:
             it.stdin.write(b"a\xffbcdefgh")
             it.stdin.flush()
@@ -226,26 +252,114 @@ class Program(unittest.TestCase):
             it.send_signal(signal.SIGINT)
             self.assertEqual((it.wait(60), it.stderr.read()), (-signal.SIGINT, b""))
 
-    @unittest.skipUnless(os.path.exists("/dev/full"), "there is no /dev/full")
     def test_input_that_does_not_wait(self):
-        """Standard input that has no data now has not ended: what comes later is not left out in silence."""
-        for words in (("check",), ("pieces",), ("recode", "--from", "utf8", "--to", "utf8")):
+        """Standard input that has no data now has not ended: what comes later is waited for."""
+        for words, expected in ((["check"], b"-:1:7: offset 6: "), (["list"], b"6 1 ff "), (["recode", "-q"], b"abcabc\xef")):
             reader, writer = os.pipe()
             os.set_blocking(reader, False)
             os.write(writer, b"abc")
-            it = subprocess.run([sys.executable, "-m", "noddychest", *words], stdin=reader, stdout=subprocess.PIPE, stderr=subprocess.PIPE)
-            self.assertEqual((it.returncode, b"valid" in it.stdout, it.stderr), (3, False, b"noddychest: -: Resource temporarily unavailable\n"))
-            os.write(writer, b"abc")
-            os.close(writer)
-            it = subprocess.run([sys.executable, "-m", "noddychest", *words], stdin=reader, stdout=subprocess.PIPE, stderr=subprocess.PIPE)
-            self.assertEqual((it.returncode, it.stderr), (0, b""))
+            with subprocess.Popen([sys.executable, "-m", "noddychest", *words], stdin=reader, stdout=subprocess.PIPE, stderr=subprocess.PIPE) as it:
+                time.sleep(0.5)
+                os.write(writer, b"abc\xff")
+                os.close(writer)
+                out, err = it.communicate(timeout=60)
             os.close(reader)
+            self.assertEqual((expected in out, err), (True, b""), (words, out))
 
+    @unittest.skipUnless(os.path.exists("/dev/full"), "there is no /dev/full")
     def test_writes_that_fail(self):
         with open("/dev/full", "wb") as full:
             for words in (["pieces"], ["check"], ["recode", "--from", "utf8", "--to", "utf8"]):
                 it = subprocess.run([sys.executable, "-m", "noddychest", *words], input=b"\xff" * 10, stdout=full, stderr=subprocess.PIPE)
                 self.assertEqual((it.returncode, it.stderr.count(b"\n")), (3, 1), (words, it.stderr))
+
+
+class Fix(unittest.TestCase):
+    """What another process does while a file is replaced: this runs at a call of the system, in the program itself."""
+
+    def setUp(self):
+        folder = tempfile.TemporaryDirectory()
+        self.addCleanup(folder.cleanup)
+        self.folder, self.path = folder.name, os.path.join(folder.name, "file")
+        with open(self.path, "wb") as file:
+            file.write(b"a\xffb")
+
+    def fixed_while(self, call, act, *words):
+        """Runs fix, and a line of Python after each call of a function of `os`."""
+        program = f"""
+import os, signal, sys
+path, had = {self.path!r}, os.{call}
+def called(*given, **named):
+    made = had(*given, **named)
+    {act}
+    return made
+os.{call} = called
+from noddychest.__main__ import main
+sys.argv[1:] = ["fix", *{[*words, self.path]!r}]
+sys.exit(main())
+"""
+        it = subprocess.run([sys.executable, "-c", program], stdout=subprocess.PIPE, stderr=subprocess.PIPE, timeout=60, preexec_fn=heed_interrupts)
+        return it.returncode, it.stdout, it.stderr.decode()
+
+    def files(self):
+        found = {}
+        for name in os.listdir(self.folder):
+            with open(os.path.join(self.folder, name), "rb") as file:
+                found[name] = file.read()
+        return found
+
+    CHANGED = "it changed while it was read, and stays as it is\n"
+
+    def test_what_others_write_meanwhile_is_not_lost(self):
+        for words in ([], ["--backup", ".old"]):
+            for act, left in (("open(path, 'ab').write(b'more')", b"a\xffbmore"), ("open(path, 'r+b').write(b'xyz')", b"xyz"),
+                              ("open(path + 'new', 'wb').write(b'other'); os.rename(path + 'new', path)", b"other")):
+                self.setUp()
+                self.assertEqual(self.fixed_while("fsync", act, *words), (3, b"", f"noddychest: {self.path}: {self.CHANGED}"), act)
+                self.assertEqual(self.files(), {"file": left}, (act, words))
+
+    def test_a_file_that_is_removed_meanwhile(self):
+        status, out, err = self.fixed_while("fsync", "os.remove(path)")
+        self.assertEqual((status, out, err, self.files()), (3, b"", f"noddychest: {self.path}: {self.CHANGED}", {}))
+
+    def test_signals(self):
+        """The file stays as it is, and no other is left."""
+        for call in ("open", "fchmod", "fsync", "link"):
+            for name in ("SIGTERM", "SIGHUP", "SIGINT"):
+                self.setUp()
+                act = f"os.kill(os.getpid(), signal.{name}) if {call!r} != 'open' or '.partial' in str(given[0]) else None"
+                status, out, err = self.fixed_while(call, act, "--backup", ".old")
+                self.assertEqual((status, out, err, self.files()), (-getattr(signal, name), b"", "", {"file": b"a\xffb"}), (call, name))
+
+    def test_another_run(self):
+        with open(self.path, "rb") as file:
+            fcntl.flock(file, fcntl.LOCK_EX)
+            self.assertEqual(ran("fix", self.path), (3, b"", f"noddychest: {self.path}: another process has locked it\n"))
+        self.assertEqual(self.files(), {"file": b"a\xffb"})
+
+    def test_a_disk_that_is_full(self):
+        status, out, err = self.fixed_while("pwrite", "raise OSError(28, 'No space left on device')")
+        self.assertEqual((status, out, err, self.files()), (3, b"", f"noddychest: {self.path}: No space left on device\n", {"file": b"a\xffb"}))
+
+    @unittest.skipUnless(os.geteuid() == 0, "only root may give a file away")
+    def test_owner(self):
+        os.chown(self.path, 1234, 4321)
+        os.chmod(self.path, 0o4640)
+        self.assertEqual(ran("fix", "-q", self.path), (0, b"", ""))
+        about = os.stat(self.path)
+        self.assertEqual((about.st_uid, about.st_gid, about.st_mode & 0o7777), (1234, 4321, 0o4640))
+
+
+class Command(unittest.TestCase):
+    @unittest.skipUnless(shutil.which("noddychest", path=os.path.dirname(sys.executable)), "the package is not installed with its command")
+    def test_it_is_the_same_program(self):
+        it = subprocess.run([os.path.join(os.path.dirname(sys.executable), "noddychest"), "check"], input=b"a\xff", stdout=subprocess.PIPE)
+        self.assertEqual((it.returncode, it.stdout), ran("check", given=b"a\xff")[:2])
+
+    def test_it_starts_in_little_time(self):
+        """It imports nothing that this command does not need: what takes time is looked at by its cause, since machines differ."""
+        it = subprocess.run([sys.executable, "-c", "import sys, noddychest.__main__; print(*sys.modules)"], stdout=subprocess.PIPE, text=True)
+        self.assertFalse({"noddychest.parallel", "concurrent.futures", "hashlib", "threading", "tempfile"} & set(it.stdout.split()))
 
 
 class Readme(unittest.TestCase):

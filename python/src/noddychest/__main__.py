@@ -1,370 +1,351 @@
-"""Checks, splits and converts files: python3 -m noddychest check|pieces|recode.
+"""The program `noddychest`, also as `python3 -m noddychest`: checks, fixes, lists and converts files.
 
-Exit status: 0 if all input is valid (after `recode` without `--errors strict` also if it is not), 1 if it is not, 2 for wrong arguments,
-3 if a file cannot be read or written, or there is no memory. Of several files it is the highest."""
+Exit status: 0 if all input is valid (after `fix`, and `recode` without `--errors strict`, also if it was not), 1 if it is not, 2 for wrong
+arguments, 3 if a file cannot be read or written, or there is no memory. Of several files it is the highest."""
 from __future__ import annotations
 
 import argparse
-import array
-import contextlib
-import errno
 import os
-import re
 import signal
-import stat
 import sys
-from collections.abc import Iterator
-from io import BufferedReader, TextIOWrapper
-from typing import NamedTuple, Optional
+from collections.abc import Callable, Iterator
+from types import FrameType
+from typing import NoReturn, Optional
 
-from . import FaultKind, FaultError, Faults, Recoder, Shard, _noddychest, boundary_before, parallel, pieces, shards
+from . import _options as options
+from ._inputs import Found, Input, Place, encoding_of, found_in, passed
 from ._names import form_of
-from ._parts import waits
-from ._shards import arrays, taken
+from ._outputs import Output, OutputError, complain, complain_of, is_closed_pipe, is_hidden, json_line, open_streams, shown, tell
+from ._pieces import FaultError, FaultKind, Piece, pieces
+from ._recoding import Recoder
+from ._shards import Shard, opened, place_of, shards, taken
 
-_SIZE = 1 << 20
+_FRONT = 8192  # a file is binary if its first bytes contain a NUL
 _NAMES = ("UTF-8", "UTF-16LE", "UTF-16BE")  # by the numbers of the C library
-_HIDDEN = re.compile("[\0-\x1f\x7f-\x9f\u061c\u200b-\u200f\u2028-\u202e\u2060-\u206f\ufeff]")
-_LINE_FEEDS = ("\n".encode(), "\n".encode("utf-16-le"), "\n".encode("utf-16-be"))
+_Line = Callable[[Piece, bytes], bytes]
+_SIGNALS = ("SIGINT", "SIGTERM", "SIGHUP", "SIGQUIT", "SIGALRM", "SIGXCPU")
 
 
-def _encoding(name: str) -> str:
-    try:
-        form_of(name)
-    except LookupError as error:
-        raise argparse.ArgumentTypeError(str(error)) from None
-    return name
+def _name_of(encoding: str) -> str:
+    return _NAMES[form_of(encoding)]
 
 
-def _arguments() -> argparse.ArgumentParser:
-    what, _, statuses = (__doc__ or "").partition("\n\n")
-    parser = argparse.ArgumentParser(prog="python3 -m noddychest", description=what, epilog=statuses)
-    jobs = parser.add_subparsers(dest="job", required=True)
-    check = jobs.add_parser("check", help="says whether each file is valid, and of each invalid byte FILE:LINE:COLUMN: offset N: reason")
-    check.add_argument("file", nargs="*", default=["-"], metavar="FILE", help="standard input, if there is none, or for -")
-    check.add_argument("-q", "--quiet", action="store_true", help="writes nothing: the exit status tells")
-    split = jobs.add_parser("pieces", help="lists each character and each invalid byte")
-    convert = jobs.add_parser("recode", help="converts to another encoding, on standard output")
-    for it in (split, convert):
-        it.add_argument("file", nargs="?", default="-", metavar="FILE", help="standard input, if there is none, or for -")
-    for it in (check, split):
-        it.add_argument("--encoding", type=_encoding, default="utf8", metavar="NAME", help="utf8, utf16le or utf16be")
-    convert.add_argument("--from", dest="from_", type=_encoding, required=True, metavar="NAME", help="utf8, utf16le or utf16be")
-    convert.add_argument("--to", type=_encoding, required=True, metavar="NAME")
-    convert.add_argument("--errors", choices=["replace", "strict", "lossy"], default="replace")
-    for it in (check, convert):
-        it.add_argument("--jobs", type=_jobs, default=1, metavar="N", help="how many threads read at once (1)")
-    convert.add_argument("-o", "--output", metavar="OUT", help="a file, which is replaced once all is written; --jobs needs it, and FILE")
-    convert.add_argument("--resume", action="store_true", help="goes on where such a run, that was interrupted, came to; needs --output")
-    return parser
+def _noun(encoding: str, count: int) -> str:
+    """What invalid pieces are called: in UTF-16 they are units, or a byte at the end."""
+    return f"invalid {'byte' if form_of(encoding) == 0 else 'unit'}{'' if count == 1 else 's'}"
 
 
-def _jobs(word: str) -> int:
-    if not word.isascii() or not word.isdigit() or int(word) < 1:
-        raise argparse.ArgumentTypeError("a number from 1 on is required")
-    return int(word)
+def _kind_name(kind: FaultKind) -> str:
+    return kind.name.replace("_", " ").title().replace(" ", "")
 
 
-def _shown(text: str) -> bytes:
-    """Names as nody(1) shows them: a control character, a mark of direction, or a byte that is not UTF-8 as a backslash and three octal
-    digits for each byte. So no name commands a terminal, or has the look of two lines."""
-    data = os.fsencode(text)
-    return b"".join(_shown_piece(data[it.offset : it.offset + it.length], it.char) for it in pieces(data))
+def _told(name: bytes, offset: int, kind: FaultKind, place: Place) -> bytes:
+    """FILE:LINE:COLUMN: offset N: reason."""
+    return b"%s:%d:%d: offset %d: %s" % (name, place.lines + 1, place.columns + 1, offset, kind.reason.encode())
 
 
-def _shown_piece(data: bytes, char: Optional[str]) -> bytes:
-    return data if char is not None and not _HIDDEN.match(char) else b"".join(b"\\%03o" % it for it in data)
+# ---- check
 
 
-def _tell(line: bytes) -> None:
-    """Writes a line on standard error, as far as that can be written."""
-    if sys.stderr is not None:
-        with contextlib.suppress(OSError):
-            sys.stderr.buffer.write(line + b"\n")
-            sys.stderr.flush()
+class _Checked:
+    """The check of one input: what was found so far, and what is said of it."""
 
+    def __init__(self, out: Output, name: str, asked: argparse.Namespace) -> None:
+        self._out, self._name, self._asked = out, name, asked
+        self._encoding, self._mark, self._is_file, self._is_binary = "utf8", "utf8", True, False
+        self._count, self._first, self._front = 0, 0, Place()
 
-def _tell_failure(name: str, error: Exception) -> None:
-    """Says why something cannot be read or written."""
-    if isinstance(error, OSError) and error.strerror:
-        told = f"{error.filename if isinstance(error.filename, str) else name}: {error.strerror}"
-    else:
-        told = f"{name}: there is no memory" if isinstance(error, MemoryError) else str(error)
-    _tell(b"noddychest: " + _shown(told))
+    def run(self) -> int:
+        is_enough = False
+        for offset, data, found in self._found():
+            self._look_for_nul(offset, data)
+            is_enough = self._add(found)
+            self._out.flush()
+            if is_enough:
+                break
+        self._end(is_whole=not is_enough)
+        return 1 if self._count else 0
 
+    @property
+    def _is_brief(self) -> bool:
+        """Whether the first invalid byte says all that is wanted."""
+        return bool(self._asked.quiet or self._asked.names)
 
-class _OutputError(Exception):
-    """Standard output cannot be written."""
+    def _begin(self, front: bytes, encoding: str, is_file: bool) -> None:
+        self._encoding, self._mark, self._is_file = encoding, encoding_of(front), is_file
+        self._look_for_nul(0, front)
 
+    def _look_for_nul(self, offset: int, data: bytes) -> None:
+        is_text = self._asked.text or form_of(self._encoding) != 0
+        self._is_binary = self._is_binary or (not is_text and b"\0" in data[: max(_FRONT - offset, 0)])
 
-class _Output:
-    """Standard output. That it cannot be written is no failure of an input."""
-
-    def __init__(self) -> None:
-        if not isinstance(sys.stdout, TextIOWrapper):  # (it was closed)
-            raise _OutputError(OSError(errno.EBADF, os.strerror(errno.EBADF)))
-        self._file = sys.stdout.buffer
-
-    def write(self, data: bytes) -> None:
-        try:
-            self._file.write(data)
-        except OSError as error:
-            raise _OutputError(error) from None
-
-    def flush(self) -> None:
-        try:
-            self._file.flush()
-        except OSError as error:
-            raise _OutputError(error) from None
-
-
-# ---- reading ----
-
-
-def _open(name: str) -> BufferedReader:
-    file = open(0 if name == "-" else name, "rb", closefd=name != "-")
-    about = os.fstat(file.fileno())
-    if stat.S_ISREG(about.st_mode) and about.st_size > 0 and os.path.samestat(about, os.fstat(1)):
-        file.close()
-        raise OSError(f"{name}: it is the output too")  # (it might never end)
-    return file
-
-
-def _parts(file: BufferedReader) -> Iterator[bytes]:
-    """The blocks of a file. One that does not wait and has no data now raises BlockingIOError: `read1` returns an empty block then."""
-    while True:
-        part = file.read1(_SIZE)
-        if not part and not waits(file):
-            part = file.read(1)
-            if part is None:
-                raise BlockingIOError(errno.EAGAIN, os.strerror(errno.EAGAIN))
-        if not part:
+    def _found(self) -> Iterator[tuple[int, bytes, Found]]:
+        name, most = self._name, self._asked.max
+        if self._asked.jobs > 1 and name != "-" and ("://" in name or os.path.isfile(name)):
+            yield from self._found_by_jobs()
             return
-        yield part
+        with Input(name, self._asked.encoding) as it:
+            it.refuse_output()
+            self._begin(it.read_at(0, _FRONT) if it.is_file else b"", it.encoding, it.is_file)
+            for offset, data, cut in it.blocks():
+                yield offset, data, found_in(it.encoding, data, cut, offset, most, self._asked.columns)
+
+    def _found_by_jobs(self) -> Iterator[tuple[int, bytes, Found]]:
+        from . import parallel
+
+        with opened(place_of(self._name)) as it:
+            front = bytes(it.read(0, min(it.stamp()[0], _FRONT)))
+        encoding = encoding_of(front) if self._asked.encoding == options.AUTO else self._asked.encoding
+        self._begin(front, encoding, True)
+
+        def found(shard: Shard) -> list[Found]:
+            return [found_in(encoding, bytes(data), cut, offset, self._asked.max, self._asked.columns) for offset, data, cut in shard.blocks()]
+
+        for all_of_it in parallel.each(found, shards(self._name, parallel.SIZE, encoding), self._asked.jobs, not self._asked.quiet):
+            for here in all_of_it:
+                yield _FRONT, b"", here
+
+    def _add(self, found: Found) -> bool:
+        """Tells of what was found in a block. Returns whether no more is wanted."""
+        faults, asked = found.faults, self._asked
+        if faults.offsets and (self._is_brief or self._is_binary):
+            self._count, self._first = 1, faults.offsets[0]
+            return True
+        left = len(faults.offsets) if asked.max == 0 else max(asked.max - self._count, 0)
+        for offset, length, kind, place in zip(faults.offsets[:left], faults.lengths, faults.kinds, found.places):
+            self._tell(offset, length, FaultKind(kind), self._front.plus(place))
+        self._count += len(faults.offsets)
+        self._front = self._front.plus(found.end)
+        return False
+
+    def _tell(self, offset: int, length: int, kind: FaultKind, place: Place) -> None:
+        if self._asked.json:
+            members = {"line": place.lines + 1, "column": place.columns + 1, "offset": offset, "length": length}
+            self._out.write(json_line(self._name, **members, kind=_kind_name(kind), reason=kind.reason))
+        else:
+            self._out.write(_told(shown(self._name), offset, kind, place) + b"\n")
+
+    def _end(self, is_whole: bool) -> None:
+        asked = self._asked
+        if asked.quiet:
+            return
+        if asked.names and self._count:
+            self._out.write((shown(self._name) if os.isatty(1) else os.fsencode(self._name)) + (b"\0" if asked.null else b"\n"))
+        elif asked.json and not asked.names:
+            first = {"first": self._first} if self._is_binary and self._count else {}
+            about = {"valid": self._count == 0, "binary": self._is_binary, "invalid": self._count, **first, "complete": is_whole}
+            self._out.write(json_line(self._name, encoding=_name_of(self._encoding), **about))
+        elif not asked.names and (self._count or asked.verbose):
+            self._say(self._summary())
+            if self._count and self._is_file and asked.encoding != options.AUTO and form_of(self._encoding) == 0 and form_of(self._mark) != 0:
+                self._say(f"begins with the mark of {_name_of(self._mark)}: try --encoding auto")
+
+    def _say(self, text: str) -> None:
+        self._out.write(shown(self._name) + f": {text}\n".encode())
+
+    def _summary(self) -> str:
+        encoding, count, most = _name_of(self._encoding), self._count, self._asked.max
+        if count == 0:
+            return f"valid {encoding}"
+        if self._is_binary:
+            return f"binary file, not valid {encoding}: the first invalid byte is at offset {self._first} (-a shows all)"
+        if 0 < most < count:
+            return f"{count - most:,} more {_noun(self._encoding, count - most)} (--max 0 shows all)"
+        return f"not valid {encoding}: {count:,} {_noun(self._encoding, count)}"
 
 
-def _blocks(file: BufferedReader, encoding: str) -> Iterator[tuple[int, bytes, int]]:
-    """Bytes, the offset at which they begin, and how many of them are to be taken: four more are there to tell why one is invalid."""
-    offset, data = 0, b""
-    for part in _parts(file):
-        data += part
-        cut = boundary_before(data, max(len(data) - 4, 0), encoding)
-        yield offset, data, cut
-        offset, data = offset + cut, data[cut:]
-    yield offset, data, len(data)
+# ---- list and pieces
 
 
-# ---- places ----
-
-
-class _Place(NamedTuple):
-    """A position in text, relative to another one: a number of lines, and then of characters and invalid bytes in the last line."""
-
-    lines: int = 0
-    columns: int = 0
-
-    def plus(self, more: _Place) -> _Place:
-        return _Place(self.lines + more.lines, more.columns if more.lines else self.columns + more.columns)
-
-
-def _line_start(form: int, data: bytes) -> int:
-    """Where the last line of some bytes begins."""
-    feed = _LINE_FEEDS[form]
-    at = data.rfind(feed)
-    while at >= 0 and at % len(feed):  # (it lies in two units)
-        at = data.rfind(feed, 0, at + 1)
-    return 0 if at < 0 else at + len(feed)
-
-
-def _passed(form: int, data: bytes) -> _Place:
-    """The position after bytes that begin and end between pieces."""
-    columns, lines = _noddychest.counts(form, data)
-    return _Place(lines, _noddychest.char_count(form, data[_line_start(form, data) :]) if lines else columns)
-
-
-class _Found(NamedTuple):
-    """The invalid bytes of a block, with their offsets in the whole input; their lines and columns, counted from the front of the block; and
-    where the block ends."""
-
-    faults: Faults
-    lines: array.array[int]
-    columns: array.array[int]
-    end: _Place
-
-    def places(self, front: _Place) -> Iterator[tuple[int, int, _Place]]:
-        """The offset, the kind and the position of each, from the position at which the block begins."""
-        for offset, kind, lines, columns in zip(self.faults.offsets, self.faults.kinds, self.lines, self.columns):
-            yield offset, kind, front.plus(_Place(lines, columns))
-
-
-def _found_in(form: int, data: bytes, end: int, base: int) -> _Found:
-    """What is invalid in a block up to `end`; it begins at the offset `base`."""
-    found = _Found(arrays(form, data, end, base), array.array("Q"), array.array("Q"), _Place())
-    place, counted = _Place(), 0
-    for offset in found.faults.offsets:
-        place, counted = place.plus(_passed(form, data[counted : offset - base])), offset - base
-        found.lines.append(place.lines)
-        found.columns.append(place.columns)
-    return found._replace(end=place.plus(_passed(form, data[counted:end])))
-
-
-def _found_in_shard(shard: Shard) -> list[_Found]:
-    return [_found_in(form_of(shard.encoding), bytes(data), cut, offset) for offset, data, cut in shard.blocks()]
-
-
-def _found(name: str, encoding: str, jobs: int) -> Iterator[_Found]:
-    if jobs > 1 and name != "-":
-        for found in parallel.each(_found_in_shard, shards(name, parallel.SIZE, encoding), jobs, True):
-            yield from found
-        return
-    with _open(name) as file:
-        for offset, data, cut in _blocks(file, encoding):
-            yield _found_in(form_of(encoding), data, cut, offset)
-
-
-def _told(shown: bytes, offset: int, kind: int, place: _Place) -> bytes:
-    """FILE:LINE:COLUMN: offset N: reason, as nody(1) reports an invalid byte."""
-    return b"%s:%d:%d: offset %d: %s" % (shown, place.lines + 1, place.columns + 1, offset, FaultKind(kind).reason.encode())
-
-
-# ---- jobs ----
-
-
-def _summary(encoding: str, count: int) -> bytes:
-    """What is said of a file at the end of its check."""
-    form = form_of(encoding)
-    noun = ("byte" if form == 0 else "unit") + ("" if count == 1 else "s")
-    return f"not valid {_NAMES[form]}: {count:,} invalid {noun}".encode() if count else f"valid {_NAMES[form]}".encode()
-
-
-def _check(out: _Output, name: str, asked: argparse.Namespace) -> int:
-    count, front, shown = 0, _Place(), _shown(name)
-    for found in _found(name, asked.encoding, asked.jobs):
-        count += len(found.faults.offsets)
-        if asked.quiet and count:
-            return 1
-        if not asked.quiet:
-            for offset, kind, place in found.places(front):
-                out.write(_told(shown, offset, kind, place) + b"\n")
-        front = front.plus(found.end)
-        out.flush()
-    if not asked.quiet:
-        out.write(b"%s: %s\n" % (shown, _summary(asked.encoding, count)))
-    return 1 if count else 0
-
-
-def _pieces(out: _Output, name: str, encoding: str) -> int:
+def _listed(out: Output, name: str, encoding: str, line: _Line) -> int:
+    """Writes a line for each piece. Returns the status."""
     status = 0
-    with _open(name) as file:
-        for offset, data, cut in _blocks(file, encoding):
-            for piece in taken(iter(pieces(data, encoding)), offset, cut):
-                if piece.error is not None:
-                    status = 1
-                    out.write(f"{piece.offset} {piece.length} {piece.error.name.replace('_', ' ').title().replace(' ', '')}\n".encode())
-                elif piece.char is not None:
-                    out.write(b"%d %d %06x\n" % (piece.offset, piece.length, ord(piece.char)))
+    with Input(name, encoding) as it:
+        it.refuse_output()
+        for offset, data, cut in it.blocks():
+            for piece in taken(iter(pieces(data, it.encoding)), offset, cut):
+                status = 1 if piece.error is not None else status
+                start = piece.offset - offset
+                out.write(line(piece, data[start : start + piece.length]))
             out.flush()
     return status
 
 
-def _recode(out: _Output, name: str, asked: argparse.Namespace) -> int:
-    if asked.errors == "strict":
-        return _recode_strictly(out, name, asked.from_, asked.to)
-    recoder = Recoder(asked.from_, asked.to, asked.errors)
-    with _open(name) as file:
-        for part in _parts(file):
-            out.write(recoder.feed(part))
-            out.flush()
-    out.write(recoder.finish())
-    return 0
+def _list_line(piece: Piece, data: bytes) -> bytes:
+    front = f"{piece.offset} {piece.length} {data.hex()} "
+    if piece.error is not None:
+        return f"{front}{_kind_name(piece.error)}: {piece.error.reason}\n".encode()
+    char = piece.char or ""
+    return f"{front}U+{ord(char):04X} {'' if is_hidden(char) else char}\n".encode()
 
 
-def _recode_strictly(out: _Output, name: str, from_: str, to: str) -> int:
-    """Writes what is before the first invalid byte, and reports that byte as `check` does."""
-    recoder, front = Recoder(from_, to), _Place()
-    with _open(name) as file:
-        for offset, data, cut in _blocks(file, from_):
-            found = _found_in(form_of(from_), data, cut, offset)
-            first = next(found.places(front), None)
-            out.write(recoder.feed(data[: cut if first is None else first[0] - offset]))
+def _list_json(name: str, piece: Piece, data: bytes) -> bytes:
+    about = {"offset": piece.offset, "length": piece.length, "bytes": data.hex()}
+    if piece.error is not None:
+        return json_line(name, **about, kind=_kind_name(piece.error), reason=piece.error.reason)
+    return json_line(name, **about, scalar=ord(piece.char or ""))
+
+
+def _pieces_line(piece: Piece, data: bytes) -> bytes:
+    what = _kind_name(piece.error) if piece.error is not None else f"{ord(piece.char or ''):06x}"
+    return f"{piece.offset} {piece.length} {what}\n".encode()
+
+
+# ---- fix and recode
+
+
+def _tell_replaced(name: str, encoding: str, count: int, asked: argparse.Namespace) -> None:
+    if count and asked.errors == "replace" and not asked.quiet:
+        complain(name, f"{count} {_noun(encoding, count)} became U+FFFD")
+
+
+def _fix(out: Output, name: str, asked: argparse.Namespace) -> int:
+    from ._fixing import fix
+
+    done = fix(out, name, asked)
+    _tell_replaced(name, done.encoding, done.replaced, asked)
+    return done.status
+
+
+def _recode(out: Output, name: str, asked: argparse.Namespace) -> int:
+    recoder, front = Recoder(asked.encoding, asked.to, "replace" if asked.errors == "strict" else asked.errors), Place()
+    with Input(name, asked.encoding) as it:
+        it.refuse_output()
+        for offset, data, cut in it.blocks():
+            found = found_in(it.encoding, data, cut, offset, 1) if asked.errors == "strict" else None
+            stop = found.faults.offsets[0] - offset if found and found.faults.offsets else cut
+            out.write(recoder.feed(memoryview(data)[:stop]))
             out.flush()
-            if first is not None:
-                _tell(_told(_shown(name), *first))
+            if found and found.faults.offsets:
+                tell(_told(shown(name), offset + stop, FaultKind(found.faults.kinds[0]), front.plus(found.places[0])))
                 return 1
-            front = front.plus(found.end)
+            front = front.plus(found.end) if found else front
+    out.write(recoder.finish())
+    out.flush()
+    _tell_replaced(name, asked.encoding, recoder.replaced, asked)
     return 0
 
 
-def _place_of(name: str, encoding: str, offset: int) -> _Place:
+def _place_of(name: str, encoding: str, offset: int) -> Place:
     """The position of an offset in a file."""
-    place = _Place()
+    from . import parallel
+
+    place = Place()
     for shard in shards(name, parallel.SIZE, encoding):
         for start, data, cut in shard.blocks():
             if start < offset:
-                place = place.plus(_passed(form_of(encoding), bytes(data)[: min(cut, offset - start)]))
+                place = place.plus(passed(form_of(encoding), bytes(data)[: min(cut, offset - start)]))
     return place
 
 
-def _recode_into(asked: argparse.Namespace) -> int:
+def _recode_into(name: str, asked: argparse.Namespace) -> int:
+    from . import parallel
+
     try:
-        parallel.recode(asked.file, asked.output, asked.from_, asked.to, asked.jobs, errors=asked.errors, resume=asked.resume)
+        done = parallel.recode(name, asked.output, asked.encoding, asked.to, asked.jobs, not asked.quiet, errors=asked.errors, resume=asked.resume)
     except FaultError as fault:
-        _tell(_told(_shown(asked.file), fault.offset, fault.error.value, _place_of(asked.file, asked.from_, fault.offset)))
+        tell(_told(shown(name), fault.offset, fault.error, _place_of(name, asked.encoding, fault.offset)))
         return 1
     except (OSError, ImportError, MemoryError) as error:
-        _tell_failure(asked.output, error)
+        complain_of(asked.output, error)
         return 3
+    _tell_replaced(name, asked.encoding, done.replaced, asked)
     return 0
 
 
-def _run_on(out: _Output, name: str, asked: argparse.Namespace) -> int:
-    """The status of a job for one input; one that cannot be read is reported."""
+# ---- the program
+
+
+def _run_on(out: Output, name: str, asked: argparse.Namespace) -> int:
+    if asked.command == "check":
+        return _Checked(out, name, asked).run()
+    if asked.command == "fix":
+        return _fix(out, name, asked)
+    if asked.command == "recode":
+        return _recode(out, name, asked)
+    if asked.command == "pieces":
+        return _listed(out, name, asked.encoding, _pieces_line)
+    return _listed(out, name, asked.encoding, (lambda *it: _list_json(name, *it)) if asked.json else _list_line)
+
+
+def _status_of(out: Output, name: str, asked: argparse.Namespace) -> int:
+    """The status for one input; one that cannot be read is reported."""
     try:
-        if asked.job == "check":
-            return _check(out, name, asked)
-        return _pieces(out, name, asked.encoding) if asked.job == "pieces" else _recode(out, name, asked)
+        return _run_on(out, name, asked)
     except (OSError, ImportError, MemoryError) as error:  # (a URL asks for fsspec)
         out.flush()
-        _tell_failure(name, error)
+        complain_of(name, error)
         return 3
 
 
 def _run(asked: argparse.Namespace) -> int:
-    if asked.job == "recode" and asked.output is not None:
-        return _recode_into(asked)
-    out = _Output()
-    status = max(_run_on(out, name, asked) for name in (asked.file if asked.job == "check" else [asked.file]))
-    out.flush()
+    if asked.output is not None:
+        return _recode_into(asked.files[0], asked)
+    out = Output()
+    try:
+        status = max(_status_of(out, name, asked) for name in asked.files or ["-"])
+        out.flush()
+    except OutputError as error:
+        if not is_closed_pipe(error):
+            complain_of("cannot write", error.args[0])
+        return 3
     return status
 
 
-def _wrong_with(asked: argparse.Namespace) -> Optional[str]:
-    """What is wrong with the words together, or None."""
-    if asked.job != "recode":
-        return None
-    if asked.output is None:
-        return "--jobs and --resume need --output" if asked.jobs > 1 or asked.resume else None
-    if asked.output == "-":
-        return "--output needs the name of a file: without it the text goes to standard output"
-    return "--output needs a FILE" if asked.file == "-" else None
+class _Ended(BaseException):
+    """A signal ends the program, once files that are not finished were removed."""
+
+
+def _end(number: int, frame: Optional[FrameType]) -> NoReturn:
+    raise _Ended(number)
+
+
+def _on_signals() -> None:
+    for name in _SIGNALS:
+        number = getattr(signal, name, None)  # (Windows has few of them)
+        if number is not None and signal.getsignal(number) != signal.SIG_IGN:
+            signal.signal(number, _end)
+
+
+def _said(text: str) -> int:
+    """Writes the answer to --help or --version."""
+    out = Output()
+    out.write(f"{text}\n".encode())
+    try:
+        out.flush()
+    except OutputError:
+        return 3
+    return 0
+
+
+def _run_words(words: list[str]) -> int:
+    command = words[0] if words else ""
+    if command in ("--help", "-h"):
+        return _said(options.help_of_all())
+    if command == "--version":
+        return _said(options.VERSION)
+    if command not in options.COMMANDS:
+        tell(options.SHORT_USAGE.encode())
+        return 2
+    try:
+        asked = options.asked_by(command, words[1:])
+    except options.WrongWords as wrong:
+        tell(b"noddychest: " + shown(str(wrong)))
+        tell(options.usage_of(command).encode())
+        return 2
+    return _said(asked.answer) if asked.answer else _run(asked)
 
 
 def main() -> int:
-    parser = _arguments()
-    asked = parser.parse_args()
-    wrong = _wrong_with(asked)
-    if wrong is not None:
-        parser.error(wrong)
     try:
-        return _run(asked)
-    except _OutputError as error:
-        if error.args[0].errno != errno.EPIPE:  # (nobody reads there any more)
-            _tell_failure("standard output", error.args[0])
-        os.dup2(os.open(os.devnull, os.O_WRONLY), 1)  # (nothing more is written at the end)
-    except KeyboardInterrupt:
-        signal.signal(signal.SIGINT, signal.SIG_DFL)
-        os.kill(os.getpid(), signal.SIGINT)
-    return 3
+        _on_signals()
+        open_streams()
+        return _run_words(sys.argv[1:])
+    except _Ended as ended:
+        number = ended.args[0]
+        signal.signal(number, signal.SIG_DFL)
+        os.kill(os.getpid(), number)
+        return 3
 
 
 if __name__ == "__main__":

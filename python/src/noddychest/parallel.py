@@ -333,15 +333,17 @@ def _beside(target: str, end: str) -> str:
 
 @contextlib.contextmanager
 def partial(target: str, name: Optional[str], last_look: Callable[[], None]) -> Iterator[int]:
-    """A file beside the target, that gets its name at the end, if the last look raises nothing. Without a name of its own it goes away if
-    anything fails."""
-    path = _beside(target, f".{name or secrets.token_hex(8)}.partial")
-    file = os.open(path, os.O_RDWR | os.O_CREAT | os.O_NOFOLLOW | os.O_CLOEXEC | (0 if name else os.O_EXCL), 0o666)
+    """A file beside the target, that gets its name at the end, if the last look raises nothing, and its permissions. Without a name of its
+    own it goes away if anything fails, also if a signal raises something at any moment."""
+    path, file = _beside(target, f".{name or secrets.token_hex(8)}.partial"), -1
+    about = os.stat(target) if os.path.exists(target) else None
     try:
+        flags = os.O_RDWR | os.O_CREAT | os.O_NOFOLLOW | os.O_CLOEXEC | (0 if name else os.O_EXCL)
+        file = os.open(path, flags, 0o666 if about is None else 0o600)
         if name is not None:
             _lock(file, path)
-        if os.path.exists(target):
-            os.fchmod(file, os.stat(target).st_mode & 0o7777)
+        if about is not None:
+            os.fchmod(file, _take_owner(file, about))
         yield file
         os.fsync(file)  # (this takes long, so the look comes after it)
         last_look()
@@ -349,9 +351,23 @@ def partial(target: str, name: Optional[str], last_look: Callable[[], None]) -> 
         path = ""
         sync_folder(os.path.dirname(target))
     finally:
-        os.close(file)
+        if file >= 0:
+            os.close(file)
         if path and name is None:
-            os.remove(path)
+            with contextlib.suppress(FileNotFoundError):
+                os.remove(path)
+
+
+def _take_owner(file: int, about: os.stat_result) -> int:
+    """Gives a file the owner and the group of another one, as far as that is allowed, and returns the permissions that it may then have:
+    never set-user-ID or set-group-ID for an owner or a group that is not the other file's."""
+    for owner in (about.st_uid, -1):
+        with contextlib.suppress(OSError):
+            os.fchown(file, owner, about.st_gid)
+            break
+    now = os.fstat(file)
+    is_same = (now.st_uid, now.st_gid) == (about.st_uid, about.st_gid)
+    return about.st_mode & (0o7777 if is_same else 0o1777)
 
 
 def _lock(file: int, path: str) -> None:

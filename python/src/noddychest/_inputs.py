@@ -1,0 +1,178 @@
+"""What the program reads: inputs in blocks, and the invalid bytes of a block with their lines and columns."""
+from __future__ import annotations
+
+import array
+import os
+import select
+import stat
+from collections.abc import Iterator
+from typing import NamedTuple
+
+from . import _noddychest
+from ._names import STANDARD, form_of
+from ._options import AUTO
+from ._outputs import wait_for
+from ._pieces import boundary_before, encoding_of_bom
+from ._shards import BLOCK, Faults, arrays
+
+_LONGEST_BOM = 3
+_FLAGS = os.O_RDONLY | getattr(os, "O_CLOEXEC", 0) | getattr(os, "O_NOCTTY", 0) | getattr(os, "O_BINARY", 0)
+_AHEAD = 4  # the bytes after a block that tell why its last bytes are invalid
+_LINE_FEEDS = ("\n".encode(), "\n".encode("utf-16-le"), "\n".encode("utf-16-be"))
+
+
+class InputError(OSError):
+    """An input that cannot be read, for a reason of the program's own."""
+
+    def __init__(self, name: str, why: str) -> None:
+        super().__init__(None, why, name)
+
+
+class Input:
+    """An input, which is read once, in blocks. `about` is what it was when it was opened. One that is to be replaced has to be a file, and no
+    pipe is waited for."""
+
+    def __init__(self, name: str, encoding: str, *, is_replaced: bool = False) -> None:
+        self.name, self._front, self._has_ended = name, b"", False
+        self.file = 0 if name == "-" else os.open(name, _FLAGS | (os.O_NONBLOCK if is_replaced else 0))
+        try:
+            self.about = os.fstat(self.file)
+            if is_replaced and not self.is_file:
+                raise InputError(name, "it is a folder" if stat.S_ISDIR(self.about.st_mode) else "it is no regular file")
+            self._origin = os.lseek(self.file, 0, os.SEEK_CUR) if self.is_file else 0  # (of standard input)
+            self.encoding = self._encoding_by_bom() if encoding == AUTO else STANDARD[form_of(encoding)]
+        except BaseException:
+            self.close()
+            raise
+
+    def __enter__(self) -> Input:
+        return self
+
+    def __exit__(self, *_: object) -> None:
+        self.close()
+
+    def close(self) -> None:
+        if self.file != 0:
+            os.close(self.file)
+
+    @property
+    def is_file(self) -> bool:
+        return stat.S_ISREG(self.about.st_mode)
+
+    def refuse_output(self) -> None:
+        """Raises InputError for a file to which standard output goes: it might never end."""
+        if self.is_file and self.about.st_size > 0 and os.path.samestat(self.about, os.fstat(1)):
+            raise InputError(self.name, "it is the output too")
+
+    def rewind(self) -> None:
+        os.lseek(self.file, 0, os.SEEK_SET)
+        self.about, self._front, self._has_ended = os.fstat(self.file), b"", False
+
+    def read_at(self, offset: int, size: int) -> bytes:
+        """The bytes of a file from an offset on: fewer only at its end."""
+        found = b""
+        while len(found) < size:
+            more = os.pread(self.file, size - len(found), self._origin + offset + len(found))
+            if not more:
+                break
+            found += more
+        return found
+
+    def blocks(self) -> Iterator[tuple[int, bytes, int]]:
+        """Bytes, the offset at which they begin, and how many of them are to be taken: those after them tell why one is invalid."""
+        offset, data = 0, b""
+        while part := self._next():
+            data += part
+            cut = boundary_before(data, max(len(data) - _AHEAD, 0), self.encoding)
+            yield offset, data, cut
+            offset, data = offset + cut, data[cut:]
+        yield offset, data, len(data)
+        if self.is_file and os.fstat(self.file).st_size < self.about.st_size:
+            raise InputError(self.name, "it became shorter while it was read")
+
+    def _encoding_by_bom(self) -> str:
+        while len(self._front) < _LONGEST_BOM and (part := self._read()):
+            self._front += part
+        return encoding_of(self._front)
+
+    def _next(self) -> bytes:
+        front, self._front = self._front, b""
+        return front or self._read()
+
+    def _read(self) -> bytes:
+        """Some bytes; none at the end, for which a terminal is asked only once."""
+        while not self._has_ended:
+            try:
+                part = os.read(self.file, BLOCK)
+                self._has_ended = not part
+                return part
+            except BlockingIOError:
+                wait_for(self.file, select.POLLIN)
+        return b""
+
+
+def encoding_of(front: bytes) -> str:
+    """The encoding of the byte order mark, or UTF-8."""
+    mark = encoding_of_bom(front)
+    return STANDARD[0] if mark is None else mark[0]
+
+
+# ---- places ----
+
+
+class Place(NamedTuple):
+    """A position in text, relative to another one: a number of lines, and then of columns in the last line."""
+
+    lines: int = 0
+    columns: int = 0
+
+    def plus(self, more: Place) -> Place:
+        return Place(self.lines + more.lines, more.columns if more.lines else self.columns + more.columns)
+
+
+def line_start(form: int, data: bytes) -> int:
+    """Where the last line of some bytes begins."""
+    feed = _LINE_FEEDS[form]
+    at = data.rfind(feed)
+    while at >= 0 and at % len(feed):  # (it lies in two units)
+        at = data.rfind(feed, 0, at + 1)
+    return 0 if at < 0 else at + len(feed)
+
+
+def line_end(form: int, data: bytes, at: int) -> int:
+    """Where the line that covers an offset ends, before its line feed."""
+    feed = _LINE_FEEDS[form]
+    end = data.find(feed, at)
+    while end >= 0 and end % len(feed):
+        end = data.find(feed, end + 1)
+    return len(data) if end < 0 else end
+
+
+def passed(form: int, data: bytes, columns: str = "characters") -> Place:
+    """The position after bytes that begin and end between pieces. A column is a piece or a byte."""
+    count, lines = _noddychest.counts(form, data)
+    start = line_start(form, data) if lines else 0
+    if columns == "bytes":
+        return Place(lines, len(data) - start)
+    return Place(lines, _noddychest.char_count(form, data[start:]) if lines else count)
+
+
+class Found(NamedTuple):
+    """The invalid bytes of a block, with their offsets in the whole input; the positions of the first of them, counted from the front of the
+    block; and where the block ends."""
+
+    faults: Faults
+    places: list[Place]
+    end: Place
+
+
+def found_in(encoding: str, data: bytes, end: int, base: int, most: int, columns: str = "characters") -> Found:
+    """What is invalid in a block up to `end`; it begins at the offset `base`. Of at most `most` the positions are found, or of all if it is 0."""
+    form = form_of(encoding)
+    found = Found(arrays(form, data, end, base), [], Place())
+    place, counted = Place(), 0
+    offsets: array.array[int] = found.faults.offsets[:most] if most else found.faults.offsets
+    for offset in offsets:
+        place, counted = place.plus(passed(form, data[counted : offset - base], columns)), offset - base
+        found.places.append(place)
+    return found._replace(end=place.plus(passed(form, data[counted:end], columns)))
