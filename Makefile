@@ -13,7 +13,7 @@
 #   make clean       removes what was built
 #
 # CC, CPPFLAGS, CFLAGS and LDFLAGS are as usual; `make CC=aarch64-linux-gnu-gcc` builds for ARM. `make CC=x86_64-w64-mingw32-gcc` builds for
-# Windows: libnoddychest.a, noddychest.dll with its import library libnoddychest.dll.a, pieces.exe and recode.exe. On a Mac it builds
+# Windows: libnoddychest.a, noddychest.dll with its import library libnoddychest.dll.a, pieces.exe, recode.exe and nody.exe. On a Mac it builds
 # libnoddychest.1.dylib, libnoddychest.a and the programs, for the other CPU with CFLAGS='-O2 -arch x86_64' (python3 is needed).
 # CURSES=no builds nody without `nody view`, which needs ncurses. BUILD is the folder of the output. `make check` puts RUN before each
 # program that it runs, as in `make check RUN=qemu-aarch64-static`; LANES is the expected result of nody_lanes() there, 16 or 32.
@@ -52,14 +52,16 @@ MACHINE := $(shell $(CC) -dumpmachine 2>/dev/null)
 TEXT = cp
 PROTECTED = -fcf-protection
 DYNAMIC = $(IN)/libnoddychest.so.1
-# (nody asks for POSIX)
-NODY = $(IN)/nody
+# (windows.c has nothing in it for other systems)
+SOURCES := $(wildcard c/nody/*.c)
 ifneq ($(findstring mingw,$(MACHINE)),)
 SYSTEM = -windows
 EXE = .exe
 PROTECTED =
 DYNAMIC = $(IN)/noddychest.dll
-NODY =
+SOURCES := $(filter-out %/follow.c %/posix.c %/rows.c %/seek.c %/text.c,$(SOURCES))
+WINDOWS = -D_FILE_OFFSET_BITS=64 -municode -static -lshlwapi
+CURSES = no
 endif
 ifneq ($(findstring apple,$(MACHINE)),)
 TEXT = scripts/macho
@@ -70,7 +72,7 @@ endif
 # A text as one word of the shell, whatever it has.
 QUOTED = '$(subst ','\'',$(1))'
 
-all: $(IN)/libnoddychest.a $(DYNAMIC) $(IN)/pieces$(EXE) $(IN)/recode$(EXE) $(NODY)
+all: $(IN)/libnoddychest.a $(DYNAMIC) $(IN)/pieces$(EXE) $(IN)/recode$(EXE) $(IN)/nody$(EXE)
 
 # The CPU, and with what all is compiled: another compiler, or other flags, make all anew.
 $(IN)/target: always
@@ -171,10 +173,10 @@ $(IN)/curses: $(IN)/target
 			echo -DNODY_CURSES $$it >"$@" && break; \
 		fi; \
 	done; rm -f "$@.o" "$@.c"; \
-	if [ ! -s "$@" ]; then echo "make: nody is built without view: CURSES is no, or ncurses is not there (Debian: libncurses-dev)" >&2; fi
+	if [ ! -s "$@" ] && [ -z "$(WINDOWS)" ]; then echo "make: nody is built without view: CURSES is no, or ncurses is not there (Debian: libncurses-dev)" >&2; fi
 
-$(IN)/nody: $(wildcard c/nody/*) c/noddychest.h $(IN)/libnoddychest.a $(IN)/curses
-	$(COMPILE) -std=c99 -Ic -o "$@" c/nody/*.c "$(BUILD)/libnoddychest.a" -pthread `cat "$(BUILD)/curses"` $(LDFLAGS)
+$(IN)/nody$(EXE): $(wildcard c/nody/*) c/noddychest.h $(IN)/libnoddychest.a $(IN)/curses
+	$(COMPILE) -std=c99 -Ic -o "$@" $(SOURCES) "$(BUILD)/libnoddychest.a" -pthread `cat "$(BUILD)/curses"` $(WINDOWS) $(LDFLAGS)
 
 check: all
 	@COMPILE='$(COMPILE)' LDFLAGS='$(LDFLAGS)' RUN='$(RUN)' LANES='$(LANES)' sh c/tests/all "$(BUILD)"

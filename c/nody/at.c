@@ -2,7 +2,6 @@
 #include "nody.h"
 
 #include <string.h>
-#include <unistd.h>
 
 /* Pieces before and after the requested one, and a number of bytes before it that is sure to contain the former. */
 enum { AROUND = 3, BEFORE = 64 };

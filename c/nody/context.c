@@ -1,10 +1,8 @@
 /* The line around an invalid byte, as people see it: invalid bytes as \xE9, a mark under the first, and nothing that commands a terminal. */
 #include "nody.h"
 
-#include <stdio.h>
 #include <stdlib.h>
 #include <string.h>
-#include <sys/ioctl.h>
 
 /* Bytes that are looked at before and after the invalid one, and the most columns that are filled. */
 enum { REACH = 4096, MOST_WIDTH = 400, INDENT = 4 };
@@ -35,10 +33,9 @@ void set_context(struct request *request, const struct output *out) {
 }
 
 static size_t width_of_output(const struct output *out) {
-    struct winsize size;
     const char *told = getenv("COLUMNS");
-    size_t width = told ? (size_t)strtoul(told, NULL, 10) : 80;
-    if (ioctl(out->file, TIOCGWINSZ, &size) == 0 && size.ws_col > 0) width = size.ws_col;
+    size_t width = width_of_terminal(out->file);
+    if (!width) width = told ? (size_t)strtoul(told, NULL, 10) : 80;
     return width < 20 ? 20 : width > MOST_WIDTH ? MOST_WIDTH : width;
 }
 

@@ -2,7 +2,6 @@
 #include "nody.h"
 
 #include <string.h>
-#include <unistd.h>
 
 static void find_first(struct worker *worker) {
     find_invalid(worker, 1, false);

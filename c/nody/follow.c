@@ -1,13 +1,10 @@
 /* nody check --follow: several files, each by its name, as tail -F does: what is added, and the next file that gets the name. */
 #include "nody.h"
 
-#include <errno.h>
-#include <poll.h>
 #include <signal.h>
 #include <stdlib.h>
 #include <string.h>
 #include <time.h>
-#include <unistd.h>
 #ifdef __linux__
 #include <sys/inotify.h>
 #endif

@@ -1,19 +1,13 @@
 /* The names of the inputs: from the command line, from a list, and in folders. */
 #include "nody.h"
 
-#include <dirent.h>
-#include <errno.h>
-#include <fcntl.h>
-#include <fnmatch.h>
-#include <stdio.h>
 #include <stdlib.h>
 #include <string.h>
-#include <unistd.h>
 
 /* Returns true if a GLOB fits the name, or what follows a slash in it. */
 static bool is_excluded(const struct request *request, const char *name) {
     for (size_t i = 0; i < request->excluded_count; i++)
-        for (const char *tail = name; tail; tail = strchr(tail, '/') ? strchr(tail, '/') + 1 : NULL)
+        for (const char *tail = name, *end; tail; tail = (end = strpbrk(tail, SEPARATORS)) ? end + 1 : NULL)
             if (fnmatch(request->excluded[i], tail, 0) == 0) return true;
     return false;
 }
@@ -24,7 +18,8 @@ struct names {
     size_t count, room;
 };
 
-static bool add_name(struct names *names, const char *name) {
+static bool add_name(void *to, const char *name) {
+    struct names *names = to;
     if (names->count == names->room) {
         size_t room = 2 * names->room + 16;
         char **all = realloc(names->all, room * sizeof *all);
@@ -42,29 +37,22 @@ static int order_of_names(const void *a, const void *b) {
 
 /* Reads the names in a folder, in order; returns false and sets `errno` if that fails. The folder is closed before another one is opened,
  * so that depth takes no descriptors. */
-static bool read_names(const char *folder, int flags, struct names *names) {
-    int file = open(folder, O_RDONLY | O_DIRECTORY | O_CLOEXEC | flags);
-    DIR *open = file < 0 ? NULL : fdopendir(file);
-    if (!open) return false;
-    bool is_whole = true;
-    errno = 0;
-    for (struct dirent *entry; is_whole && (entry = readdir(open)); errno = 0)
-        if (strcmp(entry->d_name, ".") != 0 && strcmp(entry->d_name, "..") != 0) is_whole = add_name(names, entry->d_name);
+static bool read_names(const char *folder, enum found_how how, struct names *names) {
+    bool is_whole = read_folder(folder, how == IS_NAMED, add_name, names);
     int error = errno;
-    closedir(open);
     if (names->count) qsort(names->all, names->count, sizeof *names->all, order_of_names);
     errno = error;
-    return is_whole && error == 0;
+    return is_whole;
 }
 
 static char *path_of(const char *folder, const char *name) {
     size_t len = strlen(folder);
     char *path = malloc(len + strlen(name) + 2);
-    if (path) sprintf(path, len > 0 && folder[len - 1] == '/' ? "%s%s" : "%s/%s", folder, name);
+    if (path) sprintf(path, len > 0 && strchr(SEPARATORS, folder[len - 1]) ? "%s%s" : "%s/%s", folder, name);
     return path;
 }
 
-static void visit_folder(struct inputs *inputs, const char *folder, int flags);
+static void visit_folder(struct inputs *inputs, const char *folder, enum found_how how);
 
 /* Visits a regular file that was found in a folder, or goes into another folder. Links, pipes, devices and sockets are passed over. */
 static void visit_found(struct inputs *inputs, const char *path) {
@@ -73,15 +61,15 @@ static void visit_found(struct inputs *inputs, const char *path) {
     if (lstat(path, &about) != 0) {
         if (errno != ENOENT) inputs->fail(inputs, path, strerror(errno));
     } else if (S_ISDIR(about.st_mode)) {
-        visit_folder(inputs, path, O_NOFOLLOW);
+        visit_folder(inputs, path, IS_FOUND);
     } else if (S_ISREG(about.st_mode)) {
         inputs->visit(inputs, path, IS_FOUND);
     }
 }
 
-static void visit_folder(struct inputs *inputs, const char *folder, int flags) {
+static void visit_folder(struct inputs *inputs, const char *folder, enum found_how how) {
     struct names names = {NULL, 0, 0};
-    if (!read_names(folder, flags, &names)) inputs->fail(inputs, folder, strerror(errno));
+    if (!read_names(folder, how, &names)) inputs->fail(inputs, folder, strerror(errno));
     for (size_t i = 0; i < names.count; i++) {
         char *path = inputs->has_ended(inputs) ? NULL : path_of(folder, names.all[i]);
         if (path) visit_found(inputs, path);
@@ -95,7 +83,7 @@ static void visit_named(struct inputs *inputs, const char *name) {
     struct stat about;
     if (is_excluded(inputs->request, name)) return;
     if (inputs->request->is_recursive && strcmp(name, "-") != 0 && stat(name, &about) == 0 && S_ISDIR(about.st_mode)) {
-        visit_folder(inputs, name, 0);
+        visit_folder(inputs, name, IS_NAMED);
         inputs->end_folder(inputs, name);
     } else {
         inputs->visit(inputs, name, IS_NAMED);

@@ -1,14 +1,9 @@
 /* nody: checks, lists, counts and converts text in UTF-8 and UTF-16, whatever is wrong with it. The man page has the words. */
 #include "nody.h"
 
-#include <errno.h>
-#include <fcntl.h>
 #include <getopt.h>
-#include <signal.h>
-#include <stdio.h>
 #include <stdlib.h>
 #include <string.h>
-#include <unistd.h>
 
 static struct output out;
 
@@ -112,15 +107,9 @@ static enum status run_all(struct request *request, int count, char **files) {
     static char *input[] = {"-"};
     struct inputs inputs = {request, visit_input, fail_input, end_folder, has_ended, IS_VALID, 0};
     if (request->bit == AT) request->where = files[--count];
-    if (request->is_followed) inputs.status = run_followed(request, &out, count ? count : 1, count ? files : input);
+    if (!IS_WINDOWS && request->is_followed) inputs.status = run_followed(request, &out, count ? count : 1, count ? files : input);
     else visit_inputs(&inputs, count, files);
     return end_output(inputs.status);
-}
-
-/* Closed streams are opened, so that no file gets their numbers; to read or to write them still fails. */
-static void open_streams(void) {
-    for (int file = 0; file < 3; file++)
-        if (fcntl(file, F_GETFD) < 0 && open("/dev/null", file == 0 ? O_WRONLY : O_RDONLY) != file) exit(HAS_FAILED);
 }
 
 static int show_alone(const char *word) {
@@ -153,15 +142,13 @@ static enum status run_command(int argc, char **argv) {
 
 int main(int argc, char **argv) {
     const char *word = argc > 1 ? argv[1] : "";
-    open_streams();
+    start_system();
+    set_widths();
     if (!nody_supported() || !open_output(&err, STDERR_FILENO)) {
         fputs(nody_supported() ? "nody: there is no memory\n" : "nody: this processor lacks x86-64-v2\n", stderr);
         return HAS_FAILED;
     }
     err.is_shown = false; /* (who writes there takes the bar away first) */
-    signal(SIGPIPE, SIG_IGN);
-    signal(SIGXFSZ, SIG_IGN);
-    set_widths();
     if (strcmp(word, "--version") == 0 || strcmp(word, "--help") == 0 || strcmp(word, "-h") == 0) return show_alone(word);
     command = command_of(word);
     if (!command) {

@@ -7,7 +7,7 @@
  *   source.c     reads blocks                      follow.c    nody check --follow
  *   workers.c    threads over blocks, in order     count.c     nody count
  *   output.c     buffered output                   list.c      nody list
- *   files.c      files that are replaced           at.c        nody at
+ *   system.h     the system: posix.c, windows.c    at.c        nody at
  *   replace.c    writes a file anew, or in place   recode.c    nody recode
  *   progress.c   the progress bar                  fix.c       nody fix
  *   text.h       what nody view is made of         view.c      nody view
@@ -25,10 +25,7 @@
 #endif
 
 #include "noddychest.h"
-
-#include <stdbool.h>
-#include <sys/stat.h>
-#include <sys/types.h>
+#include "system.h"
 
 /* The size of a read, or one byte more if blocks are read independently. (tests compile the program with a few bytes, so that blocks end
  * everywhere) */
@@ -147,20 +144,6 @@ bool is_shown(uint32_t scalar);
 enum { SHOWN_ROOM = 16 };
 size_t show_piece(char *shown, const char *bytes, const nody_piece_t *piece);
 
-/* A file that is written next to its final name, and gets that name once all is written. */
-struct replacement {
-    char *name, *temporary;
-    bool is_direct; /* the name is a device or a pipe, which is written as it is */
-    int file;
-};
-
-bool open_replacement(struct replacement *it, const char *name, bool is_in_place);
-bool flush_replacement(struct replacement *it);
-bool keep_replacement(struct replacement *it);
-void drop_replacement(struct replacement *it);
-int descriptor_of(const char *name);
-void on_signals(const int *numbers, size_t count, void (*act)(int number));
-
 /* ---- Input */
 
 struct source {
@@ -203,6 +186,20 @@ bool is_source_unchanged(const struct source *source, const char *name);
 void close_source(struct source *source);
 uint64_t size_of_source(const struct source *source);
 bool is_shorter_now(const struct source *source);
+
+/* A file that is written next to its final name, and gets that name once all is written. */
+struct replacement {
+    char *name, *temporary;
+    bool is_direct; /* the name is a device or a pipe, which is written as it is */
+    int file;
+};
+
+bool make_temporary(struct replacement *it, const struct stat *about);
+bool flush_replacement(struct replacement *it);
+bool keep_replacement(struct replacement *it, struct source *replaced);
+void drop_replacement(struct replacement *it);
+int descriptor_of(const char *name);
+void on_signals(const int *numbers, size_t count, void (*act)(int number));
 
 /* ---- Pieces */
 

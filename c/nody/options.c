@@ -1,9 +1,7 @@
 /* Commands and options: what the command line may say, and the help about it. */
 #include "nody.h"
 
-#include <errno.h>
 #include <getopt.h>
-#include <stdio.h>
 #include <stdlib.h>
 #include <string.h>
 
@@ -96,13 +94,14 @@ static void show_command(const struct command_spec *command) {
     show_usage(stdout, command);
     printf("%s.\n\n", command->help);
     for (int i = 0; i < SPECS; i++)
-        if (specs[i].takers & (unsigned)command->bit && specs[i].help) show_option(&specs[i]);
+        if (specs[i].takers & (unsigned)command->bit && specs[i].help && !(IS_WINDOWS && specs[i].value == FOLLOW)) show_option(&specs[i]);
     printf("\nExit status: %s, 2 wrong arguments, 3 a file could not be read or written. man nody has more.\n", command->statuses);
 }
 
 void show_help(void) {
     puts("usage: nody COMMAND [OPTION..] [FILE..]\n");
-    for (int i = 0; i < COMMANDS; i++) printf("  nody %-8s %s\n", commands[i].name, commands[i].help);
+    for (int i = 0; i < COMMANDS; i++)
+        if (!(IS_WINDOWS && commands[i].bit == VIEW)) printf("  nody %-8s %s\n", commands[i].name, commands[i].help);
     puts("\nnody COMMAND --help lists the options of a command, and man nody has the rest.");
 }
 
@@ -215,13 +214,13 @@ static void complain_of_value(const char *option, const char *value) {
 
 /* Says what getopt_long found wrong: no such option, whose word it took last or whose letter is `optopt`; or a value that lacks, or is too
  * many. (its own messages have the word as it is, which may be the name of a file that commands a terminal) */
-static void complain_of_option(int found, const char *last) {
+static void complain_of_option(const char *last) {
     const char letter[] = {'-', (char)optopt, 0};
     const struct spec *known = optopt ? spec_of(optopt) : NULL;
     put_text(&err, "nody: ");
     put_text(&err, known ? "--" : "there is no option '");
     put_name(&err, known ? known->name : optopt ? letter : last);
-    put_text(&err, !known ? "'\n" : found == ':' ? " needs a value\n" : " takes no value\n");
+    put_text(&err, !known ? "'\n" : known->argument ? " needs a value\n" : " takes no value\n");
     flush_output(&err);
 }
 
@@ -247,7 +246,7 @@ static bool takes_options(struct request *request, const struct command_spec *co
     list_options(options, letters);
     for (int option; (option = getopt_long(argc, argv, letters, options, NULL)) != -1;) {
         if (option == '?' || option == ':') {
-            complain_of_option(option, argv[optind - 1]);
+            complain_of_option(argv[optind - 1]);
             return false;
         }
         if (!(spec_of(option)->takers & (unsigned)command->bit)) {
@@ -270,6 +269,8 @@ static bool takes_options(struct request *request, const struct command_spec *co
 static const char *wrong_with(const struct request *request, int count, char **files) {
     bool has_input = false;
     for (int i = 0; i < count; i++) has_input |= strcmp(files[i], "-") == 0;
+    if (IS_WINDOWS && request->bit == VIEW) return "view is not there on Windows";
+    if (IS_WINDOWS && request->is_followed) return "--follow is not there on Windows";
     if (request->bit == AT && count != 2) return "at takes a FILE and an OFFSET, or LINE:COLUMN";
     if (request->bit == VIEW && count > 1) return "view takes one FILE";
     if (request->bit == FIX && (count == 0 || has_input)) return "fix takes files";

@@ -1,11 +1,8 @@
 /* Output in a buffer, and names as messages show them. */
 #include "nody.h"
 
-#include <errno.h>
-#include <poll.h>
 #include <stdlib.h>
 #include <string.h>
-#include <unistd.h>
 
 enum { ROOM = 1 << 16 };
 
@@ -15,7 +12,7 @@ bool open_output(struct output *out, int file) {
     out->file = file;
     out->error = 0;
     out->len = 0;
-    out->is_shown = isatty(file) == 1;
+    out->is_shown = isatty(file) > 0;
     out->room = malloc(ROOM);
     return out->room != NULL;
 }

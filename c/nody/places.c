@@ -4,7 +4,6 @@
 
 #include <locale.h>
 #include <string.h>
-#include <wchar.h>
 
 enum { TAB = 8 };
 
@@ -15,7 +14,7 @@ void set_widths(void) {
 
 /* How many cells a character takes on a terminal, at most two. A control takes one here. */
 unsigned width_of(uint32_t scalar) {
-    int width = scalar < 0x80 ? 1 : wcwidth((wchar_t)scalar);
+    int width = scalar < 0x80 ? 1 : wcwidth((int)scalar);
     return width < 0 ? 1 : (unsigned)width;
 }
 

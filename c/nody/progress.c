@@ -1,12 +1,8 @@
 /* The progress bar: on standard error, if that is a terminal, once a second has passed. */
 #include "nody.h"
 
-#include <stdio.h>
 #include <stdlib.h>
 #include <string.h>
-#include <sys/ioctl.h>
-#include <time.h>
-#include <unistd.h>
 
 /* (in seconds) */
 static const double before_first = 1, between = 0.2;
@@ -23,19 +19,13 @@ static double now(void) {
 /* Whether standard error is a terminal that can go back in a line. */
 static bool can_go_back(void) {
     const char *kind = getenv("TERM");
-    return isatty(STDERR_FILENO) == 1 && !(kind && strcmp(kind, "dumb") == 0);
+    return isatty(STDERR_FILENO) > 0 && !(kind && strcmp(kind, "dumb") == 0);
 }
 
 void start_progress(bool is_quiet) {
     is_wanted = !is_quiet && can_go_back();
     if (is_wanted) begun = now();
     said = begun + before_first - between;
-}
-
-/* How many columns the terminal has. */
-static size_t columns(void) {
-    struct winsize size;
-    return ioctl(STDERR_FILENO, TIOCGWINSZ, &size) == 0 && size.ws_col > 0 ? size.ws_col : 80;
 }
 
 /* A number of bytes, as 1.5 GB. */
@@ -77,7 +67,7 @@ static void tell_state(char *out, size_t room, const struct run *run, double sec
 static void say(const struct run *run, double seconds) {
     enum { MOST_WIDTH = 30, MOST_NAME = 60, LEAST_NAME = 8 };
     char state[192];
-    size_t most = columns() - 1;
+    size_t width = width_of_terminal(STDERR_FILENO), most = (width ? width : 80) - 1;
     tell_state(state, sizeof state, run, seconds, MOST_WIDTH);
     if (strlen(state) + LEAST_NAME > most) tell_state(state, sizeof state, run, seconds, 0);
     size_t len = strlen(state) < most ? strlen(state) : most, left = most - len;

@@ -1,7 +1,6 @@
 /* nody recode: converts from one encoding to another, to standard output, to a file, or in place. */
 #include "nody.h"
 
-#include <errno.h>
 #include <string.h>
 
 static void replace_each(struct worker *worker, const uint8_t *bytes, size_t len) {

@@ -1,10 +1,8 @@
 /* Writes a file anew: another one, or the input itself, which is locked, checked once more, and replaced atomically. */
 #include "nody.h"
 
-#include <errno.h>
 #include <stdlib.h>
 #include <string.h>
-#include <unistd.h>
 
 static const char changed[] = "it changed while it was read, and stays as it is";
 
@@ -25,6 +23,22 @@ static bool is_onto_itself(const struct run *run, const char *into) {
     return strcmp(into, run->source.name) == 0 || (stat(into, &about) == 0 && is_source(&run->source, &about));
 }
 
+/* Opens what will have the name. If that is a link, what it leads to is replaced, and no link: one that leads nowhere fails. In place a
+ * file is replaced that may not be written, if its folder may. */
+static bool open_replacement(struct replacement *it, const char *name, bool is_in_place) {
+    struct stat about, link;
+    bool is_there = stat(name, &about) == 0, is_link = lstat(name, &link) == 0 && S_ISLNK(link.st_mode);
+    memset(it, 0, sizeof *it);
+    it->file = -1;
+    it->is_direct = is_there && !S_ISREG(about.st_mode);
+    if (is_there && !is_in_place && faccessat(AT_FDCWD, name, W_OK, AT_EACCESS) != 0) return false;
+    it->name = is_link ? realpath(name, NULL) : strdup(name);
+    if (!it->name) return false;
+    if (!it->is_direct) return make_temporary(it, is_there ? &about : NULL);
+    it->file = open(name, O_WRONLY | O_CLOEXEC);
+    return it->file >= 0;
+}
+
 /* Gives the old file another name, which must be free, and then the new file its name. */
 static enum status keep_both(struct run *run, struct replacement *new, const char *into) {
     char *old = malloc(strlen(new->name) + strlen(run->request->backup) + 1);
@@ -34,7 +48,7 @@ static enum status keep_both(struct run *run, struct replacement *new, const cha
     bool is_linked = link(new->name, old) == 0;
     enum status status = is_linked ? IS_VALID : fails(old);
     if (is_linked && !(is_source_linked(&run->source) && is_source_unchanged(&run->source, new->name))) status = refuses(into, changed);
-    if (status == IS_VALID && !keep_replacement(new)) status = fails(into);
+    if (status == IS_VALID && !keep_replacement(new, &run->source)) status = fails(into);
     if (status != IS_VALID && is_linked) unlink(old);
     free(old);
     return status;
@@ -47,7 +61,7 @@ static enum status keep(struct run *run, struct replacement *new, const char *in
     if (!is_left && !flush_replacement(new)) return fails(into);
     if (is_itself && !is_source_unchanged(&run->source, new->name)) return refuses(into, changed);
     if (is_left) return IS_VALID;
-    return run->request->backup ? keep_both(run, new, into) : keep_replacement(new) ? IS_VALID : fails(into);
+    return run->request->backup ? keep_both(run, new, into) : keep_replacement(new, &run->source) ? IS_VALID : fails(into);
 }
 
 /* Writes the output of a command into a file, which is replaced only when all was written. */

@@ -1,7 +1,6 @@
 /* Rows of a text on a screen: from any offset, forward and backward, whatever the length of the lines. */
 #include "text.h"
 
-#include <stdio.h>
 #include <string.h>
 
 enum { TAB = 8 };

@@ -1,12 +1,7 @@
 /* Reads an input in blocks. What the next bytes decide is held from block to block. */
 #include "nody.h"
 
-#include <errno.h>
-#include <fcntl.h>
-#include <poll.h>
 #include <string.h>
-#include <sys/file.h>
-#include <unistd.h>
 
 #ifdef __APPLE__
 #define st_mtim st_mtimespec

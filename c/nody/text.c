@@ -1,27 +1,14 @@
 /* The bytes of a text, which are read in blocks on demand. A pipe is copied into a temporary file. */
 #include "text.h"
 
-#include <errno.h>
-#include <fcntl.h>
-#include <poll.h>
-#include <stdio.h>
 #include <stdlib.h>
 #include <string.h>
-#include <unistd.h>
 
 /* Reads the window around an offset. */
 static void fill_window(struct text *text, uint64_t offset) {
+    const struct source whole = {.file = text->file};
     text->at = offset < WINDOW_ROOM / 4 ? 0 : (offset - WINDOW_ROOM / 4) & ~(uint64_t)(CUT - 1);
-    text->len = 0;
-    while (text->len < WINDOW_ROOM) {
-        ssize_t count = pread(text->file, text->window + text->len, WINDOW_ROOM - text->len, (off_t)(text->at + text->len));
-        if (count < 0 && errno == EINTR) continue;
-        if (count <= 0) {
-            text->error = count < 0 ? errno : 0;
-            break;
-        }
-        text->len += (size_t)count;
-    }
+    text->len = read_at(&whole, text->window, WINDOW_ROOM, text->at, &text->error);
 }
 
 /* Returns the bytes from an offset on. `got` is how many they are: `len`, at most NEAR_ROOM, or fewer at the end. */

@@ -14,13 +14,9 @@ enum status run_view(struct run *run) {
 #include "text.h"
 
 #include <curses.h>
-#include <errno.h>
-#include <poll.h>
 #include <signal.h>
-#include <stdio.h>
 #include <stdlib.h>
 #include <string.h>
-#include <unistd.h>
 
 /* How far a pipe is read beyond the screen; how many bytes of lines are counted before the screen is drawn, and between two looks at the keys;
  * and how often a file is looked at, in milliseconds. */

@@ -2,10 +2,8 @@
  * reports the results in order. */
 #include "nody.h"
 
-#include <pthread.h>
 #include <stdlib.h>
 #include <string.h>
-#include <unistd.h>
 
 /* Threads on a file where nobody says how many, and blocks for each thread, so that one which waits for the CPU stops no other. */
 enum { JOBS = 4, MOST_JOBS = 256, EACH = 3 };
@@ -79,7 +77,7 @@ static void take_next(void) {
 }
 
 /* Tells what came of a block, unless that failed, or no more is wanted. */
-static void tell(struct run *run, struct worker *worker) {
+static void tell_block(struct run *run, struct worker *worker) {
     struct source *source = &run->source;
     if (worker->has_failed || (source->is_apart && worker->block.error)) {
         run->has_no_memory = worker->has_failed;
@@ -106,7 +104,7 @@ static void tell_next(void) {
     struct worker *worker = worker_of(crew.told);
     crew.is_telling = true;
     pthread_mutex_unlock(&crew.lock);
-    if (!has_ended(crew.run)) tell(crew.run, worker);
+    if (!has_ended(crew.run)) tell_block(crew.run, worker);
     bool is_over = has_ended(crew.run);
     pthread_mutex_lock(&crew.lock);
     crew.is_telling = false;
@@ -141,7 +139,7 @@ static size_t jobs_of(struct run *run) {
 bool run_block(struct run *run, struct worker *worker) {
     if (run->has_stopped || !take_block(&run->source, &worker->block)) return false;
     work_on(worker);
-    tell(run, worker);
+    tell_block(run, worker);
     return true;
 }
 

@@ -1,15 +1,39 @@
-/* Files that get their names once they are written, and other names of descriptors that are open. */
+/* What nody asks of Linux and macOS: streams, folders, descriptors by their names, and files that get their names once they are written. */
 #include "nody.h"
 
-#include <errno.h>
-#include <fcntl.h>
+#include <dirent.h>
 #include <limits.h>
-#include <pthread.h>
 #include <signal.h>
-#include <stdio.h>
 #include <stdlib.h>
 #include <string.h>
-#include <unistd.h>
+#include <sys/ioctl.h>
+
+/* Closed streams are opened, so that no file gets their numbers; to read or to write them still fails. */
+void start_system(void) {
+    for (int file = 0; file < 3; file++)
+        if (fcntl(file, F_GETFD) < 0 && open("/dev/null", file == 0 ? O_WRONLY : O_RDONLY) != file) exit(HAS_FAILED);
+    signal(SIGPIPE, SIG_IGN);
+    signal(SIGXFSZ, SIG_IGN);
+}
+
+size_t width_of_terminal(int file) {
+    struct winsize size;
+    return ioctl(file, TIOCGWINSZ, &size) == 0 ? size.ws_col : 0;
+}
+
+bool read_folder(const char *folder, bool is_link_followed, take_name *take, void *to) {
+    int file = open(folder, O_RDONLY | O_DIRECTORY | O_CLOEXEC | (is_link_followed ? 0 : O_NOFOLLOW));
+    DIR *open = file < 0 ? NULL : fdopendir(file);
+    if (!open) return false;
+    bool is_whole = true;
+    errno = 0;
+    for (struct dirent *entry; is_whole && (entry = readdir(open)); errno = 0)
+        if (strcmp(entry->d_name, ".") != 0 && strcmp(entry->d_name, "..") != 0) is_whole = take(to, entry->d_name);
+    int error = errno;
+    closedir(open);
+    errno = error;
+    return is_whole && error == 0;
+}
 
 /* ---- Descriptors */
 
@@ -119,7 +143,7 @@ static mode_t take_owner(int file, const struct stat *about) {
 
 /* Makes a file in the folder of the name, with the mode and where possible the owner that the name has. (its own name is short, since that
  * of the file may be as long as names can be) */
-static bool make_temporary(struct replacement *it, const struct stat *about) {
+bool make_temporary(struct replacement *it, const struct stat *about) {
     static const char ending[] = ".nody-XXXXXX";
     const char *end = strrchr(it->name, '/');
     size_t folder = end ? (size_t)(end + 1 - it->name) : 0;
@@ -128,22 +152,6 @@ static bool make_temporary(struct replacement *it, const struct stat *about) {
     memcpy(it->temporary + folder, ending, sizeof ending);
     it->file = make_unfinished(it->temporary);
     return it->file >= 0 && fchmod(it->file, about ? take_owner(it->file, about) : new_mode()) == 0;
-}
-
-/* Opens what will have the name. If that is a link, what it leads to is replaced, and no link: one that leads nowhere fails. In place a
- * file is replaced that may not be written, if its folder may. */
-bool open_replacement(struct replacement *it, const char *name, bool is_in_place) {
-    struct stat about, link;
-    bool is_there = stat(name, &about) == 0, is_link = lstat(name, &link) == 0 && S_ISLNK(link.st_mode);
-    memset(it, 0, sizeof *it);
-    it->file = -1;
-    it->is_direct = is_there && !S_ISREG(about.st_mode);
-    if (is_there && !is_in_place && faccessat(AT_FDCWD, name, W_OK, AT_EACCESS) != 0) return false;
-    it->name = is_link ? realpath(name, NULL) : strdup(name);
-    if (!it->name) return false;
-    if (!it->is_direct) return make_temporary(it, is_there ? &about : NULL);
-    it->file = open(name, O_WRONLY | O_CLOEXEC);
-    return it->file >= 0;
 }
 
 /* Sees to it that the new name is there after a failure of power. (not all systems can, and the file itself is then safe) */
@@ -167,7 +175,8 @@ bool flush_replacement(struct replacement *it) {
 }
 
 /* Gives a file that was flushed its name. */
-bool keep_replacement(struct replacement *it) {
+bool keep_replacement(struct replacement *it, struct source *replaced) {
+    (void)replaced; /* (its file can be open) */
     if (it->is_direct) return true;
     if (rename(it->temporary, it->name) != 0) return false;
     unfinished = NULL;
