@@ -26,7 +26,7 @@ pub unsafe extern "C" fn rust_narrow(src: *const u8, len: usize, out: *mut u8, r
     feed_all(Recoder::new(Encoding::Utf16Le, Encoding::Utf8), slice::from_raw_parts(src, len), slice::from_raw_parts_mut(out, room))
 }
 
-// What came of each part is written over by the next.
+// The output of each part is overwritten by that of the next.
 fn feed_all(mut recoder: Recoder, src: &[u8], room: &mut [u8]) -> usize {
     let made: usize = src.chunks(PART).map(|part| recoder.feed(part, room).written).sum();
     made + recoder.finish(room).written

@@ -41,7 +41,7 @@ function placeIn(local, known) {
     return { ...(whole ?? { ...local, number: -1 }), isFault: true };
 }
 
-// The same of a source, at once; null if its bytes are not at hand.
+// Those of a source, without waiting; null if its bytes are not at hand.
 export function groupsAtHand(codec, form, source, from, to, known) {
     const [first, last] = around(from, to, source.size);
     const bytes = source.atHand(first, last);

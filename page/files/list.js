@@ -122,7 +122,7 @@ export class List {
         return made;
     }
 
-    // At most so many characters before and after, in one line, and the bytes between them.
+    // The most characters before and after, in one line, and the bytes between them.
     around(place, bytes, from) {
         const decoder = decoders[this.input.form];
         const start = place.offset - from;

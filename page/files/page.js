@@ -23,14 +23,14 @@ import { Places, Survey, guessAt } from "./survey.js";
 import { ENCODINGS, counted, hexOf, number, offsets, shown, sizeText } from "./words.js";
 import { explain } from "./why.js";
 
-// So many bytes are walked over at once, without the worker; so many are copied; and of more text the field is not filled.
+// The most bytes that are read without the worker, that are copied, and that fill the field.
 const AT_ONCE = 1 << 18;
 const HEAD = 1 << 15;
 const COPIED = MOST;
 const IN_FIELD = 200000;
 // Bytes around the first place by which an encoding is chosen.
 const SAMPLE = 4096;
-// Of UTF-16 so many bytes are looked at for a guess.
+// The bytes of UTF-16 that are looked at for a guess.
 const SAMPLED = 1 << 18;
 
 // All that is known of the input. `how` is the guess in use, `at` the chosen offset, `number` the state of the history.

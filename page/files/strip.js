@@ -3,10 +3,10 @@ import { $, button, element } from "./dom.js";
 import { BINS, CAUSE, CAUSES } from "./survey.js";
 import { number, offsetText, sizeText } from "./words.js";
 
-// Shown from so many rows of the grid on.
+// The least number of rows of the grid with which it is shown.
 const ROWS = 64;
 const [HEIGHT, LEAST] = [46, 5];
-// Bins are a cluster if this share of them has one cause; so many are named.
+// The share of bins with one cause that makes a cluster, and the most clusters that are named.
 const [SHARE, NAMED] = [0.8, 3];
 const NAMES = ["cut off", "cut off", "Windows-1252", "stray", "never valid", "overlong", "surrogates", "too high", "halves", "halves", "cut off", "equal bytes"];
 const SVG = "http://www.w3.org/2000/svg";

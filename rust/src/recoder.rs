@@ -485,7 +485,7 @@ pub fn recoded_len(from: Encoding, to: Encoding, bytes: &[u8]) -> usize {
     let mut recoder = Recoder::new(from, to);
     let mut buffer = [0; 4 * COUNTED];
     let mut len = 0_usize;
-    // (a byte becomes three at most, and three are held at most: there is buffer for all that comes of a part)
+    // (a byte becomes three at most, and three are held at most: so the buffer has room for the output of a part)
     for part in bytes.chunks(COUNTED) {
         len = len.saturating_add(recoder.feed(part, &mut buffer).written);
     }

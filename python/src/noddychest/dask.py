@@ -649,7 +649,7 @@ class _Job(NamedTuple):
         return targets
 
     def _made(self, plan: _Plan, targets: list[_Target], folder: str, bar: Bar) -> list[tuple[_Target, Recoded]]:
-        """Makes files, and returns those that have their names, with what came of them."""
+        """Makes files, and returns those that have their names, with their results."""
         if not targets:
             return []
         try:

@@ -160,7 +160,7 @@ class _Made(NamedTuple):
 
 
 class _Line:
-    """Shards in a line: they are taken in order. What comes of one gets its place in the output once all before it are converted, and then any
+    """Shards in a line: they are taken in order. The output of one gets its place once all before it are converted, and then any
     job may write it. Few are on their way at once."""
 
     def __init__(self, them: list[Shard], first: int, place: int, jobs: int, bar: Bar) -> None:
