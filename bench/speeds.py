@@ -276,6 +276,104 @@ def edits():
     return table(["microseconds, median · worst", *sizes.values()], lines)
 
 
+DAMAGED = {"to-utf16": "to UTF-16, one U+FFFD for each maximal subpart", "to-utf8": "to UTF-8, one U+FFFD for each maximal subpart", "faults": "the list of errors"}
+
+
+def damage():
+    """What bench/damaged printed, by call: for each input its text, density and number of errors, and for each side ns a byte and ns an error."""
+    found = {}
+    for line in (STORED / "damaged").read_text(encoding="utf-8").splitlines()[1:]:
+        head, _, sides = line.partition(" : ")
+        (text, every, errors, call), words = head.split(), sides.split()
+        of_side = {side: (float(ns), None if each == "-" else float(each)) for side, ns, each in zip(words[::3], words[1::3], words[2::3])}
+        found.setdefault(call, {}).setdefault((text, int(every)), (errors, {}))[1].update(of_side)
+    return found
+
+
+def damaged():
+    """For each call and input the time of a byte for each side, and of an error."""
+    found, lines = damage(), []
+    for call, told in DAMAGED.items():
+        for (text, every), (errors, sides) in found[call].items():
+            theirs = {side: ns for side, (ns, _) in sides.items() if side != "ours"}
+            ns, each = sides["ours"]
+            best = min(theirs, key=theirs.get)
+            spoiled = f"one byte in {every:,}" if every > 1 else "none" if every == 0 else "all of it"
+            lines.append([told, f"{text}, {spoiled}", f"{ns:.3f}", f"{theirs[best]:.3f} ({NAMES[best]})", marked_ratio(ns / theirs[best]), "–" if each is None else f"{each:.0f}",
+                          ", ".join(f"{NAMES[it]} {theirs[it]:.2f}" for it in theirs if it != best) or "–"])
+    return table(["call", "input, damaged", "ours", "best of theirs", "ratio", "ours, for an error", "others"], lines)
+
+
+def text_of_damaged():
+    """The text of a damaged input in CPython and in Node, beside our conversion to UTF-16."""
+    found, lines = damage(), []
+    for (text, every), (_, sides) in found["text"].items():
+        ours = found["to-utf16"][text, every][1]["ours"][0]
+        spoiled = f"one byte in {every:,}" if every > 1 else "none" if every == 0 else "all of it"
+        lines.append([f"{text}, {spoiled}", f"{ours:.2f}", *(f"{sides[it][0]:.2f}" if it in sides else "–" for it in ("CPython", "TextDecoder"))])
+    return table(["input, damaged", "ours, to UTF-16", "`bytes.decode`", "`TextDecoder`"], lines)
+
+
+def damaged_in_short():
+    """By call: the ratios of ours to the best of the others over all damaged inputs, and the time of an error where one byte in 100 or more is damaged."""
+    found, lines = damage(), []
+    for call, told in DAMAGED.items():
+        ratios, errors = {}, []
+        for (text, every), (_, sides) in found[call].items():
+            if every:
+                ratios[f"{text}, one byte in {every:,}" if every > 1 else text] = sides["ours"][0] / min(ns for side, (ns, _) in sides.items() if side != "ours")
+                errors += [] if sides["ours"][1] is None or every > 100 else [sides["ours"][1]]
+        worst = max(ratios, key=ratios.get)
+        lines.append([told, between(ratios.values()), f"{worst}: {marked_ratio(ratios[worst])}", f"{min(errors):.0f} to {max(errors):.0f}"])
+    return table(["call", "ratio to the best of the others", "our worst", "nanoseconds for an error"], lines)
+
+
+def guessed(kind):
+    """The lines of that kind that bench/guesses printed."""
+    lines = [it.split("\t") for it in (STORED / "guesses").read_text(encoding="utf-8").splitlines()]
+    return [it[1:] for it in lines if it[0] == kind]
+
+
+def share(right, count):
+    """A part of a whole in percent, of which only all is 100."""
+    return "–" if count == 0 else "100 %" if right == count else f"{min(100 * right / count, 99.9):.1f} %"
+
+
+def guesses():
+    """By class: how often the first guess and one of the guesses was right, by source, and how often those of others."""
+    rows = []
+    for name, *numbers in guessed("right"):
+        before, first, any_of, others, first_of_others, any_of_others, shared, *right = map(int, numbers)
+        rows.append([name, f"{before:,}, {others:,}", f"{share(first, before)}, {share(first_of_others, others)}", f"{share(any_of, before)}, {share(any_of_others, others)}", f"{shared:,}", *(share(it, shared) for it in right)])
+    return table(["what the input is", "inputs", "the first guess is right", "one of the guesses is", "shared inputs", "first guess", "chardet", "charset-normalizer"], rows)
+
+
+def mistaken():
+    """By class: what the inputs were taken for that were taken for something else."""
+    found = {}
+    for wanted, told, count in guessed("taken"):
+        found.setdefault(wanted, []).append(f"{told} ({int(count):,})")
+    return table(["what the input is", "what it was taken for"], [[it, ", ".join(told)] for it, told in found.items()])
+
+
+def time_of_surveys():
+    return table(["text", "`nody_survey`", "`nody_utf8_valid_up_to`"], guessed("time"))
+
+
+def short_js():
+    """What js/bench --short printed: a row for each call and text, a column for each size, and the ratio that is asked of ASCII."""
+    found, asked = {}, {}
+    for line in (STORED / "js-short").read_text(encoding="utf-8").splitlines()[1:]:
+        call, text, size, _, _, ratio, most = line.split()[:7]
+        found.setdefault((call, text), {})[int(size)] = marked_ratio(float(ratio))
+        if most != "-":
+            asked.setdefault(call, []).append(f"{most} at {int(size):,} bytes")
+    sizes = sorted({it for row in found.values() for it in row})
+    peers = {"decode": "`TextDecoder`", "isValid": "`isUtf8` of Node"}
+    lines = [[f"`{call}`, {text}", peers[call], *(row.get(it, "–") for it in sizes), ", ".join(asked[call]) if text == "ASCII" else "–"] for (call, text), row in found.items()]
+    return table(["call", "beside", *(f"{it:,} bytes" for it in sizes), "at most"], lines)
+
+
 def one(name, keys, key, side):
     """What both took in one row."""
     row = next(it for it in stored(name, keys) if it.key == key)

@@ -16,11 +16,14 @@
  *     numbers      nody_utf8_offset_of, nody_utf8_number_of; of bytes in any encoding nody_char_count, nody_offset_of, nody_number_of
  *     edit         nody_changed_range
  *     divide       nody_boundary_before, nody_boundary_after, nody_utf16_boundary_before, nody_utf16_boundary_after, nody_undecided_len
- *     encoding     nody_encoding_of_bom: by a byte order mark
- *     recode       nody_recoded_len, nody_recoded_len_max, nody_recode, nody_recode_strict, nody_utf8_to_utf16, nody_utf16_to_utf8
- *     in parts     nody_recoder, nody_recoder_feed, nody_recoder_finish, nody_recoder_held; also with _strict and _lossy;
+ *     encoding     nody_encoding_of_bom: by a byte order mark; nody_survey, nody_guess, nody_guesses, nody_guess_text: by what all bytes have;
+ *                  nody_surveyor, nody_surveyor_feed, nody_surveyor_survey: of input in parts
+ *     recode       nody_recoded_len, nody_recoded_len_max, nody_recode, nody_recode_strict, nody_recode_lossy, nody_recode_repair,
+ *                  nody_utf8_to_utf16, nody_utf16_to_utf8
+ *     in parts     nody_recoder, nody_recoder_feed, nody_recoder_finish, nody_recoder_held; also with _strict, _lossy and _repair;
  *                  nody_decoder, nody_decoder_feed, nody_decoder_finish: the pieces, with their offsets;
- *                  nody_decoder_feed_faults, nody_decoder_finish_faults: only the faults
+ *                  nody_decoder_feed_faults, nody_decoder_finish_faults: only the faults;
+ *                  nody_position, nody_position_advance: the line and the column
  *     messages     nody_kind_name, nody_kind_sentence
  *     library      nody_version, nody_supported, nody_lanes
  *     rarely       nody_shard_end (where to cut an input for several workers), nody_utf8_streamed_at; nody_utf8_first_inline and
@@ -40,8 +43,9 @@
  *
  * INVALID INPUT. Recoding writes one U+FFFD, the replacement character, for each fault: E2 82 41 becomes U+FFFD U+FFFD A.
  * Browsers and Python sometimes write one U+FFFD for several bytes: for E2 82 41 they write U+FFFD A. The calls whose names end
- * in _lossy write what browsers and Python do. The calls whose names end in _strict stop at the first fault, and report its
- * kind and where it is.
+ * in _lossy write what browsers and Python do. The calls whose names end in _repair write for each invalid byte of UTF-8 what a table has
+ * for it, such as its character in Windows-1252. The calls whose names end in _strict stop at the first fault, and report its kind and
+ * where it is.
  *
  * WHICH KIND. The kind of a fault depends on its byte and on the bytes after it. These kinds are tested in order, and the first
  * that applies is the kind: UNEXPECTED_CONTINUATION_BYTE, NON_UTF8_BYTE, TOO_FEW_BYTES, INTERRUPTED_SEQUENCE. If none of them
@@ -51,15 +55,15 @@
  *
  * POINTERS. A pointer and the number after it belong together: the number is a length to read, or the capacity of an output. If the
  * number is 0, the pointer may be NULL, or point anywhere. Otherwise it must be valid for that many. A pointer to
- * bytes may have any address; one to units, pieces or a struct has to be aligned as its type asks. What a call writes must not
+ * bytes may have any address; one to units, pieces, a table or a struct has to be aligned as its type asks. What a call writes must not
  * overlap what it reads, nor what else it writes: `read` and `written` are two variables. Any other pointer that a call takes must
  * not be NULL. None of this is checked; if it holds, no call reads or writes out of bounds. An offset or a number may be above the
  * length, up to SIZE_MAX.
  *
- * STRUCTS. Make a cursor (nody_bytes_t, nody_units_t) by nody_bytes or nody_units, a recoder (nody_recoder_t) by nody_recoder, and
- * a decoder (nody_decoder_t) by nody_decoder. If you fill a cursor yourself, its pointer must not be NULL, even if `len` is 0, and
- * must be valid for `len`. Do not initialise a recoder or a decoder by hand: calls on it fail with NODY_STATUS_REFUSED or produce
- * meaningless output, but never access memory out of bounds.
+ * STRUCTS. Make a cursor (nody_bytes_t, nody_units_t) by nody_bytes or nody_units, a recoder (nody_recoder_t) by nody_recoder,
+ * a decoder (nody_decoder_t) by nody_decoder, and a position (nody_position_t) by nody_position. If you fill a cursor yourself, its
+ * pointer must not be NULL, even if `len` is 0, and must be valid for `len`. Do not initialise a recoder, a decoder or a position by
+ * hand: calls on it fail with NODY_STATUS_REFUSED or produce meaningless output, but never access memory out of bounds.
  *
  * ERRORS. A call fails only as its comment says. None sets errno. On x86-64 call nody_supported first.
  *
@@ -113,6 +117,33 @@ NODY_ENUM(nody_kind_t) {
     NODY_KIND_NONE = 11                          /* no piece: nothing is left */
 };
 
+/* What each invalid byte of UTF-8 becomes in the calls whose names end in _repair. */
+NODY_ENUM(nody_repair_t) {
+    NODY_REPAIR_DROP = 0,         /* nothing: it is left out */
+    NODY_REPAIR_WINDOWS_1252 = 1, /* its character in Windows-1252; 81, 8D, 8F, 90 and 9D become U+0081, U+008D and so on */
+    NODY_REPAIR_LATIN_1 = 2,      /* its character in ISO-8859-1: 80 becomes U+0080, and FF U+00FF */
+    NODY_REPAIR_TABLE = 3         /* what the table that the call takes has for it */
+};
+
+/* What an input most likely is. */
+NODY_ENUM(nody_guess_t) {
+    NODY_GUESS_ASCII = 0,           /* only ASCII, or nothing */
+    NODY_GUESS_UTF8 = 1,            /* UTF-8 that is valid */
+    NODY_GUESS_UTF8_MARKED = 2,     /* UTF-8 with a byte order mark */
+    NODY_GUESS_UTF8_CUT = 3,        /* UTF-8 that begins or ends inside a character */
+    NODY_GUESS_UTF8_MIXED = 4,      /* UTF-8 with single bytes of an 8-bit encoding */
+    NODY_GUESS_UTF8_TWICE = 5,      /* UTF-8 that was read as Windows-1252 and encoded once more */
+    NODY_GUESS_UTF8_SURROGATES = 6, /* UTF-8 with surrogates: CESU-8, or Java's modified UTF-8 */
+    NODY_GUESS_UTF16LE = 7,         /* UTF-16, low byte first, without a byte order mark */
+    NODY_GUESS_UTF16BE = 8,         /* UTF-16, high byte first, without a byte order mark */
+    NODY_GUESS_UTF16LE_MARKED = 9,  /* UTF-16, low byte first, with a byte order mark */
+    NODY_GUESS_UTF16BE_MARKED = 10, /* UTF-16, high byte first, with a byte order mark */
+    NODY_GUESS_UTF32 = 11,          /* UTF-32 with a byte order mark */
+    NODY_GUESS_WINDOWS1252 = 12,    /* Windows-1252, or another 8-bit encoding of Latin letters */
+    NODY_GUESS_OTHER_8BIT = 13,     /* some 8-bit encoding, but not Windows-1252 */
+    NODY_GUESS_BINARY = 14          /* no text */
+};
+
 /* The encoding of text in bytes. A byte order mark is the character U+FEFF at the front. nody_encoding_of_bom looks for one. No other call
  * does, and none adds or removes one. */
 NODY_ENUM(nody_encoding_t) {
@@ -132,7 +163,7 @@ NODY_ENUM(nody_encoding_t) {
 NODY_ENUM(nody_status_t) {
     NODY_STATUS_DONE = 0,    /* the call read all of the input, and wrote all that it had to write */
     NODY_STATUS_FULL = 1,    /* the next character, or piece, does not fit into the output */
-    NODY_STATUS_REFUSED = 2, /* an encoding, or the `count` of a recoder or decoder, is too great. Nothing was read or written */
+    NODY_STATUS_REFUSED = 2, /* an encoding, or the `count` of a struct, is too great. Nothing was read or written */
     NODY_STATUS_FAULT = 3    /* a strict call stopped at a fault. All before the fault was written */
 };
 
@@ -166,14 +197,14 @@ typedef struct {
  * because the rest of a character has not come, or because the output did not fit. A strict call also holds bytes
  * if it has to see the next ones to tell the kind of a fault. In big-endian UTF-16 a single byte is held, and a leading surrogate
  * before it, even if the byte cannot complete a pair. nody_recoder_held gives the bytes. `replaced` is the number of
- * faults that became U+FFFD. nody_recoder_finish does not reset it. The count stops at UINT64_MAX. You may read it, and set it to
- * 0. Leave the other fields alone. */
+ * faults that became U+FFFD, or what a table has for them, also if that is nothing; the lossy calls do not count. nody_recoder_finish
+ * does not reset it. The count stops at UINT64_MAX. You may read it, and set it to 0. Leave the other fields alone. */
 typedef struct {
     nody_encoding_t from;
     nody_encoding_t to;
     uint8_t count;
     uint8_t held[3];
-    uint64_t replaced; /* how many faults nody_recoder_feed and nody_recoder_finish replaced since nody_recoder */
+    uint64_t replaced; /* how many faults were replaced since nody_recoder, by all calls but the lossy ones */
 } nody_recoder_t;
 
 /* A decoder of input that comes in parts. It holds up to three bytes of input from one call to the next: those that
@@ -186,6 +217,16 @@ typedef struct {
     uint8_t held[3];
     uint64_t offset;
 } nody_decoder_t;
+
+/* A position in input that comes in parts: the line, the column in pieces, and the column in bytes, each from 1 on and modulo 2^64. It holds
+ * up to three bytes of input from one call to the next. You may read all fields; change none. */
+typedef struct {
+    uint64_t line;
+    uint64_t column;
+    uint64_t byte_column;
+    uint8_t count;
+    uint8_t held[3];
+} nody_position_t;
 
 /* A piece with its offset. Offsets and lengths are in bytes, in UTF-16 too; only nody_utf16_faults counts units. */
 typedef struct {
@@ -204,6 +245,43 @@ typedef struct {
     size_t back;      /* in bytes: how far before the end of what was read the fault begins */
     nody_kind_t kind; /* the reason, or NODY_KIND_NONE */
 } nody_fault_t;
+
+/* What bytes have, as units of UTF-16 in one byte order. */
+typedef struct {
+    uint64_t plain;    /* units that occur in nearly every text: tab, LF, CR, 20 to 7E, and the signs 3001, 3002 and FF0C */
+    uint64_t stray;    /* units that do not occur in text: controls, FFFE and FFFF */
+    uint64_t unpaired; /* units of which the one before begins a pair that this one does not end, or the other way round */
+} nody_unit_counts_t;
+
+/* What bytes have, as UTF-8. */
+typedef struct {
+    uint64_t chars;       /* characters of several bytes */
+    uint64_t faults;      /* invalid bytes */
+    uint64_t third;       /* of these, other than A0, those after two bytes above 7F */
+    uint64_t signs;       /* of these, those between two ASCII letters, where Windows-1252 rarely has them */
+    uint64_t undefined;   /* of these, those for which Windows-1252 has no character: 81, 8D, 8F, 90 and 9D */
+    uint64_t surrogates;  /* surrogates that are written as characters of three bytes */
+    uint64_t twice;       /* sequences that were read as Windows-1252 and encoded once more */
+    uint64_t twice_chars; /* the characters of these sequences */
+} nody_utf8_counts_t;
+
+/* What was counted in an input. */
+typedef struct {
+    uint64_t len;     /* bytes */
+    uint64_t nul;     /* bytes that are 00 */
+    uint64_t control; /* other controls that do not occur in text: 01 to 06, 0E to 1A, and 1C to 1F */
+    nody_utf8_counts_t utf8;
+    nody_unit_counts_t utf16le;
+    nody_unit_counts_t utf16be;
+    uint8_t front[4]; /* the first four bytes, with zeros for those that are missing */
+    uint8_t head;     /* continuation bytes before any other byte, at most three: the rest of a character */
+    uint8_t tail;     /* bytes at the end, at most three, that begin a character whose other bytes are missing */
+} nody_survey_t;
+
+/* A surveyor of input that comes in parts. nody_surveyor makes it; you may copy it. Leave its content alone. */
+typedef struct {
+    uint64_t state[22];
+} nody_surveyor_t;
 
 /* The name of a kind, and a sentence about a kind. Both are ASCII, with zeros after the last letter. */
 typedef struct {
@@ -526,6 +604,101 @@ size_t nody_undecided_len(nody_encoding_t encoding, const uint8_t *bytes, size_t
  */
 size_t nody_encoding_of_bom(const uint8_t *bytes, size_t len, nody_encoding_t *encoding);
 
+/* Counts what the bytes of an input have, by which nody_guess says what they most likely are.
+ *
+ * bytes, len: all of the input. Zeros stand for the bytes before it and after it.
+ * survey: receives the counts.
+ * Errors: none. Cost: linear.
+ *
+ *     nody_survey_t survey;
+ *     nody_survey(in, len, &survey);
+ *     if (nody_guess(&survey) == NODY_GUESS_WINDOWS1252) read_as_windows1252(in, len);
+ */
+void nody_survey(const uint8_t *bytes, size_t len, nody_survey_t *survey);
+
+/* Makes a surveyor, which counts what input in parts has, however it is divided.
+ *
+ * Result: the surveyor. Cost: constant.
+ *
+ *     nody_surveyor_t surveyor = nody_surveyor();
+ *     while ((len = fread(part, 1, sizeof part, file)) > 0) nody_surveyor_feed(&surveyor, part, len);
+ *     nody_surveyor_survey(&surveyor, &survey);
+ */
+nody_surveyor_t nody_surveyor(void);
+
+/* Counts what the next part of the input has.
+ *
+ * surveyor: the surveyor. part, len: the part, which may begin and end anywhere.
+ * Result: NODY_STATUS_DONE.
+ * Errors: NODY_STATUS_REFUSED, with nothing changed, if the struct is no surveyor. Cost: linear.
+ *
+ *     if (nody_surveyor_feed(&surveyor, part, len) != NODY_STATUS_DONE) return failed();
+ */
+nody_status_t nody_surveyor_feed(nody_surveyor_t *surveyor, const uint8_t *part, size_t len);
+
+/* The survey of all parts so far, which is that of nody_survey for the joined parts. You may feed more afterwards.
+ *
+ * surveyor: the surveyor. survey: receives the counts.
+ * Result: NODY_STATUS_DONE.
+ * Errors: NODY_STATUS_REFUSED, with the survey of no bytes, if the struct is no surveyor. Cost: constant.
+ *
+ *     if (nody_surveyor_survey(&surveyor, &survey) == NODY_STATUS_DONE) puts(nody_guess_text(nody_guess(&survey)));
+ */
+nody_status_t nody_surveyor_survey(const nody_surveyor_t *surveyor, nody_survey_t *survey);
+
+/* What a surveyed input most likely is. It is a guess, by thresholds that were set on texts in 74 languages: Hungarian, Turkish and
+ * Baltic texts in their own 8-bit encodings, for one, are taken for Windows-1252.
+ *
+ * survey: the survey of all of the input.
+ * Result: the guess.
+ * Errors: none. Cost: constant.
+ *
+ *     puts(nody_guess_text(nody_guess(&survey)));
+ */
+nody_guess_t nody_guess(const nody_survey_t *survey);
+
+/* What a surveyed input may be: one to three guesses, the likeliest first. The first is that of nody_guess, and each of the others says what
+ * the input is if those before it are wrong.
+ *
+ * survey: the survey of all of the input. guesses: receives the guesses. capacity: how many it can hold; 3 is always enough.
+ * Result: how many guesses were written.
+ * Errors: none. Cost: constant.
+ *
+ *     nody_guess_t guesses[3];
+ *     size_t count = nody_guesses(&survey, guesses, 3);
+ *     for (size_t i = 0; i < count; i++) printf("%s%s", i == 0 ? "" : "; or ", nody_guess_text(guesses[i]));
+ */
+size_t nody_guesses(const nody_survey_t *survey, nody_guess_t *guesses, size_t capacity);
+
+/* What a guess says, for people: a text in ASCII, which is static. For a number that is no guess it is "?".
+ *
+ * guess: the guess.
+ * Errors: none. Cost: constant.
+ *
+ *     puts(nody_guess_text(NODY_GUESS_UTF8_CUT)); // UTF-8, cut off inside a character
+ */
+static inline const char *nody_guess_text(nody_guess_t guess) {
+    static const char *const texts[] = {
+        "ASCII",
+        "UTF-8",
+        "UTF-8, by its byte order mark",
+        "UTF-8, cut off inside a character",
+        "UTF-8, with single bytes of an 8-bit encoding",
+        "UTF-8 that was encoded twice",
+        "CESU-8 or Java's modified UTF-8: UTF-8 with surrogates",
+        "UTF-16LE, without a byte order mark",
+        "UTF-16BE, without a byte order mark",
+        "UTF-16LE, by its byte order mark",
+        "UTF-16BE, by its byte order mark",
+        "UTF-32, by its byte order mark",
+        "Windows-1252, or another encoding of Latin letters",
+        "some 8-bit encoding, but not Windows-1252",
+        "not text",
+    };
+    const size_t at = guess;
+    return at < sizeof texts / sizeof *texts ? texts[at] : "?";
+}
+
 /* ---- A whole input recoded -------------------------------------------------------------------------------------------------- */
 
 /* Recodes a whole input. Each fault becomes one U+FFFD. A single byte at the end of UTF-16 is a fault too.
@@ -751,6 +924,45 @@ nody_status_t nody_recoder_feed_lossy(nody_recoder_t *recoder, const uint8_t *in
  */
 nody_status_t nody_recoder_finish_lossy(nody_recoder_t *recoder, uint8_t *out, size_t capacity, size_t *written);
 
+/* Feeds the next part of the input, and writes for each invalid byte of UTF-8 what a table has for it: a character, or nothing. This
+ * repairs text that is UTF-8 with single bytes of an older encoding in it: by NODY_REPAIR_WINDOWS_1252, 63 61 66 E9 becomes 63 61 66 C3
+ * A9. Valid input stays as it is. In UTF-16 each fault becomes U+FFFD, or nothing if the table is empty, as that of NODY_REPAIR_DROP is. The
+ * output of all calls, joined, does not depend on how the input is divided into parts.
+ *
+ * recoder: the recoder. For each fault `recoder->replaced` grows by 1, even if nothing is written for it. You may mix calls of
+ * this and of the other feed calls. End the input by nody_recoder_finish_repair.
+ * in, in_len: the part.
+ * out, capacity, read, written: as for nody_recoder_feed. Three bytes for each byte that is fed or held are always enough.
+ * repair: which table.
+ * table, table_len: for NODY_REPAIR_TABLE, the characters for the bytes 80, 81, and so on up to FF. A surrogate or a number above FFFF
+ * means nothing: the byte is left out. So is a byte for which the table has no entry. Entries after the 128th are ignored. For
+ * the other repairs pass NULL and 0.
+ * Result, cost: as for nody_recoder_feed. The loop is the same.
+ * Errors: NODY_STATUS_REFUSED, as for nody_recoder_feed, and if `repair` is above 3.
+ *
+ *     nody_recoder_t recoder = nody_recoder(NODY_UTF8, NODY_UTF8);
+ *     nody_recoder_feed_repair(&recoder, (const uint8_t *)"caf\xe9!", 5, out, sizeof out, NODY_REPAIR_WINDOWS_1252, NULL, 0, &read, &written);
+ *     // written is 6: 63 61 66 C3 A9 21
+ */
+nody_status_t nody_recoder_feed_repair(nody_recoder_t *recoder, const uint8_t *in, size_t in_len, uint8_t *out, size_t capacity,
+                                       nody_repair_t repair, const uint32_t *table, size_t table_len, size_t *read, size_t *written);
+
+/* Ends the input after nody_recoder_feed_repair: the bytes that the recoder holds are faults, and become what the table has for them.
+ *
+ * recoder: the recoder. `recoder->replaced` grows as for nody_recoder_feed_repair.
+ * out, capacity, written: as for nody_recoder_finish.
+ * repair, table, table_len: the same as for nody_recoder_feed_repair.
+ * Result, cost: as for nody_recoder_finish.
+ * Errors: NODY_STATUS_REFUSED, as for nody_recoder_finish, and if `repair` is above 3.
+ *
+ *     nody_recoder_feed_repair(&recoder, (const uint8_t *)"caf\xe9", 4, out, sizeof out, NODY_REPAIR_WINDOWS_1252, NULL, 0, &read, &written);
+ *     // written is 3: E9 may begin a character, and is held
+ *     nody_recoder_finish_repair(&recoder, out, sizeof out, NODY_REPAIR_WINDOWS_1252, NULL, 0, &written);
+ *     // written is 2: C3 A9
+ */
+nody_status_t nody_recoder_finish_repair(nody_recoder_t *recoder, uint8_t *out, size_t capacity, nody_repair_t repair,
+                                         const uint32_t *table, size_t table_len, size_t *written);
+
 /* The bytes that a recoder holds: those of the input that were read and not recoded yet.
  *
  * recoder: the recoder. out, capacity: where to write them. If the capacity is too small, nothing is written.
@@ -762,6 +974,49 @@ nody_status_t nody_recoder_finish_lossy(nody_recoder_t *recoder, uint8_t *out, s
  *     size_t count = nody_recoder_held(&recoder, held, sizeof held);
  */
 size_t nody_recoder_held(const nody_recoder_t *recoder, uint8_t *out, size_t capacity);
+
+/* nody_recode with one U+FFFD for each maximal subpart, as nody_recoder_feed_lossy writes it, and not for each fault.
+ *
+ * from, to, in, len, out, capacity, written: as for nody_recode. nody_recoded_len gives a sufficient capacity.
+ * Result, errors, cost: as for nody_recode.
+ *
+ *     nody_recode_lossy(NODY_UTF8, NODY_UTF8, (const uint8_t *)"\xe2\x82" "A", 3, out, sizeof out, &written);
+ *     // written is 4: EF BF BD 41
+ */
+static inline nody_status_t nody_recode_lossy(nody_encoding_t from, nody_encoding_t to, const uint8_t *in, size_t len, uint8_t *out,
+                                              size_t capacity, size_t *written) {
+    nody_recoder_t recoder = nody_recoder(from, to);
+    size_t read, more;
+    nody_status_t status = nody_recoder_feed_lossy(&recoder, in, len, out, capacity, &read, written);
+    if (status != NODY_STATUS_DONE) return status;
+    status = nody_recoder_finish_lossy(&recoder, *written > 0 ? out + *written : out, capacity - *written, &more);
+    *written += more;
+    return status;
+}
+
+/* nody_recode, but each invalid byte of UTF-8 becomes what a table has for it, as nody_recoder_feed_repair writes it.
+ *
+ * from, to, in, len, out, capacity, written: as for nody_recode. nody_recoded_len gives a sufficient capacity: no character up to U+FFFF
+ * takes more bytes than U+FFFD.
+ * repair, table, table_len: as for nody_recoder_feed_repair.
+ * Result, cost: as for nody_recode.
+ * Errors: NODY_STATUS_REFUSED, with 0 in `*written`, if an encoding is above 2, or `repair` is above 3.
+ *
+ *     nody_recode_repair(NODY_UTF8, NODY_UTF8, (const uint8_t *)"caf\xe9", 4, out, sizeof out, NODY_REPAIR_WINDOWS_1252, NULL, 0, &written);
+ *     // written is 5: 63 61 66 C3 A9
+ */
+static inline nody_status_t nody_recode_repair(nody_encoding_t from, nody_encoding_t to, const uint8_t *in, size_t len, uint8_t *out,
+                                               size_t capacity, nody_repair_t repair, const uint32_t *table, size_t table_len,
+                                               size_t *written) {
+    nody_recoder_t recoder = nody_recoder(from, to);
+    size_t read, more;
+    nody_status_t status = nody_recoder_feed_repair(&recoder, in, len, out, capacity, repair, table, table_len, &read, written);
+    if (status != NODY_STATUS_DONE) return status;
+    status = nody_recoder_finish_repair(&recoder, *written > 0 ? out + *written : out, capacity - *written, repair, table, table_len,
+                                        &more);
+    *written += more;
+    return status;
+}
 
 /* ---- Pieces of input in parts ----------------------------------------------------------------------------------------------- */
 
@@ -856,6 +1111,42 @@ nody_status_t nody_decoder_feed_faults(nody_decoder_t *decoder, const uint8_t *i
  *     if (nody_decoder_finish_faults(&decoder, last, 3, &written) != NODY_STATUS_DONE) return failed();
  */
 nody_status_t nody_decoder_finish_faults(nody_decoder_t *decoder, nody_located_t *out, size_t capacity, size_t *written);
+
+/* ---- Lines and columns ------------------------------------------------------------------------------------------------------ */
+
+/* The position at the front of an input: line 1, column 1, byte column 1.
+ *
+ * Result: the position. It has 32 bytes, and you may copy it: both copies then continue independently.
+ * Errors: none. Cost: constant.
+ *
+ *     nody_position_t at = nody_position();
+ */
+nody_position_t nody_position(void);
+
+/* Advances a position over the next bytes of the input.
+ *
+ * A line ends after its line feed (0A; in UTF-16 the unit 000A), and after nothing else: a carriage return counts as a character. The
+ * column is 1 more than the number of pieces since the line began, and the byte column 1 more than the number of bytes.
+ * The position depends on all bytes that were passed, and not on how they are divided into parts. It is the one that these bytes have if
+ * they are the whole input: after the first two bytes of E2 82 AC, which are two faults until the third follows, the column is 3, and
+ * after all three it is 2. At the offset of a piece the column counts the pieces before it.
+ *
+ * position: the position. The bytes that were passed so far are those before these.
+ * encoding: the encoding of the input, one for all of its parts.
+ * bytes, len: the next bytes. They may begin and end anywhere, also inside a character or a unit, and there may be none.
+ * Result: NODY_STATUS_DONE.
+ * Errors: NODY_STATUS_REFUSED, with nothing changed, if the encoding is above 2, or `count` is above 3 (only in a struct that
+ * nody_position did not make). Cost: linear in `len`. Line feeds are counted in blocks, and pieces after the last of them.
+ *
+ *     size_t passed = 0; // of a part, in which these faults are
+ *     for (size_t k = 0; k < written; k++) {
+ *         nody_position_advance(&at, NODY_UTF8, part + passed, (size_t)faults[k].offset - passed);
+ *         passed = (size_t)faults[k].offset;
+ *         report(at.line, at.column, nody_kind_sentence(faults[k].kind));
+ *     }
+ *     nody_position_advance(&at, NODY_UTF8, part + passed, len - passed);
+ */
+nody_status_t nody_position_advance(nody_position_t *position, nody_encoding_t encoding, const uint8_t *bytes, size_t len);
 
 /* ---- Kinds in words --------------------------------------------------------------------------------------------------------- */
 

@@ -10,9 +10,9 @@
 //     count        char_count, offset_of, number_of
 //     edit         changed_range
 //     divide       boundary_before, boundary_after, undecided_len
-//     encoding     encoding_of_bom: by a byte order mark
-//     recode       recode, recode_strict, to_utf8, to_utf16, recoded_len
-//     in parts     recoder; decoder: the pieces, or only the faults, with their offsets
+//     encoding     encoding_of_bom: by a byte order mark; survey_of, guess_of, guesses_of, surveyor: by what all bytes have
+//     recode       recode, recode_strict, recode_lossy, recode_repair, to_utf8, to_utf16, recoded_len; repair: a table
+//     in parts     recoder; decoder: the pieces, or only the faults, with their offsets; position: the line and the column
 //     messages     name, sentence
 //     library      supported, version
 //
@@ -81,6 +81,28 @@ enum class status : std::uint8_t {
     fault = NODY_STATUS_FAULT, // a strict call stopped at a fault
 };
 
+// What an input most likely is. noddychest.h says when each is.
+enum class guess : std::uint8_t {
+    ascii = NODY_GUESS_ASCII,
+    utf8 = NODY_GUESS_UTF8,
+    utf8_marked = NODY_GUESS_UTF8_MARKED,
+    utf8_cut = NODY_GUESS_UTF8_CUT,
+    utf8_mixed = NODY_GUESS_UTF8_MIXED,
+    utf8_twice = NODY_GUESS_UTF8_TWICE,
+    utf8_surrogates = NODY_GUESS_UTF8_SURROGATES,
+    utf16le = NODY_GUESS_UTF16LE,
+    utf16be = NODY_GUESS_UTF16BE,
+    utf16le_marked = NODY_GUESS_UTF16LE_MARKED,
+    utf16be_marked = NODY_GUESS_UTF16BE_MARKED,
+    utf32 = NODY_GUESS_UTF32,
+    windows1252 = NODY_GUESS_WINDOWS1252,
+    other_8bit = NODY_GUESS_OTHER_8BIT,
+    binary = NODY_GUESS_BINARY,
+};
+
+// What a guess says, for people.
+inline std::string_view text_of(guess it) noexcept { return nody_guess_text(static_cast<nody_guess_t>(it)); }
+
 // The name of a kind, such as "OverlongEncoding", and a sentence about it.
 inline std::string_view name(kind it) noexcept { return nody_kind_name(static_cast<nody_kind_t>(it)); }
 inline std::string_view sentence(kind it) noexcept { return nody_kind_sentence(static_cast<nody_kind_t>(it)); }
@@ -131,6 +153,59 @@ struct byte_range {
     std::size_t start = 0;
     std::size_t end = 0;
 };
+
+// What each invalid byte of UTF-8 becomes in the calls whose names end in _repair: a character up to U+FFFF, or nothing. In UTF-16 each fault
+// becomes U+FFFD, or nothing if no byte has a character. A repair is a value: it has its own table.
+//
+//     nody::repair::drop, nody::repair::windows_1252, nody::repair::latin_1
+//     auto only_euro = nody::repair::from([](std::uint8_t byte) { return byte == 0x80 ? std::optional<char32_t>(0x20AC) : std::nullopt; });
+class repair {
+public:
+    static const repair drop, windows_1252, latin_1; // noddychest.h says what these are
+
+    // The table of a function, which is called with 0x80, 0x81 and so on up to 0xFF, or of an array, whose entries are for these bytes:
+    // what has size() and [], as a std::array, a std::vector or a std::span. Each gives a char32_t, or a std::optional<char32_t>, of which
+    // std::nullopt means nothing. A byte after the end of the array becomes nothing too. The result is empty if a number is a surrogate or
+    // above U+FFFF, or if the array has more than 128 entries. What the function throws comes through.
+    template <class Characters>
+    [[nodiscard]] static std::optional<repair> from(Characters &&characters) {
+        repair made(NODY_REPAIR_TABLE);
+        if constexpr (!std::is_invocable_v<Characters &, std::uint8_t>) {
+            if (characters.size() > most) return std::nullopt;
+            made.len_ = static_cast<std::size_t>(characters.size());
+        } else {
+            made.len_ = most;
+        }
+        bool is_empty = true;
+        for (std::size_t i = 0; i < made.len_; i++) {
+            std::optional<char32_t> scalar;
+            if constexpr (std::is_invocable_v<Characters &, std::uint8_t>) scalar = characters(static_cast<std::uint8_t>(0x80 + i));
+            else scalar = characters[i];
+            if (scalar && (*scalar > 0xFFFF || (*scalar >= 0xD800 && *scalar <= 0xDFFF))) return std::nullopt;
+            made.table_[i] = scalar ? static_cast<std::uint32_t>(*scalar) : nothing;
+            is_empty = is_empty && !scalar;
+        }
+        return is_empty ? drop : made;
+    }
+
+    // For the calls of noddychest.h. The table has to live as long as it is used.
+    constexpr nody_repair_t number() const noexcept { return number_; }
+    constexpr const std::uint32_t *table() const noexcept { return table_.data(); }
+    constexpr std::size_t table_len() const noexcept { return len_; }
+
+private:
+    static constexpr std::size_t most = 128;
+    static constexpr std::uint32_t nothing = 0xFFFFFFFF;
+    explicit constexpr repair(nody_repair_t number) noexcept : number_(number) {}
+
+    nody_repair_t number_;
+    std::size_t len_ = 0;
+    std::array<std::uint32_t, most> table_{};
+};
+
+inline constexpr repair repair::drop = repair(NODY_REPAIR_DROP);
+inline constexpr repair repair::windows_1252 = repair(NODY_REPAIR_WINDOWS_1252);
+inline constexpr repair repair::latin_1 = repair(NODY_REPAIR_LATIN_1);
 
 namespace detail {
 
@@ -469,6 +544,72 @@ inline std::optional<bom> encoding_of_bom(bytes text) noexcept {
     return bom{static_cast<encoding>(told), len};
 }
 
+// What was counted in an input: noddychest.h says what each count is.
+using survey = nody_survey_t;
+
+// Counts what the bytes have.
+//
+//     if (nody::survey_of(text).utf8.surrogates > 0) read_as_cesu8(text);
+inline survey survey_of(bytes text) noexcept {
+    survey made;
+    nody_survey(text.data(), text.size(), &made);
+    return made;
+}
+
+// What an input most likely is, by its survey or by its bytes. It is a guess.
+//
+//     if (nody::guess_of(text) == nody::guess::windows1252) read_as_windows1252(text);
+inline guess guess_of(const survey &counted) noexcept { return static_cast<guess>(nody_guess(&counted)); }
+inline guess guess_of(bytes text) noexcept { return guess_of(survey_of(text)); }
+
+// One to three guesses, the likeliest first: each says what the input is if those before it are wrong.
+class guesses {
+public:
+    explicit guesses(const survey &counted) noexcept {
+        nody_guess_t told[3];
+        size_ = nody_guesses(&counted, told, 3);
+        for (std::size_t i = 0; i < size_; i++) guesses_[i] = static_cast<guess>(told[i]);
+    }
+
+    const guess *begin() const noexcept { return guesses_.data(); }
+    const guess *end() const noexcept { return guesses_.data() + size_; }
+    std::size_t size() const noexcept { return size_; }
+    guess operator[](std::size_t at) const noexcept { return guesses_[at]; }
+
+private:
+    std::array<guess, 3> guesses_{};
+    std::size_t size_ = 0;
+};
+
+// What an input may be, by its survey or by its bytes.
+//
+//     for (nody::guess it : nody::guesses_of(text)) std::cout << nody::text_of(it) << '\n';
+inline guesses guesses_of(const survey &counted) noexcept { return guesses(counted); }
+inline guesses guesses_of(bytes text) noexcept { return guesses(survey_of(text)); }
+
+// Surveys input in parts, which may begin and end anywhere: the survey is that of the joined parts. It is a value: a copy goes on from there.
+//
+//     nody::surveyor surveyor;
+//     while (file.read(part.data(), part.size()) || file.gcount() > 0) surveyor.feed({part.data(), std::size_t(file.gcount())});
+//     std::cout << nody::text_of(nody::guess_of(surveyor.survey()));
+class surveyor {
+public:
+    surveyor() noexcept : it_(nody_surveyor()) {}
+
+    // Takes the next part.
+    void feed(bytes part) noexcept { nody_surveyor_feed(&it_, part.data(), part.size()); }
+
+    // The survey of what was fed so far. You may feed more afterwards.
+    nody::survey survey() const noexcept {
+        nody::survey made;
+        nody_surveyor_survey(&it_, &made);
+        return made;
+    }
+
+private:
+    nody_surveyor_t it_;
+};
+
 // ---- Transcoding
 
 // How many bytes recode gives; nothing if a std::size_t cannot hold the number.
@@ -517,6 +658,28 @@ inline std::string recode(encoding from, encoding to, bytes text) {
     std::string out;
     detail::append(out, detail::len_of(from, to, text), [&](std::uint8_t *into, std::size_t capacity, std::size_t *written) {
         return nody_recode(detail::c(from), detail::c(to), text.data(), text.size(), into, capacity, written);
+    });
+    return out;
+}
+
+// Transcodes all of a text, with one U+FFFD for each maximal subpart, as browsers and Python do.
+//
+//     std::string text = nody::recode_lossy(nody::encoding::utf8, nody::encoding::utf8, "\xE2\x82" "A"); // EF BF BD 41
+inline std::string recode_lossy(encoding from, encoding to, bytes text) {
+    std::string out;
+    detail::append(out, detail::len_of(from, to, text), [&](std::uint8_t *into, std::size_t capacity, std::size_t *written) {
+        return nody_recode_lossy(detail::c(from), detail::c(to), text.data(), text.size(), into, capacity, written);
+    });
+    return out;
+}
+
+// Transcodes all of a text. Each invalid byte of UTF-8 becomes what a table has for it.
+//
+//     std::string text = nody::recode_repair(nody::encoding::utf8, nody::encoding::utf8, "caf\xE9", nody::repair::windows_1252);
+inline std::string recode_repair(encoding from, encoding to, bytes text, const repair &by) {
+    std::string out;
+    detail::append(out, detail::len_of(from, to, text), [&](std::uint8_t *into, std::size_t capacity, std::size_t *written) {
+        return nody_recode_repair(detail::c(from), detail::c(to), text.data(), text.size(), into, capacity, by.number(), by.table(), by.table_len(), written);
     });
     return out;
 }
@@ -612,6 +775,20 @@ public:
         append(0, out, [&](std::uint8_t *into, std::size_t capacity, std::size_t *written) { return nody_recoder_finish_lossy(&state_, into, capacity, written); });
     }
 
+    // Transcodes with what a table has for each invalid byte of UTF-8. Finish with the same table.
+    void feed_repair(bytes part, std::string &out, const repair &by) {
+        std::size_t read = 0;
+        append(part.size(), out, [&](std::uint8_t *into, std::size_t capacity, std::size_t *written) {
+            return nody_recoder_feed_repair(&state_, part.data(), part.size(), into, capacity, by.number(), by.table(), by.table_len(), &read, written);
+        });
+        read_ += read;
+    }
+    void finish_repair(std::string &out, const repair &by) {
+        append(0, out, [&](std::uint8_t *into, std::size_t capacity, std::size_t *written) {
+            return nody_recoder_finish_repair(&state_, into, capacity, by.number(), by.table(), by.table_len(), written);
+        });
+    }
+
     // Transcodes up to the first fault, and returns it. To go on after it, feed what follows the first `*read` bytes of the part. At the
     // end of the input call finish_strict until it returns none.
     std::optional<fault> feed_strict(bytes part, std::string &out, std::size_t *read = nullptr) {
@@ -644,7 +821,7 @@ public:
         return it;
     }
 
-    // How many faults feed and finish replaced, how many bytes were read, and how many of these are held.
+    // How many faults were replaced (feed_lossy does not count), how many bytes were read, and how many of these are held.
     std::uint64_t replaced() const noexcept { return state_.replaced; }
     std::uint64_t read() const noexcept { return read_; }
     std::size_t held() const noexcept {
@@ -954,6 +1131,33 @@ private:
     }
 
     detail::decoding it_;
+};
+
+// A position in input in parts: the line, the column in pieces and the column in bytes, each from 1 on. A part may end anywhere, and the
+// position does not depend on how the input is divided: nody_position_advance in noddychest.h says where lines end, and what counts. It
+// is a value: a copy continues from there. Of a text that has faults, with their offsets:
+//
+//     nody::position at(nody::encoding::utf8);
+//     std::size_t passed = 0;
+//     for (const nody::located &it : nody::faults(text)) {
+//         at.advance(text.substr(passed, it.offset - passed));
+//         passed = it.offset;
+//         report(at.line(), at.column(), nody::sentence(it.kind));
+//     }
+class position {
+public:
+    explicit position(encoding from) noexcept : from_(detail::c(from)), it_(nody_position()) {}
+
+    // Advances over the next bytes of the input. (nothing changes if the encoding is none of enum encoding)
+    void advance(bytes part) noexcept { nody_position_advance(&it_, from_, part.data(), part.size()); }
+
+    std::uint64_t line() const noexcept { return it_.line; }
+    std::uint64_t column() const noexcept { return it_.column; }
+    std::uint64_t byte_column() const noexcept { return it_.byte_column; }
+
+private:
+    nody_encoding_t from_;
+    nody_position_t it_;
 };
 
 // ---- The library

@@ -99,6 +99,14 @@ __declspec(allocate(".CRT$XCT")) void(__cdecl *const nody_choose_at_load)(void) 
         return is_v3 ? name##_v3 arguments : name##_v2 arguments; \
     }
 
+/* (C allows no `return` of what has no value) */
+#define CHOSEN_VOID(name, parameters, arguments) \
+    HIDDEN void name##_v2 parameters; \
+    HIDDEN void name##_v3 parameters; \
+    SECTION(name) void name parameters { \
+        (is_v3 ? name##_v3 : name##_v2) arguments; \
+    }
+
 #define ENCODINGS nody_encoding_t from, nody_encoding_t to
 #define INPUT const uint8_t *in, size_t len
 #define ROOM uint8_t *out, size_t room
@@ -120,6 +128,10 @@ CHOSEN(size_t, nody_utf8_faults, (nody_bytes_t *left, uint64_t *offset, FOUND), 
 CHOSEN(size_t, nody_utf16_faults, (nody_units_t *left, uint64_t *offset, FOUND), (left, offset, out, room))
 CHOSEN(nody_status_t, nody_decoder_feed_faults, (nody_decoder_t *decoder, INPUT, FOUND, size_t *read, size_t *written),
        (decoder, in, len, out, room, read, written))
+CHOSEN(nody_status_t, nody_position_advance, (nody_position_t *position, nody_encoding_t encoding, const uint8_t *bytes, size_t len),
+       (position, encoding, bytes, len))
+CHOSEN_VOID(nody_survey, (const uint8_t *bytes, size_t len, nody_survey_t *survey), (bytes, len, survey))
+CHOSEN(nody_status_t, nody_surveyor_feed, (nody_surveyor_t *surveyor, const uint8_t *part, size_t len), (surveyor, part, len))
 CHOSEN(size_t, nody_recoded_len, (ENCODINGS, INPUT), (from, to, in, len))
 CHOSEN(nody_status_t, nody_recode, (ENCODINGS, INPUT, ROOM, size_t *written), (from, to, in, len, out, room, written))
 CHOSEN(nody_status_t, nody_recode_strict, (ENCODINGS, INPUT, ROOM, size_t *read, size_t *written, nody_fault_t *fault),
@@ -128,6 +140,9 @@ CHOSEN(nody_status_t, nody_recoder_feed, (nody_recoder_t *recoder, INPUT, ROOM, 
        (recoder, in, len, out, room, read, written))
 CHOSEN(nody_status_t, nody_recoder_feed_lossy, (nody_recoder_t *recoder, INPUT, ROOM, size_t *read, size_t *written),
        (recoder, in, len, out, room, read, written))
+CHOSEN(nody_status_t, nody_recoder_feed_repair,
+       (nody_recoder_t *recoder, INPUT, ROOM, nody_repair_t repair, const uint32_t *table, size_t table_len, size_t *read, size_t *written),
+       (recoder, in, len, out, room, repair, table, table_len, read, written))
 CHOSEN(nody_status_t, nody_recoder_feed_strict, (nody_recoder_t *recoder, INPUT, ROOM, size_t *read, size_t *written, nody_fault_t *fault),
        (recoder, in, len, out, room, read, written, fault))
 

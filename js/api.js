@@ -1,10 +1,18 @@
 // The calls of the package. index.d.ts says what they take and return.
 import { bytesOf, copyOf, hold, own, partOf, unshared } from "./bytes.js";
-import { FEW, FORMS, INCOMPLETE, LOSSY, NONE, NO_BYTES, NO_PIECES, OK, REPLACE, ROOM, SEEN, STRICT, TOO_FEW, UTF16LE, UTF8, joined } from "./codec.js";
+import { DROP, FEW, FORMS, INCOMPLETE, LATIN_1, LOSSY, NONE, NOTHING, NO_BYTES, NO_PIECES, OK, REPLACE, ROOM, SEEN, SETTINGS, STRICT, TABLED, TOO_FEW, UTF16LE, UTF8, WINDOWS_1252, joined, repairOf } from "./codec.js";
 
 // How many bytes are scanned for pieces in one call of the module.
 const BLOCK = 4096;
 const MEGABYTE = 1 << 20;
+// How many bytes are validated in one call of the module: they stay in the CPU's cache.
+const WINDOW = 1 << 16;
+// Up to this length TextDecoder decodes valid UTF-8 in less time than transcoding to UTF-16 takes. Of longer text only ASCII.
+const SHORT = 256;
+const SAMPLES = 100;
+// From this length on a TextDecoder validates ASCII that it decodes: it need not be copied into the module's memory. For less text the error
+// of a TextDecoder, if the text is invalid, takes too long.
+const LONG = 1 << 15;
 // Every engine allows strings of this many code units.
 const UNITS = 1 << 27;
 // Bytes of UTF-16 that a TextDecoder gets in one call: Node's fails for 2^28.
@@ -21,11 +29,15 @@ const LABELS = [
 function labelOf(given) {
     if (ArrayBuffer.isView(given)) throw new TypeError('noddychest: an encoding is a string, as "utf-8", and no bytes');
     const told = String(given);
-    const name = told.replace(/^[\t\n\f\r ]+|[\t\n\f\r ]+$/g, "").toLowerCase();
+    // (no label has white space inside. A regular expression for that at the end alone would take quadratic time for what is inside)
+    const words = told.split(/[\t\n\f\r ]+/, 3).filter((it) => it !== "");
+    const name = words.length === 1 ? words[0].toLowerCase() : "";
     return { told, form: LABELS.findIndex((it) => it.includes(name)) };
 }
 
 function formOf(label) {
+    const known = FORMS.indexOf(label);
+    if (known >= 0) return known;
     const { told, form } = labelOf(label);
     if (form < 0) throw new RangeError(`noddychest: the encoding ${told} is not one of ${FORMS.join(", ")}`);
     return form;
@@ -57,17 +69,76 @@ function optionOf(options, name) {
     return it !== options && has(it, name) ? undefined : options[name];
 }
 
-// What options ask to do with invalid bytes. `fatal: true` is how TextDecoder says "strict".
-const WAYS = { replace: REPLACE, lossy: LOSSY, strict: STRICT };
+// What a value is by the language itself, as "Map", also one of another realm.
+const kindOf = (value) => Object.prototype.toString.call(value).slice(8, -1);
 
-function wayOf(options = {}) {
+// The first byte that a table has.
+const FIRST = 0x80;
+
+const quoted = (value) => (typeof value === "string" ? JSON.stringify(value) : String(value));
+
+// The number of a character that a table has for a byte: U+FFFD if it does not have the byte.
+function numberOfChar(char, byte) {
+    if (char === undefined) return 0xfffd;
+    if (char === null || char === "") return NOTHING;
+    const rule = `noddychest: a table has for the byte ${byte.toString(16).toUpperCase()} a character up to U+FFFF, or nothing`;
+    if (typeof char !== "string" && typeof char !== "number") throw new TypeError(`${rule}, and no ${typeof char}`);
+    const number = typeof char === "number" ? char : char.length === 1 ? char.charCodeAt(0) : -1;
+    if (Number.isInteger(number) && number >= 0 && number <= 0xffff && (number < 0xd800 || number > 0xdfff)) return number;
+    throw new RangeError(`${rule}, and not ${quoted(char)}`);
+}
+
+// Throws if a key of a table is no byte.
+function holdKeys(keys, numberOf) {
+    for (const key of keys) {
+        const byte = numberOf(key);
+        if (!Number.isInteger(byte) || byte < 0 || byte > 0xff) throw new RangeError(`noddychest: a table has characters for the bytes 128 to 255, and not for ${quoted(key)}`);
+    }
+}
+
+// What looks a byte up in a table.
+function lookUpIn(table) {
+    if (typeof table === "function") return (byte) => table(byte);
+    if (Array.isArray(table) || (ArrayBuffer.isView(table) && kindOf(table) !== "DataView")) {
+        if (ArrayBuffer.isView(table)) bytesOf(table); // (throws if these are gone)
+        const { length } = table;
+        if (length > TABLED) throw new RangeError(`noddychest: an array of characters begins with that for the byte 80, and has up to ${TABLED}, and not ${length}`);
+        return (byte) => table[byte - FIRST];
+    }
+    if (kindOf(table) === "Map") {
+        holdKeys(table.keys(), (key) => key);
+        return (byte) => table.get(byte);
+    }
+    if (kindOf(table) !== "Object") throw new TypeError(`noddychest: a table is an object, a Map, an array or a function, and no ${kindOf(table)}`);
+    holdKeys(Object.keys(table), (key) => (String(Number(key)) === key ? Number(key) : NaN));
+    return (byte) => (has(table, byte) ? table[byte] : undefined);
+}
+
+// What writes the characters of a table, of which each is asked for once.
+function repairBy(table) {
+    const lookUp = lookUpIn(table);
+    const numbers = new Array(TABLED);
+    for (let at = 0; at < TABLED; at++) numbers[at] = numberOfChar(lookUp(FIRST + at), FIRST + at);
+    return repairOf(numbers);
+}
+
+// What options ask to do with invalid bytes. `fatal: true` is how TextDecoder says "strict".
+const WAYS = { replace: REPLACE, lossy: LOSSY, strict: STRICT, drop: DROP, "windows-1252": WINDOWS_1252, "latin-1": LATIN_1 };
+
+function wayBy(name) {
+    if (Object.keys(WAYS).includes(name)) return WAYS[name];
+    throw new RangeError(`noddychest: errors is ${Object.keys(WAYS).map((it) => `"${it}"`).join(", ")} or a table, and not ${name}`);
+}
+
+function wayOf(options) {
+    if (options === undefined) return REPLACE;
     const given = objectOf(options, "{ fatal: true }");
     const [errors, fatal] = [optionOf(given, "errors"), optionOf(given, "fatal")];
     if (errors === undefined) return fatal ? STRICT : REPLACE;
-    const name = String(errors);
-    if (!Object.keys(WAYS).includes(name)) throw new RangeError(`noddychest: errors is "replace", "lossy" or "strict", and not ${name}`);
-    if (fatal && WAYS[name] !== STRICT) throw new TypeError(`noddychest: fatal is the same as errors: "strict", and here errors is "${name}"`);
-    return WAYS[name];
+    const isTable = typeof errors === "function" || (typeof errors === "object" && errors !== null && kindOf(errors) !== "String");
+    const way = isTable ? repairBy(errors) : wayBy(String(errors));
+    if (fatal && way !== STRICT) throw new TypeError(`noddychest: fatal is the same as errors: "strict", and here errors is ${isTable ? "a table" : `"${errors}"`}`);
+    return way;
 }
 
 // What options ask to call with each fault.
@@ -131,6 +202,41 @@ function fitsInString(units) {
 
 const tooLong = (units) => new RangeError(`noddychest: a text of ${units} units of UTF-16 is too long for a string here: take streamText, or recode`);
 
+const newTextDecoder = (form) => new TextDecoder(FORMS[form], own({ ignoreBOM: true, fatal: form === UTF8 }));
+
+// A TextDecoder of each encoding, which is kept, since making one takes longer than decoding a short text; and the class of them.
+const kept = { of: null, decoders: [null, null, null] };
+
+// The text of bytes, which a TextDecoder gets in parts of at most AT_ONCE. Null if it fits in no string, of which V8 says that its bytes are not
+// valid, and of invalid UTF-8.
+function decodedBy(form, bytes) {
+    const { decoders } = kept;
+    if (kept.of !== TextDecoder) [kept.of, decoders[UTF8], decoders[UTF16LE]] = [TextDecoder, null, null];
+    const decoder = decoders[form] ?? newTextDecoder(form);
+    // (one that throws is not used again)
+    decoders[form] = null;
+    try {
+        const text = bytes.length <= AT_ONCE ? decoder.decode(bytes) : decodedInParts(decoder, bytes);
+        decoders[form] = decoder;
+        return text;
+    } catch {
+        return null;
+    }
+}
+
+function decodedInParts(decoder, bytes) {
+    let text = "";
+    for (let at = 0; at < bytes.length; at += AT_ONCE) text += decoder.decode(partOf(bytes, at, at + AT_ONCE), own({ stream: at + AT_ONCE < bytes.length }));
+    return text;
+}
+
+// Whether some of the bytes, all over them, are ASCII.
+function looksAscii(bytes) {
+    const step = Math.ceil(bytes.length / SAMPLES);
+    for (let at = 0; at < bytes.length; at += step) if (bytes[at] > 0x7f) return false;
+    return true;
+}
+
 // The parts of a stream or of any iterable. A stream that is left before its end is cancelled.
 async function* partsOf(stream) {
     if (typeof stream?.getReader !== "function") {
@@ -153,6 +259,43 @@ async function* partsOf(stream) {
         reader.releaseLock();
     }
 }
+
+// The names of guesses by their numbers, and what they say.
+const GUESSES = [
+    ["Ascii", "ASCII"],
+    ["Utf8", "UTF-8"],
+    ["Utf8Marked", "UTF-8, by its byte order mark"],
+    ["Utf8Cut", "UTF-8, cut off inside a character"],
+    ["Utf8Mixed", "UTF-8, with single bytes of an 8-bit encoding"],
+    ["Utf8Twice", "UTF-8 that was encoded twice"],
+    ["Utf8Surrogates", "CESU-8 or Java's modified UTF-8: UTF-8 with surrogates"],
+    ["Utf16Le", "UTF-16LE, without a byte order mark"],
+    ["Utf16Be", "UTF-16BE, without a byte order mark"],
+    ["Utf16LeMarked", "UTF-16LE, by its byte order mark"],
+    ["Utf16BeMarked", "UTF-16BE, by its byte order mark"],
+    ["Utf32", "UTF-32, by its byte order mark"],
+    ["Windows1252", "Windows-1252, or another encoding of Latin letters"],
+    ["Other8Bit", "some 8-bit encoding, but not Windows-1252"],
+    ["Binary", "not text"],
+];
+
+function guessText(guess) {
+    const found = GUESSES.find(([name]) => name === guess);
+    if (!found) throw new RangeError(`noddychest: no guess has the name ${String(guess)}`);
+    return found[1];
+}
+
+// A survey, as callers see it.
+function surveyOf({ counts, ends, guesses }) {
+    const [length, nul, control, chars, faults, third, signs, undefined_, surrogates, twice, twiceChars] = counts;
+    const [utf16le, utf16be] = [11, 14].map((at) => ({ plain: counts[at], stray: counts[at + 1], unpaired: counts[at + 2] }));
+    const utf8 = { chars, faults, third, signs, undefined: undefined_, surrogates, twice, twiceChars };
+    const told = Array.from(guesses, (number) => GUESSES[number][0]);
+    return { guess: told[0], guesses: told, length, nul, control, utf8, utf16le, utf16be, front: copyOf(ends, 0, Math.min(length, 4)), head: ends[4], tail: ends[5] };
+}
+
+// A fault with its position.
+const locatedOf = ({ offset, length, error }, { line, column, byteColumn }) => ({ offset, line, column, byteColumn, length, error });
 
 // The calls over one instance of the module, which no others use.
 export function callsOf(codec) {
@@ -189,22 +332,35 @@ export function callsOf(codec) {
         }
     }
 
-    // The invalid ones of the pieces; the setting is about how many one call looks for.
-    function* faultsIn(bytes, form, settings) {
-        const { base = 0, end = bytes.length, most = BLOCK } = own(settings);
+    // The invalid ones of the pieces; `most` is about how many one call looks for. With a position, that of the first byte, each has its own,
+    // and the position is then that of the end.
+    function* faultsIn(bytes, form, { base, end, most, position = null } = { base: 0, end: bytes.length, most: BLOCK }) {
         const { length } = bytes;
-        let [begin, front, filled, limit] = [0, 0, 0, 0];
+        let [begin, front, filled, limit, size] = [0, 0, 0, 0, BLOCK];
         while (begin + front < end) {
             hold(bytes.length === length);
             if (!codec.holds(filled) || front === limit) {
+                // (the window is short at first, and again after another call took the memory)
+                size = filled && codec.holds(filled) ? Math.min(16 * size, MEGABYTE) : BLOCK;
                 [begin, front] = [begin + front, 0];
-                filled = codec.fill(partOf(bytes, begin, begin + MEGABYTE), form);
+                filled = codec.fill(partOf(bytes, begin, begin + size), form);
                 // (the kind of a piece depends on the bytes after it: those at the end of this window come again)
                 limit = begin + codec.len === length ? codec.len : codec.boundary(codec.len - SEEN);
             }
             const block = [];
-            const told = codec.faults(front, most, (place, len, kind) => place < limit && begin + place < end && block.push(shown({ place, len, scalar: 0, kind }, base + begin)));
+            let passed = front;
+            const tell = (place, len, kind) => {
+                if (place >= limit || begin + place >= end) return;
+                const fault = shown({ place, len, scalar: 0, kind }, base + begin);
+                if (position) codec.advance(passed, place);
+                block.push(position ? locatedOf(fault, codec.position) : fault);
+                passed = place;
+            };
+            if (position) codec.setPosition(position);
+            const told = codec.faults(front, most, tell);
             front = Math.min(told, limit);
+            if (position) codec.advance(passed, Math.max(passed, Math.min(front, end - begin)));
+            if (position) codec.positionTo(position);
             for (const it of block) {
                 hold(bytes.length === length);
                 yield it;
@@ -281,9 +437,26 @@ export function callsOf(codec) {
 
     const faults = (data, encoding = "utf-8") => faultsIn(...textOfForm(data, encoding));
 
-    const firstFault = (data, encoding = "utf-8") => faultsIn(...textOfForm(data, encoding), { most: 1 }).next().value ?? null;
+    const locatedIn = (bytes, form) => faultsIn(bytes, form, { base: 0, end: bytes.length, most: BLOCK, position: codec.newPosition() });
 
-    const isValid = (data, encoding) => firstFault(data, encoding) === null;
+    const located = (data, encoding = "utf-8") => locatedIn(...textOfForm(data, encoding));
+
+    // The first invalid byte, or null. (it is named by the bytes that were validated: another thread may have changed shared memory since)
+    function firstIn(bytes, form) {
+        const { length } = bytes;
+        for (let [at, size] = [0, BLOCK]; at < length; size = WINDOW) {
+            codec.fill(at || length > size ? partOf(bytes, at, at + size) : bytes, form);
+            const valid = codec.validUpTo();
+            // (what begins among the last bytes of a window depends on those after it)
+            if (valid < codec.len && (valid <= codec.len - SEEN || at + codec.len === length)) return shown(codec.step("F", { front: valid, back: codec.len }), at);
+            at += valid;
+        }
+        return null;
+    }
+
+    const firstFault = (data, encoding = "utf-8") => firstIn(...textOfForm(data, encoding));
+
+    const isValid = (data, encoding = "utf-8") => firstFault(data, encoding) === null;
 
     // Takes a window of the bytes, at most so long. Returns the boundary at which it ends.
     function windowEnd(bytes, at, size, form) {
@@ -380,17 +553,16 @@ export function callsOf(codec) {
 
     // The output of a recoder for these bytes, whose first one is at an offset of the input; the input ends after the last ones. It throws in
     // strict mode at the first invalid byte.
-    function recoded(state, bytes, settings) {
-        const { form, mode, base = 0, isLast } = own(settings);
+    function recoded(state, bytes, { form, mode, base, isLast, isLent }) {
         const chunks = [];
-        const { fault } = codec.feed(state, bytes, chunks, { mode, isLast });
+        const { fault } = codec.feed(state, bytes, chunks, { most: Infinity, mode, isLast, isLent });
         if (fault) throw new FaultError(shown(fault, base), FORMS[form]);
         return joined(chunks);
     }
 
     function recode(data, from, to, options) {
         const [form, target, mode] = [formOf(from), formOf(to), wayOf(options)];
-        return recoded(codec.newRecoder(form, target), bytesOf(data), { form, mode, isLast: true });
+        return recoded(codec.newRecoder(form, target), bytesOf(data), { form, mode, base: 0, isLast: true, isLent: false });
     }
 
     class Recoder {
@@ -413,7 +585,7 @@ export function callsOf(codec) {
         // (if it throws, nothing has changed)
         #put(bytes, isLast) {
             const [state, end] = [copyOf(this.#state), this.#count + bytes.length];
-            const made = recoded(state, bytes, { form: this.#from, mode: this.#way, base: this.#count, isLast });
+            const made = recoded(state, bytes, { form: this.#from, mode: this.#way, base: this.#count, isLast, isLent: false });
             this.#state = state;
             this.#count = end;
             return made;
@@ -582,33 +754,63 @@ export function callsOf(codec) {
         }
     }
 
+    class Surveyor {
+        #state = codec.newSurveyor();
+
+        feed(part) {
+            this.#state = codec.surveyed(this.#state, bytesOf(part));
+        }
+
+        survey() {
+            return surveyOf(codec.survey(this.#state));
+        }
+    }
+
+    const survey = (data) => surveyOf(codec.survey(codec.surveyed(codec.newSurveyor(), bytesOf(data))));
+
+    const guess = (data) => survey(data).guess;
+
     // Throws if the text of some bytes fits in no string: they are counted only if there are very many.
     function holdLength(bytes, form, way) {
         if (fitsInString(form === UTF8 ? bytes.length : Math.ceil(bytes.length / 2))) return;
-        const units = (way === LOSSY ? codec.feed(codec.newRecoder(form, UTF16LE), bytes, null, { mode: way, isLast: true }).total : recodedLengthOf(bytes, form, UTF16LE)) / 2;
+        const isByOne = way === REPLACE || way === STRICT;
+        const units = (isByOne ? recodedLengthOf(bytes, form, UTF16LE) : codec.feed(codec.newRecoder(form, UTF16LE), bytes, null, { ...SETTINGS, mode: way, isLast: true }).total) / 2;
         if (!fitsInString(units)) throw tooLong(units);
     }
 
     // The text of whole pieces, in one way or another.
     function textOf(bytes, form, way) {
-        const units = recoded(codec.newRecoder(form, UTF16LE), bytes, { form, mode: way, isLast: true });
-        const decoder = new TextDecoder("utf-16le", own({ ignoreBOM: true }));
-        let text = "";
-        try {
-            for (let at = 0; at < units.length; at += AT_ONCE) text += decoder.decode(partOf(units, at, at + AT_ONCE), own({ stream: at + AT_ONCE < units.length }));
-        } catch {
-            // (these units are valid: V8 says of those that fit in no string that they are not)
-            throw tooLong(units.length / 2);
-        }
+        const units = recoded(codec.newRecoder(form, UTF16LE), bytes, { form, mode: way, base: 0, isLast: true, isLent: true });
+        const text = decodedBy(UTF16LE, units);
+        if (text === null) throw tooLong(units.length / 2);
         return text;
     }
 
+    // The text of bytes that are all valid.
+    function validText(bytes, form) {
+        const { length } = bytes;
+        const isQuick = form === UTF8 && (length <= SHORT || (length <= AT_ONCE && looksAscii(bytes)));
+        return (isQuick ? decodedBy(UTF8, bytes) : null) ?? textOf(bytes, form, REPLACE);
+    }
+
+    // The text of long ASCII, if all is valid; null of any other bytes.
+    function asciiText(bytes, form) {
+        if (form !== UTF8 || bytes.length < LONG || bytes.length > AT_ONCE || !looksAscii(bytes)) return null;
+        codec.fill(partOf(bytes, 0, BLOCK));
+        return codec.validUpTo() > BLOCK - SEEN ? decodedBy(UTF8, bytes) : null;
+    }
+
     function decode(data, encoding = "utf-8", options) {
-        const [form, way, bytes] = [formOf(encoding), wayOf(options), unshared(bytesOf(data))];
-        const fault = way === STRICT ? faultsIn(bytes, form, { most: 1 }).next().value : undefined;
-        if (fault) throw new FaultError(fault, FORMS[form]);
+        const form = formOf(encoding);
+        const way = wayOf(options);
+        const bytes = unshared(bytesOf(data));
+        const text = asciiText(bytes, form);
+        if (text !== null) return { text, faults: [] };
+        const first = firstIn(bytes, form);
+        if (first && way === STRICT) throw new FaultError(first, FORMS[form]);
         holdLength(bytes, form, way);
-        return { text: textOf(bytes, form, way), faults: way === STRICT ? [] : [...faultsIn(bytes, form)] };
+        if (!first) return { text: validText(bytes, form), faults: [] };
+        return { text: textOf(bytes, form, way), faults: [...faultsIn(bytes, form)] };
     }
 
     // How many of some bytes are decided, when more may follow: all but the beginning of a character at the end, with what is after it. Three
@@ -639,12 +841,17 @@ export function callsOf(codec) {
 
     async function* streamFaults(stream, encoding = "utf-8") {
         const form = formOf(encoding);
-        for await (const { bytes, end, base } of windowsOf(stream, form)) yield* faultsIn(bytes, form, { base, end });
+        for await (const { bytes, end, base } of windowsOf(stream, form)) yield* faultsIn(bytes, form, { base, end, most: BLOCK });
+    }
+
+    async function* streamLocated(stream, encoding = "utf-8") {
+        const [form, position] = [formOf(encoding), codec.newPosition()];
+        for await (const { bytes, end, base } of windowsOf(stream, form)) yield* faultsIn(bytes, form, { base, end, most: BLOCK, position });
     }
 
     async function* textsOf(stream, form, way) {
         for await (const { bytes, end, base } of windowsOf(stream, form)) {
-            const found = [...faultsIn(bytes, form, { base, end, ...(way === STRICT ? { most: 1 } : {}) })];
+            const found = [...faultsIn(bytes, form, { base, end, most: way === STRICT ? 1 : BLOCK })];
             const stop = way === STRICT && found.length ? found[0].offset - base : end;
             holdLength(partOf(bytes, 0, stop), form, way);
             if (stop) yield { offset: base, text: textOf(partOf(bytes, 0, stop), form, way), faults: way === STRICT ? [] : found };
@@ -681,5 +888,5 @@ export function callsOf(codec) {
         return { readable: new ReadableStream(own({ pull, cancel }), own({ highWaterMark: 0 })), writable };
     }
 
-    return { Decoder, Ends, FaultError, Recoder, boundaryAfter, boundaryBefore, changedRange, charCount, decode, encodingOf, encodingOfBom, faults, firstFault, isValid, numberOf, offsetOf, pieces, piecesBack, recode, recodedLength, recoderStream, sentence, shardEnd, streamFaults, streamPieces, streamText, textStream, undecidedLength };
+    return { Decoder, Ends, FaultError, Recoder, Surveyor, boundaryAfter, boundaryBefore, changedRange, charCount, decode, encodingOf, encodingOfBom, faults, firstFault, guess, guessText, isValid, located, numberOf, offsetOf, pieces, piecesBack, recode, recodedLength, recoderStream, sentence, shardEnd, streamFaults, streamLocated, streamPieces, streamText, survey, textStream, undecidedLength };
 }

@@ -6,18 +6,23 @@ export const own = (record) => ({ __proto__: null, ...record });
 // The built-in methods of an array of bytes, also if somebody has replaced them since.
 const ofArray = (name) => Function.prototype.call.bind(Object.getPrototypeOf(Uint8Array.prototype)[name]);
 export const [setBytes, partOf, copyOf] = ["set", "subarray", "slice"].map(ofArray);
+const valuesOf = ofArray("values");
 
 const getter = (prototype, name) => Object.getOwnPropertyDescriptor(prototype, name).get;
 const ARRAY = Object.getPrototypeOf(Uint8Array.prototype);
 const arrayName = getter(ARRAY, Symbol.toStringTag);
 const [OF_ARRAY, OF_VIEW] = [ARRAY, DataView.prototype].map((it) => ["buffer", "byteOffset", "byteLength"].map((name) => getter(it, name)));
+// (before 2023 no buffer could be resized)
+const resizable = Object.getOwnPropertyDescriptor(ArrayBuffer.prototype, "resizable")?.get;
 const LENGTHS = [ArrayBuffer, ...(typeof SharedArrayBuffer === "function" ? [SharedArrayBuffer] : [])].map((it) => getter(it.prototype, "byteLength"));
 
 // The bytes of a view; it throws if they are not inside its buffer. (An array of such bytes says that it is empty, and `values` throws.)
 function bytesOfView(view) {
     const isArray = arrayName.call(view) !== undefined;
-    if (isArray) ARRAY.values.call(view);
-    return new Uint8Array(...(isArray ? OF_ARRAY : OF_VIEW).map((it) => it.call(view)));
+    const [buffer, offset, length] = isArray ? OF_ARRAY : OF_VIEW;
+    const count = length.call(view);
+    if (isArray && count === 0) valuesOf(view);
+    return new Uint8Array(buffer.call(view), offset.call(view), count);
 }
 
 // The length of a buffer of a kind; undefined of another object.
@@ -41,8 +46,11 @@ function bytesOfBuffer(buffer) {
 // Whether that is a view or a buffer, of bytes that may be gone.
 export const isBytes = (data) => ArrayBuffer.isView(data) || lengthOfBuffer(data) !== undefined;
 
-// These bytes, or, if other threads may change them, a copy.
-export const unshared = (bytes) => (lengthOf(OF_ARRAY[0].call(bytes), LENGTHS[0]) === undefined ? new Uint8Array(bytes) : bytes);
+// These bytes, or, if other threads may change them, or their buffer may be resized, a copy. (A TextDecoder of a browser may reject both.)
+export function unshared(bytes) {
+    const buffer = OF_ARRAY[0].call(bytes);
+    return lengthOf(buffer, LENGTHS[0]) === undefined || resizable?.call(buffer) ? new Uint8Array(bytes) : bytes;
+}
 
 // Throws where bytes that were there are no more.
 export function hold(isThere) {

@@ -5,9 +5,9 @@
 // units: then it is swapped to little-endian, and swapped back if somebody asks for the bytes.
 //
 // The module's memory has a fixed size of 16 MiB. After its own stack and constants, from __heap_base on, it has: a cursor, a result,
-// two lengths, a recoder or decoder and a fault; a buffer for pieces; a part to transcode; the caller's bytes; and the output buffer.
+// two lengths, a recoder or decoder, a fault and a table; a buffer for pieces; a part to transcode; the caller's bytes; and the output buffer.
 
-import { copyOf, own, partOf, setBytes } from "./bytes.js";
+import { copyOf, partOf, setBytes } from "./bytes.js";
 
 export const OK = 0;
 // The kinds that more bytes may change: of a character that the end cuts off, in UTF-8 and in UTF-16.
@@ -22,9 +22,29 @@ export const [UTF8, UTF16LE, UTF16BE] = [0, 1, 2];
 export const MOST = 10 * 1024 * 1024;
 // A piece depends on no more bytes than these from its first on, or up to its last.
 export const SEEN = 4;
-// What a recoder does with invalid bytes: one U+FFFD for each; one for each maximal subpart; or it stops at the first one.
-export const [REPLACE, LOSSY, STRICT] = [0, 1, 2];
-const MODES = ["", "_lossy", "_strict"];
+export const NO_BYTES = new Uint8Array(0);
+// What a recoder does with invalid bytes, as the end of the names of its calls: one U+FFFD for each; one for each maximal subpart; or it
+// stops at the first one.
+export const [REPLACE, LOSSY, STRICT] = ["", "_lossy", "_strict"].map((suffix) => ({ suffix, repair: null, table: NO_BYTES }));
+// Or it writes what a table has for each, which its calls take by number: nothing; the characters of Windows-1252, or of ISO-8859-1; or a
+// table of the caller's, as the bytes of its numbers.
+const wayOfTable = (repair, table) => ({ suffix: "_repair", repair, table });
+export const [DROP, WINDOWS_1252, LATIN_1] = [0, 1, 2].map((repair) => wayOfTable(repair, NO_BYTES));
+// The bytes from 80 on, each of which has a number of 32 bits in a table; and the number that stands for nothing.
+export const TABLED = 128;
+const TABLE = 4 * TABLED;
+export const NOTHING = 0xffffffff;
+
+// A recoder that writes the characters with these numbers, of which the first is for the byte 80.
+export function repairOf(numbers) {
+    const table = new Uint8Array(TABLE);
+    const view = new DataView(table.buffer);
+    numbers.forEach((number, at) => view.setUint32(4 * at, number, true));
+    return wayOfTable(3, table);
+}
+
+// How `Codec.feed` feeds, if a caller asks for nothing else.
+export const SETTINGS = { most: Infinity, mode: REPLACE, isLast: false, isLent: false };
 // How many pieces one call asks for if invalid bytes are rare.
 export const FEW = 32;
 const PIECE = 16;
@@ -34,17 +54,25 @@ const PART_ROOM = 4 * PART;
 // The outputs of parts are concatenated up to about this many bytes, and copied out together: each array is new memory, whose allocation
 // takes longer than to transcode.
 const MADE = 4 * 1024 * 1024;
-export const NO_BYTES = new Uint8Array(0);
 // The size of a recoder, and of a decoder; the offset of the count of replaced bytes in the former, and in the latter those of the count
 // of carried-over bytes and of the input's offset.
 const STATE = 16;
 const REPLACED = 8;
 const [HELD, OFFSET] = [1, 8];
+// The size of a position, of a surveyor and of a survey.
+const POSITION = 32;
+const [SURVEYOR, SURVEY] = [176, 144];
+// How many numbers of 64 bits a survey begins with, and the most guesses.
+const [COUNTS, MOST_GUESSES] = [17, 3];
 // A module of one function, which has a vector.
 const PROBE = [0, 97, 115, 109, 1, 0, 0, 0, 1, 5, 1, 96, 0, 1, 123, 3, 2, 1, 0, 10, 10, 1, 8, 0, 65, 0, 253, 15, 253, 98, 11];
 
 // Whether the module with vectors runs here.
 export const hasVectors = () => WebAssembly.validate(Uint8Array.from(PROBE));
+
+// A length as the module takes it. (the short ones are made before, as that takes as long as to validate them)
+const BIGS = Array.from({ length: 256 }, (_, length) => BigInt(length));
+const bigOf = (length) => BIGS[length] ?? BigInt(length);
 
 export class Codec {
     filled = 0;
@@ -73,7 +101,8 @@ export class Codec {
         this.numbers = this.answer + 16;
         this.state = this.numbers + 16;
         this.fault = this.state + 16;
-        this.room = this.fault + 32;
+        this.table = this.fault + 32;
+        this.room = this.table + TABLE;
         this.part = this.room + ROOM * PIECE;
         this.start = this.part + PART;
         this.made = this.start + MOST;
@@ -288,8 +317,9 @@ export class Codec {
     validUpTo(front = 0) {
         if (this.standing === UTF16BE) return front + this.validFrom(UTF16BE, front, Math.max(this.whole, front));
         const call = this.form === UTF8 ? this.calls.nody_utf8_valid_up_to : this.calls.nody_utf16_valid_up_to;
-        const units = BigInt(Math.max(this.whole - front, 0) / this.unit);
-        return front + this.unit * Number(call(this.address(this.start + front), units));
+        const units = bigOf(Math.max(this.whole - front, 0) / this.unit);
+        const valid = call(this.address(this.start + front), units);
+        return valid === units ? Math.max(this.whole, front) : front + this.unit * Number(valid);
     }
 
     // How many pieces there are from one boundary on and before another.
@@ -356,30 +386,33 @@ export class Codec {
 
     // Feeds bytes to a recoder, and appends its output to `chunks`, if given, up to about `settings.most` bytes, or, in strict mode, up to
     // the first invalid byte. Returns how many bytes were fed, how many were written, and that invalid byte or null. If these bytes are the
-    // last ones, the input ends after them.
+    // last ones, the input ends after them. If `settings.isLent`, the last chunk is no copy, and is valid until the next call.
     // (Calls that are not strict take one argument less: the last is ignored.)
-    feed(state, source, chunks, settings) {
-        const { most = Infinity, mode = REPLACE, isLast = false } = own(settings);
+    feed(state, source, chunks, { most = Infinity, mode = REPLACE, isLast = false, isLent = false } = SETTINGS) {
         this.mend();
-        const call = this.calls[`nody_recoder_feed${MODES[mode]}`];
+        const { suffix, repair, table } = mode;
+        const [feed, finish] = [this.calls[`nody_recoder_feed${suffix}`], this.calls[`nody_recoder_finish${suffix}`]];
         const [recoder, part, read, written, fault] = [this.state, this.part, this.numbers, this.numbers + 8, this.fault].map(this.address);
+        const more = repair === null ? [] : [repair, this.address(this.table), BigInt(table.length / 4)];
+        setBytes(this.memory, table, this.table);
         setBytes(this.memory, state, this.state);
         let [at, total, made, status] = [0, 0, 0, 0];
         while (at < source.length && total < most && status !== FAULT) {
             const taken = partOf(source, at, at + PART);
             setBytes(this.memory, taken, this.part);
-            status = call(recoder, part, BigInt(taken.length), this.address(this.made + made), BigInt(PART_ROOM), read, written, fault);
+            status = feed(recoder, part, BigInt(taken.length), this.address(this.made + made), BigInt(PART_ROOM), ...more, read, written, fault);
             at += this.number(this.numbers);
             made += this.number(this.numbers + 8);
             total += this.number(this.numbers + 8);
             if (made > MADE) made -= this.keep(chunks, made);
         }
         if (isLast && at === source.length && status !== FAULT) {
-            status = this.calls[`nody_recoder_finish${MODES[mode]}`](recoder, this.address(this.made + made), BigInt(PART_ROOM), written, fault);
+            status = finish(recoder, this.address(this.made + made), BigInt(PART_ROOM), ...more, written, fault);
             made += this.number(this.numbers + 8);
             total += this.number(this.numbers + 8);
         }
-        this.keep(chunks, made);
+        if (isLent) chunks.push(partOf(this.memory, this.made, this.made + made));
+        else this.keep(chunks, made);
         setBytes(state, partOf(this.memory, this.state, this.state + STATE));
         return { at, total, fault: status === FAULT ? this.faultBefore(at) : null };
     }
@@ -387,13 +420,70 @@ export class Codec {
     // What a recoder still holds, as no more input follows. Returns the first invalid byte, if it is strict, or null; its offset counts
     // from the end of the input.
     finish(state, chunks, mode = REPLACE) {
-        return this.feed(state, NO_BYTES, chunks, { mode, isLast: true }).fault;
+        return this.feed(state, NO_BYTES, chunks, { ...SETTINGS, mode, isLast: true }).fault;
     }
 
     // The fault at which a strict call stopped, after `read` bytes.
     faultBefore(read) {
         const { fault } = this;
         return { place: read - this.number(fault + 8), len: this.number(fault), kind: this.view.getUint8(fault + 16) };
+    }
+
+    // The position at the front of an input, as the bytes of its struct. (It has the memory of a fault)
+    newPosition() {
+        this.mend();
+        this.calls.nody_position(this.address(this.fault));
+        return copyOf(this.memory, this.fault, this.fault + POSITION);
+    }
+
+    // Takes a position, which `advance` moves on until `positionTo` puts it back.
+    setPosition(state) {
+        setBytes(this.memory, state, this.fault);
+    }
+
+    // Advances the position over the bytes from one offset up to another. (It holds units in one order: so big-endian ones are turned)
+    advance(from, to) {
+        this.turn();
+        this.calls.nody_position_advance(this.address(this.fault), this.standing, this.address(this.start + from), BigInt(to - from));
+    }
+
+    positionTo(state) {
+        setBytes(state, partOf(this.memory, this.fault, this.fault + POSITION));
+    }
+
+    // The position, as callers see it.
+    get position() {
+        const { view, fault } = this;
+        return { line: wide(view, fault), column: wide(view, fault + 8), byteColumn: wide(view, fault + 16) };
+    }
+
+    // A surveyor of an input of which nothing was fed, as the bytes of its struct. (It has the memory of pieces)
+    newSurveyor() {
+        this.mend();
+        this.calls.nody_surveyor(this.address(this.room));
+        return copyOf(this.memory, this.room, this.room + SURVEYOR);
+    }
+
+    // The surveyor after a part.
+    surveyed(state, part) {
+        for (let at = 0; at < part.length; at += MOST) {
+            this.fill(partOf(part, at, at + MOST));
+            setBytes(this.memory, state, this.room);
+            this.calls.nody_surveyor_feed(this.address(this.room), this.address(this.start), BigInt(this.len));
+            state = copyOf(this.memory, this.room, this.room + SURVEYOR);
+        }
+        return state;
+    }
+
+    // The survey of all parts: its counts in order, its last bytes, and the numbers of the guesses.
+    survey(state) {
+        this.mend();
+        const [at, guesses] = [this.room + SURVEYOR, this.room + SURVEYOR + SURVEY];
+        setBytes(this.memory, state, this.room);
+        this.calls.nody_surveyor_survey(this.address(this.room), this.address(at));
+        const count = Number(this.calls.nody_guesses(this.address(at), this.address(guesses), BigInt(MOST_GUESSES)));
+        const counts = Array.from({ length: COUNTS }, (_, i) => wide(this.view, at + 8 * i));
+        return { counts, ends: copyOf(this.memory, at + 8 * COUNTS, at + 8 * COUNTS + 6), guesses: copyOf(this.memory, guesses, guesses + count) };
     }
 
     // A decoder that holds nothing, and counts from an offset.
@@ -448,7 +538,7 @@ export class Codec {
     // These bytes in another encoding, as chunks: all of them, or about `settings.most` bytes of the output.
     recode(from, to, source, settings) {
         const chunks = [];
-        this.feed(this.newRecoder(from, to), source, chunks, { ...settings, isLast: true });
+        this.feed(this.newRecoder(from, to), source, chunks, { ...SETTINGS, ...settings, isLast: true });
         return chunks;
     }
 }

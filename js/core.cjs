@@ -8,18 +8,23 @@ const own = (record) => ({ __proto__: null, ...record });
 // The built-in methods of an array of bytes, also if somebody has replaced them since.
 const ofArray = (name) => Function.prototype.call.bind(Object.getPrototypeOf(Uint8Array.prototype)[name]);
 const [setBytes, partOf, copyOf] = ["set", "subarray", "slice"].map(ofArray);
+const valuesOf = ofArray("values");
 
 const getter = (prototype, name) => Object.getOwnPropertyDescriptor(prototype, name).get;
 const ARRAY = Object.getPrototypeOf(Uint8Array.prototype);
 const arrayName = getter(ARRAY, Symbol.toStringTag);
 const [OF_ARRAY, OF_VIEW] = [ARRAY, DataView.prototype].map((it) => ["buffer", "byteOffset", "byteLength"].map((name) => getter(it, name)));
+// (before 2023 no buffer could be resized)
+const resizable = Object.getOwnPropertyDescriptor(ArrayBuffer.prototype, "resizable")?.get;
 const LENGTHS = [ArrayBuffer, ...(typeof SharedArrayBuffer === "function" ? [SharedArrayBuffer] : [])].map((it) => getter(it.prototype, "byteLength"));
 
 // The bytes of a view; it throws if they are not inside its buffer. (An array of such bytes says that it is empty, and `values` throws.)
 function bytesOfView(view) {
     const isArray = arrayName.call(view) !== undefined;
-    if (isArray) ARRAY.values.call(view);
-    return new Uint8Array(...(isArray ? OF_ARRAY : OF_VIEW).map((it) => it.call(view)));
+    const [buffer, offset, length] = isArray ? OF_ARRAY : OF_VIEW;
+    const count = length.call(view);
+    if (isArray && count === 0) valuesOf(view);
+    return new Uint8Array(buffer.call(view), offset.call(view), count);
 }
 
 // The length of a buffer of a kind; undefined of another object.
@@ -43,8 +48,11 @@ function bytesOfBuffer(buffer) {
 // Whether that is a view or a buffer, of bytes that may be gone.
 const isBytes = (data) => ArrayBuffer.isView(data) || lengthOfBuffer(data) !== undefined;
 
-// These bytes, or, if other threads may change them, a copy.
-const unshared = (bytes) => (lengthOf(OF_ARRAY[0].call(bytes), LENGTHS[0]) === undefined ? new Uint8Array(bytes) : bytes);
+// These bytes, or, if other threads may change them, or their buffer may be resized, a copy. (A TextDecoder of a browser may reject both.)
+function unshared(bytes) {
+    const buffer = OF_ARRAY[0].call(bytes);
+    return lengthOf(buffer, LENGTHS[0]) === undefined || resizable?.call(buffer) ? new Uint8Array(bytes) : bytes;
+}
 
 // Throws where bytes that were there are no more.
 function hold(isThere) {
@@ -70,7 +78,7 @@ function bytesOf(data) {
 // units: then it is swapped to little-endian, and swapped back if somebody asks for the bytes.
 //
 // The module's memory has a fixed size of 16 MiB. After its own stack and constants, from __heap_base on, it has: a cursor, a result,
-// two lengths, a recoder or decoder and a fault; a buffer for pieces; a part to transcode; the caller's bytes; and the output buffer.
+// two lengths, a recoder or decoder, a fault and a table; a buffer for pieces; a part to transcode; the caller's bytes; and the output buffer.
 
 
 const OK = 0;
@@ -86,9 +94,29 @@ const [UTF8, UTF16LE, UTF16BE] = [0, 1, 2];
 const MOST = 10 * 1024 * 1024;
 // A piece depends on no more bytes than these from its first on, or up to its last.
 const SEEN = 4;
-// What a recoder does with invalid bytes: one U+FFFD for each; one for each maximal subpart; or it stops at the first one.
-const [REPLACE, LOSSY, STRICT] = [0, 1, 2];
-const MODES = ["", "_lossy", "_strict"];
+const NO_BYTES = new Uint8Array(0);
+// What a recoder does with invalid bytes, as the end of the names of its calls: one U+FFFD for each; one for each maximal subpart; or it
+// stops at the first one.
+const [REPLACE, LOSSY, STRICT] = ["", "_lossy", "_strict"].map((suffix) => ({ suffix, repair: null, table: NO_BYTES }));
+// Or it writes what a table has for each, which its calls take by number: nothing; the characters of Windows-1252, or of ISO-8859-1; or a
+// table of the caller's, as the bytes of its numbers.
+const wayOfTable = (repair, table) => ({ suffix: "_repair", repair, table });
+const [DROP, WINDOWS_1252, LATIN_1] = [0, 1, 2].map((repair) => wayOfTable(repair, NO_BYTES));
+// The bytes from 80 on, each of which has a number of 32 bits in a table; and the number that stands for nothing.
+const TABLED = 128;
+const TABLE = 4 * TABLED;
+const NOTHING = 0xffffffff;
+
+// A recoder that writes the characters with these numbers, of which the first is for the byte 80.
+function repairOf(numbers) {
+    const table = new Uint8Array(TABLE);
+    const view = new DataView(table.buffer);
+    numbers.forEach((number, at) => view.setUint32(4 * at, number, true));
+    return wayOfTable(3, table);
+}
+
+// How `Codec.feed` feeds, if a caller asks for nothing else.
+const SETTINGS = { most: Infinity, mode: REPLACE, isLast: false, isLent: false };
 // How many pieces one call asks for if invalid bytes are rare.
 const FEW = 32;
 const PIECE = 16;
@@ -98,17 +126,25 @@ const PART_ROOM = 4 * PART;
 // The outputs of parts are concatenated up to about this many bytes, and copied out together: each array is new memory, whose allocation
 // takes longer than to transcode.
 const MADE = 4 * 1024 * 1024;
-const NO_BYTES = new Uint8Array(0);
 // The size of a recoder, and of a decoder; the offset of the count of replaced bytes in the former, and in the latter those of the count
 // of carried-over bytes and of the input's offset.
 const STATE = 16;
 const REPLACED = 8;
 const [HELD, OFFSET] = [1, 8];
+// The size of a position, of a surveyor and of a survey.
+const POSITION = 32;
+const [SURVEYOR, SURVEY] = [176, 144];
+// How many numbers of 64 bits a survey begins with, and the most guesses.
+const [COUNTS, MOST_GUESSES] = [17, 3];
 // A module of one function, which has a vector.
 const PROBE = [0, 97, 115, 109, 1, 0, 0, 0, 1, 5, 1, 96, 0, 1, 123, 3, 2, 1, 0, 10, 10, 1, 8, 0, 65, 0, 253, 15, 253, 98, 11];
 
 // Whether the module with vectors runs here.
 const hasVectors = () => WebAssembly.validate(Uint8Array.from(PROBE));
+
+// A length as the module takes it. (the short ones are made before, as that takes as long as to validate them)
+const BIGS = Array.from({ length: 256 }, (_, length) => BigInt(length));
+const bigOf = (length) => BIGS[length] ?? BigInt(length);
 
 class Codec {
     filled = 0;
@@ -137,7 +173,8 @@ class Codec {
         this.numbers = this.answer + 16;
         this.state = this.numbers + 16;
         this.fault = this.state + 16;
-        this.room = this.fault + 32;
+        this.table = this.fault + 32;
+        this.room = this.table + TABLE;
         this.part = this.room + ROOM * PIECE;
         this.start = this.part + PART;
         this.made = this.start + MOST;
@@ -352,8 +389,9 @@ class Codec {
     validUpTo(front = 0) {
         if (this.standing === UTF16BE) return front + this.validFrom(UTF16BE, front, Math.max(this.whole, front));
         const call = this.form === UTF8 ? this.calls.nody_utf8_valid_up_to : this.calls.nody_utf16_valid_up_to;
-        const units = BigInt(Math.max(this.whole - front, 0) / this.unit);
-        return front + this.unit * Number(call(this.address(this.start + front), units));
+        const units = bigOf(Math.max(this.whole - front, 0) / this.unit);
+        const valid = call(this.address(this.start + front), units);
+        return valid === units ? Math.max(this.whole, front) : front + this.unit * Number(valid);
     }
 
     // How many pieces there are from one boundary on and before another.
@@ -420,30 +458,33 @@ class Codec {
 
     // Feeds bytes to a recoder, and appends its output to `chunks`, if given, up to about `settings.most` bytes, or, in strict mode, up to
     // the first invalid byte. Returns how many bytes were fed, how many were written, and that invalid byte or null. If these bytes are the
-    // last ones, the input ends after them.
+    // last ones, the input ends after them. If `settings.isLent`, the last chunk is no copy, and is valid until the next call.
     // (Calls that are not strict take one argument less: the last is ignored.)
-    feed(state, source, chunks, settings) {
-        const { most = Infinity, mode = REPLACE, isLast = false } = own(settings);
+    feed(state, source, chunks, { most = Infinity, mode = REPLACE, isLast = false, isLent = false } = SETTINGS) {
         this.mend();
-        const call = this.calls[`nody_recoder_feed${MODES[mode]}`];
+        const { suffix, repair, table } = mode;
+        const [feed, finish] = [this.calls[`nody_recoder_feed${suffix}`], this.calls[`nody_recoder_finish${suffix}`]];
         const [recoder, part, read, written, fault] = [this.state, this.part, this.numbers, this.numbers + 8, this.fault].map(this.address);
+        const more = repair === null ? [] : [repair, this.address(this.table), BigInt(table.length / 4)];
+        setBytes(this.memory, table, this.table);
         setBytes(this.memory, state, this.state);
         let [at, total, made, status] = [0, 0, 0, 0];
         while (at < source.length && total < most && status !== FAULT) {
             const taken = partOf(source, at, at + PART);
             setBytes(this.memory, taken, this.part);
-            status = call(recoder, part, BigInt(taken.length), this.address(this.made + made), BigInt(PART_ROOM), read, written, fault);
+            status = feed(recoder, part, BigInt(taken.length), this.address(this.made + made), BigInt(PART_ROOM), ...more, read, written, fault);
             at += this.number(this.numbers);
             made += this.number(this.numbers + 8);
             total += this.number(this.numbers + 8);
             if (made > MADE) made -= this.keep(chunks, made);
         }
         if (isLast && at === source.length && status !== FAULT) {
-            status = this.calls[`nody_recoder_finish${MODES[mode]}`](recoder, this.address(this.made + made), BigInt(PART_ROOM), written, fault);
+            status = finish(recoder, this.address(this.made + made), BigInt(PART_ROOM), ...more, written, fault);
             made += this.number(this.numbers + 8);
             total += this.number(this.numbers + 8);
         }
-        this.keep(chunks, made);
+        if (isLent) chunks.push(partOf(this.memory, this.made, this.made + made));
+        else this.keep(chunks, made);
         setBytes(state, partOf(this.memory, this.state, this.state + STATE));
         return { at, total, fault: status === FAULT ? this.faultBefore(at) : null };
     }
@@ -451,13 +492,70 @@ class Codec {
     // What a recoder still holds, as no more input follows. Returns the first invalid byte, if it is strict, or null; its offset counts
     // from the end of the input.
     finish(state, chunks, mode = REPLACE) {
-        return this.feed(state, NO_BYTES, chunks, { mode, isLast: true }).fault;
+        return this.feed(state, NO_BYTES, chunks, { ...SETTINGS, mode, isLast: true }).fault;
     }
 
     // The fault at which a strict call stopped, after `read` bytes.
     faultBefore(read) {
         const { fault } = this;
         return { place: read - this.number(fault + 8), len: this.number(fault), kind: this.view.getUint8(fault + 16) };
+    }
+
+    // The position at the front of an input, as the bytes of its struct. (It has the memory of a fault)
+    newPosition() {
+        this.mend();
+        this.calls.nody_position(this.address(this.fault));
+        return copyOf(this.memory, this.fault, this.fault + POSITION);
+    }
+
+    // Takes a position, which `advance` moves on until `positionTo` puts it back.
+    setPosition(state) {
+        setBytes(this.memory, state, this.fault);
+    }
+
+    // Advances the position over the bytes from one offset up to another. (It holds units in one order: so big-endian ones are turned)
+    advance(from, to) {
+        this.turn();
+        this.calls.nody_position_advance(this.address(this.fault), this.standing, this.address(this.start + from), BigInt(to - from));
+    }
+
+    positionTo(state) {
+        setBytes(state, partOf(this.memory, this.fault, this.fault + POSITION));
+    }
+
+    // The position, as callers see it.
+    get position() {
+        const { view, fault } = this;
+        return { line: wide(view, fault), column: wide(view, fault + 8), byteColumn: wide(view, fault + 16) };
+    }
+
+    // A surveyor of an input of which nothing was fed, as the bytes of its struct. (It has the memory of pieces)
+    newSurveyor() {
+        this.mend();
+        this.calls.nody_surveyor(this.address(this.room));
+        return copyOf(this.memory, this.room, this.room + SURVEYOR);
+    }
+
+    // The surveyor after a part.
+    surveyed(state, part) {
+        for (let at = 0; at < part.length; at += MOST) {
+            this.fill(partOf(part, at, at + MOST));
+            setBytes(this.memory, state, this.room);
+            this.calls.nody_surveyor_feed(this.address(this.room), this.address(this.start), BigInt(this.len));
+            state = copyOf(this.memory, this.room, this.room + SURVEYOR);
+        }
+        return state;
+    }
+
+    // The survey of all parts: its counts in order, its last bytes, and the numbers of the guesses.
+    survey(state) {
+        this.mend();
+        const [at, guesses] = [this.room + SURVEYOR, this.room + SURVEYOR + SURVEY];
+        setBytes(this.memory, state, this.room);
+        this.calls.nody_surveyor_survey(this.address(this.room), this.address(at));
+        const count = Number(this.calls.nody_guesses(this.address(at), this.address(guesses), BigInt(MOST_GUESSES)));
+        const counts = Array.from({ length: COUNTS }, (_, i) => wide(this.view, at + 8 * i));
+        return { counts, ends: copyOf(this.memory, at + 8 * COUNTS, at + 8 * COUNTS + 6), guesses: copyOf(this.memory, guesses, guesses + count) };
     }
 
     // A decoder that holds nothing, and counts from an offset.
@@ -512,7 +610,7 @@ class Codec {
     // These bytes in another encoding, as chunks: all of them, or about `settings.most` bytes of the output.
     recode(from, to, source, settings) {
         const chunks = [];
-        this.feed(this.newRecoder(from, to), source, chunks, { ...settings, isLast: true });
+        this.feed(this.newRecoder(from, to), source, chunks, { ...SETTINGS, ...settings, isLast: true });
         return chunks;
     }
 }
@@ -649,6 +747,14 @@ async function codecOf(source, get) {
 // How many bytes are scanned for pieces in one call of the module.
 const BLOCK = 4096;
 const MEGABYTE = 1 << 20;
+// How many bytes are validated in one call of the module: they stay in the CPU's cache.
+const WINDOW = 1 << 16;
+// Up to this length TextDecoder decodes valid UTF-8 in less time than transcoding to UTF-16 takes. Of longer text only ASCII.
+const SHORT = 256;
+const SAMPLES = 100;
+// From this length on a TextDecoder validates ASCII that it decodes: it need not be copied into the module's memory. For less text the error
+// of a TextDecoder, if the text is invalid, takes too long.
+const LONG = 1 << 15;
 // Every engine allows strings of this many code units.
 const UNITS = 1 << 27;
 // Bytes of UTF-16 that a TextDecoder gets in one call: Node's fails for 2^28.
@@ -665,11 +771,15 @@ const LABELS = [
 function labelOf(given) {
     if (ArrayBuffer.isView(given)) throw new TypeError('noddychest: an encoding is a string, as "utf-8", and no bytes');
     const told = String(given);
-    const name = told.replace(/^[\t\n\f\r ]+|[\t\n\f\r ]+$/g, "").toLowerCase();
+    // (no label has white space inside. A regular expression for that at the end alone would take quadratic time for what is inside)
+    const words = told.split(/[\t\n\f\r ]+/, 3).filter((it) => it !== "");
+    const name = words.length === 1 ? words[0].toLowerCase() : "";
     return { told, form: LABELS.findIndex((it) => it.includes(name)) };
 }
 
 function formOf(label) {
+    const known = FORMS.indexOf(label);
+    if (known >= 0) return known;
     const { told, form } = labelOf(label);
     if (form < 0) throw new RangeError(`noddychest: the encoding ${told} is not one of ${FORMS.join(", ")}`);
     return form;
@@ -701,17 +811,76 @@ function optionOf(options, name) {
     return it !== options && has(it, name) ? undefined : options[name];
 }
 
-// What options ask to do with invalid bytes. `fatal: true` is how TextDecoder says "strict".
-const WAYS = { replace: REPLACE, lossy: LOSSY, strict: STRICT };
+// What a value is by the language itself, as "Map", also one of another realm.
+const kindOf = (value) => Object.prototype.toString.call(value).slice(8, -1);
 
-function wayOf(options = {}) {
+// The first byte that a table has.
+const FIRST = 0x80;
+
+const quoted = (value) => (typeof value === "string" ? JSON.stringify(value) : String(value));
+
+// The number of a character that a table has for a byte: U+FFFD if it does not have the byte.
+function numberOfChar(char, byte) {
+    if (char === undefined) return 0xfffd;
+    if (char === null || char === "") return NOTHING;
+    const rule = `noddychest: a table has for the byte ${byte.toString(16).toUpperCase()} a character up to U+FFFF, or nothing`;
+    if (typeof char !== "string" && typeof char !== "number") throw new TypeError(`${rule}, and no ${typeof char}`);
+    const number = typeof char === "number" ? char : char.length === 1 ? char.charCodeAt(0) : -1;
+    if (Number.isInteger(number) && number >= 0 && number <= 0xffff && (number < 0xd800 || number > 0xdfff)) return number;
+    throw new RangeError(`${rule}, and not ${quoted(char)}`);
+}
+
+// Throws if a key of a table is no byte.
+function holdKeys(keys, numberOf) {
+    for (const key of keys) {
+        const byte = numberOf(key);
+        if (!Number.isInteger(byte) || byte < 0 || byte > 0xff) throw new RangeError(`noddychest: a table has characters for the bytes 128 to 255, and not for ${quoted(key)}`);
+    }
+}
+
+// What looks a byte up in a table.
+function lookUpIn(table) {
+    if (typeof table === "function") return (byte) => table(byte);
+    if (Array.isArray(table) || (ArrayBuffer.isView(table) && kindOf(table) !== "DataView")) {
+        if (ArrayBuffer.isView(table)) bytesOf(table); // (throws if these are gone)
+        const { length } = table;
+        if (length > TABLED) throw new RangeError(`noddychest: an array of characters begins with that for the byte 80, and has up to ${TABLED}, and not ${length}`);
+        return (byte) => table[byte - FIRST];
+    }
+    if (kindOf(table) === "Map") {
+        holdKeys(table.keys(), (key) => key);
+        return (byte) => table.get(byte);
+    }
+    if (kindOf(table) !== "Object") throw new TypeError(`noddychest: a table is an object, a Map, an array or a function, and no ${kindOf(table)}`);
+    holdKeys(Object.keys(table), (key) => (String(Number(key)) === key ? Number(key) : NaN));
+    return (byte) => (has(table, byte) ? table[byte] : undefined);
+}
+
+// What writes the characters of a table, of which each is asked for once.
+function repairBy(table) {
+    const lookUp = lookUpIn(table);
+    const numbers = new Array(TABLED);
+    for (let at = 0; at < TABLED; at++) numbers[at] = numberOfChar(lookUp(FIRST + at), FIRST + at);
+    return repairOf(numbers);
+}
+
+// What options ask to do with invalid bytes. `fatal: true` is how TextDecoder says "strict".
+const WAYS = { replace: REPLACE, lossy: LOSSY, strict: STRICT, drop: DROP, "windows-1252": WINDOWS_1252, "latin-1": LATIN_1 };
+
+function wayBy(name) {
+    if (Object.keys(WAYS).includes(name)) return WAYS[name];
+    throw new RangeError(`noddychest: errors is ${Object.keys(WAYS).map((it) => `"${it}"`).join(", ")} or a table, and not ${name}`);
+}
+
+function wayOf(options) {
+    if (options === undefined) return REPLACE;
     const given = objectOf(options, "{ fatal: true }");
     const [errors, fatal] = [optionOf(given, "errors"), optionOf(given, "fatal")];
     if (errors === undefined) return fatal ? STRICT : REPLACE;
-    const name = String(errors);
-    if (!Object.keys(WAYS).includes(name)) throw new RangeError(`noddychest: errors is "replace", "lossy" or "strict", and not ${name}`);
-    if (fatal && WAYS[name] !== STRICT) throw new TypeError(`noddychest: fatal is the same as errors: "strict", and here errors is "${name}"`);
-    return WAYS[name];
+    const isTable = typeof errors === "function" || (typeof errors === "object" && errors !== null && kindOf(errors) !== "String");
+    const way = isTable ? repairBy(errors) : wayBy(String(errors));
+    if (fatal && way !== STRICT) throw new TypeError(`noddychest: fatal is the same as errors: "strict", and here errors is ${isTable ? "a table" : `"${errors}"`}`);
+    return way;
 }
 
 // What options ask to call with each fault.
@@ -775,6 +944,41 @@ function fitsInString(units) {
 
 const tooLong = (units) => new RangeError(`noddychest: a text of ${units} units of UTF-16 is too long for a string here: take streamText, or recode`);
 
+const newTextDecoder = (form) => new TextDecoder(FORMS[form], own({ ignoreBOM: true, fatal: form === UTF8 }));
+
+// A TextDecoder of each encoding, which is kept, since making one takes longer than decoding a short text; and the class of them.
+const kept = { of: null, decoders: [null, null, null] };
+
+// The text of bytes, which a TextDecoder gets in parts of at most AT_ONCE. Null if it fits in no string, of which V8 says that its bytes are not
+// valid, and of invalid UTF-8.
+function decodedBy(form, bytes) {
+    const { decoders } = kept;
+    if (kept.of !== TextDecoder) [kept.of, decoders[UTF8], decoders[UTF16LE]] = [TextDecoder, null, null];
+    const decoder = decoders[form] ?? newTextDecoder(form);
+    // (one that throws is not used again)
+    decoders[form] = null;
+    try {
+        const text = bytes.length <= AT_ONCE ? decoder.decode(bytes) : decodedInParts(decoder, bytes);
+        decoders[form] = decoder;
+        return text;
+    } catch {
+        return null;
+    }
+}
+
+function decodedInParts(decoder, bytes) {
+    let text = "";
+    for (let at = 0; at < bytes.length; at += AT_ONCE) text += decoder.decode(partOf(bytes, at, at + AT_ONCE), own({ stream: at + AT_ONCE < bytes.length }));
+    return text;
+}
+
+// Whether some of the bytes, all over them, are ASCII.
+function looksAscii(bytes) {
+    const step = Math.ceil(bytes.length / SAMPLES);
+    for (let at = 0; at < bytes.length; at += step) if (bytes[at] > 0x7f) return false;
+    return true;
+}
+
 // The parts of a stream or of any iterable. A stream that is left before its end is cancelled.
 async function* partsOf(stream) {
     if (typeof stream?.getReader !== "function") {
@@ -797,6 +1001,43 @@ async function* partsOf(stream) {
         reader.releaseLock();
     }
 }
+
+// The names of guesses by their numbers, and what they say.
+const GUESSES = [
+    ["Ascii", "ASCII"],
+    ["Utf8", "UTF-8"],
+    ["Utf8Marked", "UTF-8, by its byte order mark"],
+    ["Utf8Cut", "UTF-8, cut off inside a character"],
+    ["Utf8Mixed", "UTF-8, with single bytes of an 8-bit encoding"],
+    ["Utf8Twice", "UTF-8 that was encoded twice"],
+    ["Utf8Surrogates", "CESU-8 or Java's modified UTF-8: UTF-8 with surrogates"],
+    ["Utf16Le", "UTF-16LE, without a byte order mark"],
+    ["Utf16Be", "UTF-16BE, without a byte order mark"],
+    ["Utf16LeMarked", "UTF-16LE, by its byte order mark"],
+    ["Utf16BeMarked", "UTF-16BE, by its byte order mark"],
+    ["Utf32", "UTF-32, by its byte order mark"],
+    ["Windows1252", "Windows-1252, or another encoding of Latin letters"],
+    ["Other8Bit", "some 8-bit encoding, but not Windows-1252"],
+    ["Binary", "not text"],
+];
+
+function guessText(guess) {
+    const found = GUESSES.find(([name]) => name === guess);
+    if (!found) throw new RangeError(`noddychest: no guess has the name ${String(guess)}`);
+    return found[1];
+}
+
+// A survey, as callers see it.
+function surveyOf({ counts, ends, guesses }) {
+    const [length, nul, control, chars, faults, third, signs, undefined_, surrogates, twice, twiceChars] = counts;
+    const [utf16le, utf16be] = [11, 14].map((at) => ({ plain: counts[at], stray: counts[at + 1], unpaired: counts[at + 2] }));
+    const utf8 = { chars, faults, third, signs, undefined: undefined_, surrogates, twice, twiceChars };
+    const told = Array.from(guesses, (number) => GUESSES[number][0]);
+    return { guess: told[0], guesses: told, length, nul, control, utf8, utf16le, utf16be, front: copyOf(ends, 0, Math.min(length, 4)), head: ends[4], tail: ends[5] };
+}
+
+// A fault with its position.
+const locatedOf = ({ offset, length, error }, { line, column, byteColumn }) => ({ offset, line, column, byteColumn, length, error });
 
 // The calls over one instance of the module, which no others use.
 function callsOf(codec) {
@@ -833,22 +1074,35 @@ function callsOf(codec) {
         }
     }
 
-    // The invalid ones of the pieces; the setting is about how many one call looks for.
-    function* faultsIn(bytes, form, settings) {
-        const { base = 0, end = bytes.length, most = BLOCK } = own(settings);
+    // The invalid ones of the pieces; `most` is about how many one call looks for. With a position, that of the first byte, each has its own,
+    // and the position is then that of the end.
+    function* faultsIn(bytes, form, { base, end, most, position = null } = { base: 0, end: bytes.length, most: BLOCK }) {
         const { length } = bytes;
-        let [begin, front, filled, limit] = [0, 0, 0, 0];
+        let [begin, front, filled, limit, size] = [0, 0, 0, 0, BLOCK];
         while (begin + front < end) {
             hold(bytes.length === length);
             if (!codec.holds(filled) || front === limit) {
+                // (the window is short at first, and again after another call took the memory)
+                size = filled && codec.holds(filled) ? Math.min(16 * size, MEGABYTE) : BLOCK;
                 [begin, front] = [begin + front, 0];
-                filled = codec.fill(partOf(bytes, begin, begin + MEGABYTE), form);
+                filled = codec.fill(partOf(bytes, begin, begin + size), form);
                 // (the kind of a piece depends on the bytes after it: those at the end of this window come again)
                 limit = begin + codec.len === length ? codec.len : codec.boundary(codec.len - SEEN);
             }
             const block = [];
-            const told = codec.faults(front, most, (place, len, kind) => place < limit && begin + place < end && block.push(shown({ place, len, scalar: 0, kind }, base + begin)));
+            let passed = front;
+            const tell = (place, len, kind) => {
+                if (place >= limit || begin + place >= end) return;
+                const fault = shown({ place, len, scalar: 0, kind }, base + begin);
+                if (position) codec.advance(passed, place);
+                block.push(position ? locatedOf(fault, codec.position) : fault);
+                passed = place;
+            };
+            if (position) codec.setPosition(position);
+            const told = codec.faults(front, most, tell);
             front = Math.min(told, limit);
+            if (position) codec.advance(passed, Math.max(passed, Math.min(front, end - begin)));
+            if (position) codec.positionTo(position);
             for (const it of block) {
                 hold(bytes.length === length);
                 yield it;
@@ -925,9 +1179,26 @@ function callsOf(codec) {
 
     const faults = (data, encoding = "utf-8") => faultsIn(...textOfForm(data, encoding));
 
-    const firstFault = (data, encoding = "utf-8") => faultsIn(...textOfForm(data, encoding), { most: 1 }).next().value ?? null;
+    const locatedIn = (bytes, form) => faultsIn(bytes, form, { base: 0, end: bytes.length, most: BLOCK, position: codec.newPosition() });
 
-    const isValid = (data, encoding) => firstFault(data, encoding) === null;
+    const located = (data, encoding = "utf-8") => locatedIn(...textOfForm(data, encoding));
+
+    // The first invalid byte, or null. (it is named by the bytes that were validated: another thread may have changed shared memory since)
+    function firstIn(bytes, form) {
+        const { length } = bytes;
+        for (let [at, size] = [0, BLOCK]; at < length; size = WINDOW) {
+            codec.fill(at || length > size ? partOf(bytes, at, at + size) : bytes, form);
+            const valid = codec.validUpTo();
+            // (what begins among the last bytes of a window depends on those after it)
+            if (valid < codec.len && (valid <= codec.len - SEEN || at + codec.len === length)) return shown(codec.step("F", { front: valid, back: codec.len }), at);
+            at += valid;
+        }
+        return null;
+    }
+
+    const firstFault = (data, encoding = "utf-8") => firstIn(...textOfForm(data, encoding));
+
+    const isValid = (data, encoding = "utf-8") => firstFault(data, encoding) === null;
 
     // Takes a window of the bytes, at most so long. Returns the boundary at which it ends.
     function windowEnd(bytes, at, size, form) {
@@ -1024,17 +1295,16 @@ function callsOf(codec) {
 
     // The output of a recoder for these bytes, whose first one is at an offset of the input; the input ends after the last ones. It throws in
     // strict mode at the first invalid byte.
-    function recoded(state, bytes, settings) {
-        const { form, mode, base = 0, isLast } = own(settings);
+    function recoded(state, bytes, { form, mode, base, isLast, isLent }) {
         const chunks = [];
-        const { fault } = codec.feed(state, bytes, chunks, { mode, isLast });
+        const { fault } = codec.feed(state, bytes, chunks, { most: Infinity, mode, isLast, isLent });
         if (fault) throw new FaultError(shown(fault, base), FORMS[form]);
         return joined(chunks);
     }
 
     function recode(data, from, to, options) {
         const [form, target, mode] = [formOf(from), formOf(to), wayOf(options)];
-        return recoded(codec.newRecoder(form, target), bytesOf(data), { form, mode, isLast: true });
+        return recoded(codec.newRecoder(form, target), bytesOf(data), { form, mode, base: 0, isLast: true, isLent: false });
     }
 
     class Recoder {
@@ -1057,7 +1327,7 @@ function callsOf(codec) {
         // (if it throws, nothing has changed)
         #put(bytes, isLast) {
             const [state, end] = [copyOf(this.#state), this.#count + bytes.length];
-            const made = recoded(state, bytes, { form: this.#from, mode: this.#way, base: this.#count, isLast });
+            const made = recoded(state, bytes, { form: this.#from, mode: this.#way, base: this.#count, isLast, isLent: false });
             this.#state = state;
             this.#count = end;
             return made;
@@ -1226,33 +1496,63 @@ function callsOf(codec) {
         }
     }
 
+    class Surveyor {
+        #state = codec.newSurveyor();
+
+        feed(part) {
+            this.#state = codec.surveyed(this.#state, bytesOf(part));
+        }
+
+        survey() {
+            return surveyOf(codec.survey(this.#state));
+        }
+    }
+
+    const survey = (data) => surveyOf(codec.survey(codec.surveyed(codec.newSurveyor(), bytesOf(data))));
+
+    const guess = (data) => survey(data).guess;
+
     // Throws if the text of some bytes fits in no string: they are counted only if there are very many.
     function holdLength(bytes, form, way) {
         if (fitsInString(form === UTF8 ? bytes.length : Math.ceil(bytes.length / 2))) return;
-        const units = (way === LOSSY ? codec.feed(codec.newRecoder(form, UTF16LE), bytes, null, { mode: way, isLast: true }).total : recodedLengthOf(bytes, form, UTF16LE)) / 2;
+        const isByOne = way === REPLACE || way === STRICT;
+        const units = (isByOne ? recodedLengthOf(bytes, form, UTF16LE) : codec.feed(codec.newRecoder(form, UTF16LE), bytes, null, { ...SETTINGS, mode: way, isLast: true }).total) / 2;
         if (!fitsInString(units)) throw tooLong(units);
     }
 
     // The text of whole pieces, in one way or another.
     function textOf(bytes, form, way) {
-        const units = recoded(codec.newRecoder(form, UTF16LE), bytes, { form, mode: way, isLast: true });
-        const decoder = new TextDecoder("utf-16le", own({ ignoreBOM: true }));
-        let text = "";
-        try {
-            for (let at = 0; at < units.length; at += AT_ONCE) text += decoder.decode(partOf(units, at, at + AT_ONCE), own({ stream: at + AT_ONCE < units.length }));
-        } catch {
-            // (these units are valid: V8 says of those that fit in no string that they are not)
-            throw tooLong(units.length / 2);
-        }
+        const units = recoded(codec.newRecoder(form, UTF16LE), bytes, { form, mode: way, base: 0, isLast: true, isLent: true });
+        const text = decodedBy(UTF16LE, units);
+        if (text === null) throw tooLong(units.length / 2);
         return text;
     }
 
+    // The text of bytes that are all valid.
+    function validText(bytes, form) {
+        const { length } = bytes;
+        const isQuick = form === UTF8 && (length <= SHORT || (length <= AT_ONCE && looksAscii(bytes)));
+        return (isQuick ? decodedBy(UTF8, bytes) : null) ?? textOf(bytes, form, REPLACE);
+    }
+
+    // The text of long ASCII, if all is valid; null of any other bytes.
+    function asciiText(bytes, form) {
+        if (form !== UTF8 || bytes.length < LONG || bytes.length > AT_ONCE || !looksAscii(bytes)) return null;
+        codec.fill(partOf(bytes, 0, BLOCK));
+        return codec.validUpTo() > BLOCK - SEEN ? decodedBy(UTF8, bytes) : null;
+    }
+
     function decode(data, encoding = "utf-8", options) {
-        const [form, way, bytes] = [formOf(encoding), wayOf(options), unshared(bytesOf(data))];
-        const fault = way === STRICT ? faultsIn(bytes, form, { most: 1 }).next().value : undefined;
-        if (fault) throw new FaultError(fault, FORMS[form]);
+        const form = formOf(encoding);
+        const way = wayOf(options);
+        const bytes = unshared(bytesOf(data));
+        const text = asciiText(bytes, form);
+        if (text !== null) return { text, faults: [] };
+        const first = firstIn(bytes, form);
+        if (first && way === STRICT) throw new FaultError(first, FORMS[form]);
         holdLength(bytes, form, way);
-        return { text: textOf(bytes, form, way), faults: way === STRICT ? [] : [...faultsIn(bytes, form)] };
+        if (!first) return { text: validText(bytes, form), faults: [] };
+        return { text: textOf(bytes, form, way), faults: [...faultsIn(bytes, form)] };
     }
 
     // How many of some bytes are decided, when more may follow: all but the beginning of a character at the end, with what is after it. Three
@@ -1283,12 +1583,17 @@ function callsOf(codec) {
 
     async function* streamFaults(stream, encoding = "utf-8") {
         const form = formOf(encoding);
-        for await (const { bytes, end, base } of windowsOf(stream, form)) yield* faultsIn(bytes, form, { base, end });
+        for await (const { bytes, end, base } of windowsOf(stream, form)) yield* faultsIn(bytes, form, { base, end, most: BLOCK });
+    }
+
+    async function* streamLocated(stream, encoding = "utf-8") {
+        const [form, position] = [formOf(encoding), codec.newPosition()];
+        for await (const { bytes, end, base } of windowsOf(stream, form)) yield* faultsIn(bytes, form, { base, end, most: BLOCK, position });
     }
 
     async function* textsOf(stream, form, way) {
         for await (const { bytes, end, base } of windowsOf(stream, form)) {
-            const found = [...faultsIn(bytes, form, { base, end, ...(way === STRICT ? { most: 1 } : {}) })];
+            const found = [...faultsIn(bytes, form, { base, end, most: way === STRICT ? 1 : BLOCK })];
             const stop = way === STRICT && found.length ? found[0].offset - base : end;
             holdLength(partOf(bytes, 0, stop), form, way);
             if (stop) yield { offset: base, text: textOf(partOf(bytes, 0, stop), form, way), faults: way === STRICT ? [] : found };
@@ -1325,7 +1630,7 @@ function callsOf(codec) {
         return { readable: new ReadableStream(own({ pull, cancel }), own({ highWaterMark: 0 })), writable };
     }
 
-    return { Decoder, Ends, FaultError, Recoder, boundaryAfter, boundaryBefore, changedRange, charCount, decode, encodingOf, encodingOfBom, faults, firstFault, isValid, numberOf, offsetOf, pieces, piecesBack, recode, recodedLength, recoderStream, sentence, shardEnd, streamFaults, streamPieces, streamText, textStream, undecidedLength };
+    return { Decoder, Ends, FaultError, Recoder, Surveyor, boundaryAfter, boundaryBefore, changedRange, charCount, decode, encodingOf, encodingOfBom, faults, firstFault, guess, guessText, isValid, located, numberOf, offsetOf, pieces, piecesBack, recode, recodedLength, recoderStream, sentence, shardEnd, streamFaults, streamLocated, streamPieces, streamText, survey, textStream, undecidedLength };
 }
 
 let calls;

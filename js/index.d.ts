@@ -87,6 +87,25 @@ export class Ends {
 /** Only the invalid bytes, in order. Text between them is skipped as fast as `isValid` scans it. O(n). */
 export function faults(data: Bytes, encoding?: Encoding): Generator<Fault, void, undefined>;
 
+/** An invalid byte with its position. Lines and columns count from 1. */
+export interface LocatedFault {
+    offset: number;
+    /** A line ends after its line feed, and after nothing else. */
+    line: number;
+    /** In characters and invalid bytes. */
+    column: number;
+    /** In bytes. */
+    byteColumn: number;
+    length: 1 | 2;
+    error: FaultKind;
+}
+
+/**
+ * The invalid bytes that `faults` gives, each with its line and its columns. Line feeds are counted as fast as memory is read, and columns only
+ * in the lines that have invalid bytes. O(n).
+ */
+export function located(data: Bytes, encoding?: Encoding): Generator<LocatedFault, void, undefined>;
+
 /** The first invalid byte, or null if there is none. O(n). */
 export function firstFault(data: Bytes, encoding?: Encoding): Fault | null;
 
@@ -148,18 +167,159 @@ export function undecidedLength(data: Bytes, encoding?: Encoding): number;
  */
 export function encodingOfBom(data: Bytes): { encoding: "utf-8" | "utf-16le" | "utf-16be"; length: 2 | 3 } | null;
 
+/** What an input most likely is. */
+export type Guess =
+    /** Only ASCII, or nothing. */
+    | "Ascii"
+    /** UTF-8 that is valid. */
+    | "Utf8"
+    /** UTF-8 with a byte order mark. */
+    | "Utf8Marked"
+    /** UTF-8 of which some bytes at the start or the end are missing, inside a character. */
+    | "Utf8Cut"
+    /** UTF-8 with single bytes of an 8-bit encoding. */
+    | "Utf8Mixed"
+    /** UTF-8 that was read as Windows-1252 and encoded once more. */
+    | "Utf8Twice"
+    /** UTF-8 with surrogates: CESU-8, or Java's modified UTF-8. */
+    | "Utf8Surrogates"
+    /** UTF-16, low byte first, without a byte order mark. */
+    | "Utf16Le"
+    /** UTF-16, high byte first, without a byte order mark. */
+    | "Utf16Be"
+    /** UTF-16, low byte first, with a byte order mark. */
+    | "Utf16LeMarked"
+    /** UTF-16, high byte first, with a byte order mark. */
+    | "Utf16BeMarked"
+    /** UTF-32 with a byte order mark. */
+    | "Utf32"
+    /** Windows-1252, or another 8-bit encoding of Latin letters. */
+    | "Windows1252"
+    /** Some 8-bit encoding, but not Windows-1252. */
+    | "Other8Bit"
+    /** No text. */
+    | "Binary";
+
+/** What bytes have, as units of UTF-16 in one byte order. */
+export interface UnitCounts {
+    /** Units that occur in nearly every text: tab, LF, CR, U+0020 to U+007E, U+3001, U+3002 and U+FF0C. */
+    plain: number;
+    /** Units that do not occur in text: controls, U+FFFE and U+FFFF. */
+    stray: number;
+    /** Units of which the one before begins a pair that this one does not end, or the other way round. */
+    unpaired: number;
+}
+
+/** What bytes have, as UTF-8. */
+export interface Utf8Counts {
+    /** Characters of several bytes. */
+    chars: number;
+    /** Invalid bytes. */
+    faults: number;
+    /** Invalid bytes other than A0, after two bytes above 7F. */
+    third: number;
+    /** Invalid bytes between two ASCII letters, where Windows-1252 rarely has them. */
+    signs: number;
+    /** Invalid bytes for which Windows-1252 has no character. */
+    undefined: number;
+    /** Surrogates that are written as characters of three bytes. */
+    surrogates: number;
+    /** Sequences that were read as Windows-1252 and encoded once more. */
+    twice: number;
+    /** The characters of these sequences. */
+    twiceChars: number;
+}
+
+/** What was counted in an input, and what that most likely is. */
+export interface Survey {
+    /** What the input most likely is: the first of the guesses. */
+    guess: Guess;
+    /** What the input may be: one to three guesses, the likeliest first. Each says what the input is if those before it are wrong. */
+    guesses: Guess[];
+    /** The length of the input in bytes. */
+    length: number;
+    /** Bytes that are 00. */
+    nul: number;
+    /** Other controls that do not occur in text: 01 to 06, 0E to 1A, and 1C to 1F. */
+    control: number;
+    utf8: Utf8Counts;
+    /** Units, low byte first. */
+    utf16le: UnitCounts;
+    /** Units, high byte first. */
+    utf16be: UnitCounts;
+    /** The first four bytes, or all if they are fewer. */
+    front: Uint8Array;
+    /** Continuation bytes before any other byte, at most three: the rest of a character. */
+    head: number;
+    /** Bytes at the end, at most three, that begin a character whose other bytes are missing. */
+    tail: number;
+}
+
+/**
+ * What bytes most likely are. It is a guess, by thresholds that were set on texts in 74 languages, and it is `survey(data).guess`. Of `63 61 66 E9` it
+ * is `"Windows1252"`. O(n).
+ */
+export function guess(data: Bytes): Guess;
+
+/** What a guess says, for people: of `"Utf8Twice"` it is "UTF-8 that was encoded twice". A name of no guess is a `RangeError`. O(1). */
+export function guessText(guess: Guess): string;
+
+/** Counts what bytes have, and guesses by that what they most likely are. For input in parts there is a `Surveyor`. O(n). */
+export function survey(data: Bytes): Survey;
+
+/**
+ * Surveys input that comes in parts, which may begin and end anywhere: the survey is that of the joined parts.
+ *
+ * ```js
+ * const surveyor = new Surveyor();
+ * for await (const part of file.stream()) surveyor.feed(part);
+ * console.log(guessText(surveyor.survey().guess));
+ * ```
+ */
+export class Surveyor {
+    /** Counts what the next part has. A part that is no bytes is a `TypeError`, and counts for nothing. O(n). */
+    feed(part: Bytes): void;
+    /** The survey of what was fed so far. You may feed more afterwards. O(1). */
+    survey(): Survey;
+}
+
 /**
  * The encoding that a label of the Encoding Standard, or `"utf16le"` or `"utf16be"`, is of, as a `charset` of HTTP gives one: of `"Unicode-1-1-UTF-8"` it
  * is `"utf-8"`, and of `"utf-16"` `"utf-16le"`. Case does not matter, nor white space around it. Null of a label of another encoding, and of what is no label. O(1).
  */
 export function encodingOf(label: string): "utf-8" | "utf-16le" | "utf-16be" | null;
 
+/** What an invalid byte becomes: a string of one character up to U+FFFF, or its number; nothing, if it is `""` or null; U+FFFD, if it is undefined. */
+export type TableEntry = string | number | null | undefined;
+
+/**
+ * What each invalid byte of UTF-8, 0x80 to 0xFF, becomes: by a function, a Map or an object from a byte, as a number, to a character; or an
+ * array of at most 128 characters, or numbers, of which the first is for the byte 0x80. A byte that it does not have becomes U+FFFD, and so do in
+ * UTF-16 a lone surrogate and an odd last byte. It is read once, byte by byte from 0x80 on, before any of the input: what it throws comes through.
+ *
+ * `(byte) => new TextDecoder("windows-1251").decode(Uint8Array.of(byte))` takes each invalid byte for Windows-1251.
+ */
+export type Table =
+    | ((byte: number) => TableEntry)
+    | ReadonlyMap<number, TableEntry>
+    | readonly TableEntry[]
+    | Uint8Array
+    | Uint16Array
+    | Uint32Array
+    | (object & { readonly [byte: number]: TableEntry });
+
 export interface RecodeOptions {
     /**
      * What to do with invalid bytes. `"replace"`, the default, puts one U+FFFD, the replacement character, for each; in UTF-16 for each
      * lone surrogate. `"lossy"` puts one for each maximal subpart, as `TextDecoder` does. `"strict"` throws a `FaultError` at the first one.
+     *
+     * `"windows-1252"` puts for each the character that the byte is in Windows-1252, by the Encoding Standard, and `"latin-1"` that of ISO-8859-1,
+     * U+0080 to U+00FF: for text that is UTF-8 but for bytes of that encoding. `"drop"` leaves them out. A `Table` has other characters. In
+     * UTF-16 `"drop"` leaves lone surrogates out, and the other three put U+FFFD. Of a table with a character above U+FFFF, with several
+     * characters for a byte, or with an entry for what is no byte, a `RangeError` is thrown, and of one with other values a `TypeError`, before
+     * anything is read.
      */
-    errors?: "replace" | "lossy" | "strict" | undefined;
+    errors?: "replace" | "lossy" | "strict" | "drop" | "windows-1252" | "latin-1" | Table | undefined;
     /** `errors: "strict"`, by its name in `TextDecoder`; false by default. */
     fatal?: boolean | undefined;
 }
@@ -203,8 +363,8 @@ export class Recoder {
     /** What the bytes that are still held become: call it once, after the last part. */
     finish(): Uint8Array;
     /**
-     * How many invalid bytes, or units, were replaced by U+FFFD so far: with `lossy` and `strict` it is 0. A U+FFFD in the input does
-     * not count. A number, not a BigInt: exact up to `Number.MAX_SAFE_INTEGER`.
+     * How many invalid bytes, or units, were replaced so far, by U+FFFD or by what a table has for them, also if that is nothing: with `lossy`
+     * and `strict` it is 0. A U+FFFD in the input does not count. A number, not a BigInt: exact up to `Number.MAX_SAFE_INTEGER`.
      */
     readonly replaced: number;
 }
@@ -269,6 +429,9 @@ export function streamPieces(parts: Parts, encoding?: Encoding): AsyncGenerator<
 /** Only the invalid bytes among the pieces of `streamPieces`. Text between them is skipped as fast as `isValid` scans it. */
 export function streamFaults(parts: Parts, encoding?: Encoding): AsyncGenerator<Fault, void, undefined>;
 
+/** The invalid bytes of `streamFaults`, each with its line and its columns, which count from the front of all input. */
+export function streamLocated(parts: Parts, encoding?: Encoding): AsyncGenerator<LocatedFault, void, undefined>;
+
 /**
  * The text of input in parts: for each part the offset at which its text begins, the text, and what was wrong in it. Joined, the texts
  * are what `decode` gives for the whole. With `strict` the text before the first invalid byte comes, and then a `FaultError` is thrown.
@@ -276,7 +439,7 @@ export function streamFaults(parts: Parts, encoding?: Encoding): AsyncGenerator<
 export function streamText(parts: Parts, encoding?: Encoding, options?: RecodeOptions): AsyncGenerator<{ offset: number; text: string; faults: Fault[] }, void, undefined>;
 
 export interface TextStreamOptions extends RecodeOptions {
-    /** Called with each invalid byte, in order, before the text that has its U+FFFD; not with `strict`. What it throws ends the stream. */
+    /** Called with each invalid byte, in order, before the text that has what it became; not with `strict`. What it throws ends the stream. */
     onFault?: ((fault: Fault) => void) | undefined;
 }
 

@@ -133,6 +133,8 @@ def test_dumps(it):
             it.tally.equal(it.ask(f"return {made_by(command, repeated)}.map((it) => (bytesOf(it).bytes ?? []).length)"), [100, 512, 40], f"lines that {command} leaves out, read")
     got = it.ask(f"return {[*DEBUGGERS]}.map((it) => [hexOf(bytesOf(it).bytes), bytesOf(it).took.startsWith('what gdb or lldb prints')])")
     it.tally.equal(dict(zip(DEBUGGERS, got)), {text: [given[0][:count].hex(), True] for text, count in DEBUGGERS.items()}, "what gdb and lldb print")
+    nearly = ["1" * 40 + "a", "0" * 40 + "z", "61 " * 40 + "x", "1 '\\1' " * 40 + "x"]
+    it.tally.equal(it.ask(f"const began = Date.now(); for (const it of {nearly}) bytesOf(`0x1000: ${{it}}`); return Date.now() - began < 3000"), True, "lines that are nearly what gdb prints are judged at once")
 
 
 def lines_of(data, encoding):
@@ -202,6 +204,23 @@ def test_repaired(it):
     it.tally.equal(got, [text for *_, text in cases], "texts that are mended")
 
 
+def test_repaired_at_an_edge(it):
+    """A file is repaired in parts of 2^19 bytes: what is on both sides of an edge becomes what it becomes elsewhere."""
+    cases = [("surrogates", "eda0bdedb880"), ("surrogates", "c080" * 30), ("mixed", "eda0bd"), ("mixed", "f4908080"), ("mixed", "c0af"), ("mixed", "ff" * 90), ("mixed", "e9"), ("utf-8", "f09f98"),
+             ("twice", "c383c2a9" * 30), ("twice", "c3a2e2809ac2ac")]
+    got = it.ask(f"""const whole = async (bytes, how) => {{ const parts = []; for await (const text of repairedOf(codec, 0, new Blob([bytes]), how)) parts.push(text); return parts.join(''); }};
+        const [edge, wrong] = [1 << 19, []];
+        for (const [how, hex] of {[list(one) for one in cases]}) {{
+            const own = ofHex(hex), want = (await whole(ofHex(`61${{hex}}61`), how)).slice(1, -1);
+            for (let at = edge - own.length; at <= edge; at += own.length > 9 ? 7 : 1) {{
+                const bytes = new Uint8Array(edge + 200).fill(0x61);
+                bytes.set(own, at);
+                if (await whole(bytes, how) !== 'a'.repeat(at) + want + 'a'.repeat(bytes.length - at - own.length)) wrong.push([how, hex, edge - at]);
+            }}
+        }} return wrong""")
+    it.tally.equal(got, [], "texts on both sides of an edge that become something else")
+
+
 TEXTS = ["Dès Noël, où un zéphyr haï me vêt de glaçons würmiens, je dîne d’exquis rôtis de bœuf au kir. ", "Falsches Üben von Xylophonmusik quält jeden größeren Zwerg. ", "El pingüino Wenceslao hizo kilómetros bajo exhaustiva lluvia. "]
 
 
@@ -219,4 +238,4 @@ def test_guess(it):
     it.tally.equal([(want, is_, one[:20]) for (want, one), is_ in zip(given, got) if want != is_], [], "guesses")
 
 
-ALL = [test_sentences, test_vectors, test_recodings, test_survey, test_repaired, test_guess, test_written, test_dumps]
+ALL = [test_sentences, test_vectors, test_recodings, test_survey, test_repaired, test_repaired_at_an_edge, test_guess, test_written, test_dumps]

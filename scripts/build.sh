@@ -39,10 +39,8 @@ run_rt() {
     return "$status"
 }
 
-# Makes build/libnoddychest.a of generated/, and says so if the proved sources have changed since that was made. The status is 1 if it
-# could not be built.
+# Makes build/libnoddychest.a of generated/. The status is 1 if it could not be built.
 build_library() {
-    are_generated c_api || echo "$name: the library is that of generated/: its sources have changed since, and scripts/generate makes it anew" >&2
     if ! command -v make >/dev/null || ! command -v "${CC:-cc}" >/dev/null; then
         echo "$name: no C compiler is there (make and cc)" >&2
         return 1

@@ -1,4 +1,4 @@
-"""Checks of the prover over kept work, in parallel. scripts/keep uses it."""
+"""Checks of the prover over kept work, in parallel. scripts/prove uses it."""
 import contextlib
 import importlib.machinery
 import importlib.util

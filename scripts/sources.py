@@ -3,9 +3,9 @@ import os
 import re
 
 TOP = os.path.dirname(os.path.dirname(os.path.abspath(__file__)))
-LIBRARIES = ("utf_base", "utf_chars", "utf_lanes", "encode_unicode", "recoding", "text_runs", "text_buffers", "text_parts", "text_programs", "cuts", "c_api")
+LIBRARIES = ("utf_base", "utf_chars", "utf_lanes", "encode_unicode", "recoding", "surveys", "text_runs", "text_buffers", "text_stream", "text_positions", "text_programs", "cuts", "c_api")
 # The crates of callers.
-CALLERS = ("uses", "uses_runs")
+CALLERS = ("examples", "run_examples")
 HEAD = re.compile(r'^(pub(?:\([^)]*\))? )?(?:(?:const|unsafe|final|extern "C") )*(fn|impl|trait)\b(.*)')
 
 

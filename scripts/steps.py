@@ -8,8 +8,8 @@ import time
 
 TOP = os.path.dirname(os.path.dirname(os.path.abspath(__file__)))
 # The package of Debian that has each command; a command of the toolchain or of rustup has none.
-PACKAGES = {"cc": "gcc", "gcc": "gcc", "make": "make", "valgrind": "valgrind", "clang": "clang", "python3": "python3", "isutf8": "moreutils", "uconv": "icu-devtools",
-            "aarch64-linux-gnu-gcc": "gcc-aarch64-linux-gnu", "qemu-aarch64-static": "qemu-user-static", "cargo": None, "rustc": None, "rt": None}
+PACKAGES = {"cc": "gcc", "gcc": "gcc", "make": "make", "valgrind": "valgrind", "clang": "clang", "python3": "python3", "node": "nodejs", "isutf8": "moreutils", "uconv": "icu-devtools",
+            "aarch64-linux-gnu-gcc": "gcc-aarch64-linux-gnu", "qemu-aarch64-static": "qemu-user-static", "cargo": None, "rustc": None, "rt": None, "apt-get": "apt", "dpkg-deb": "dpkg"}
 
 
 class Step:

@@ -31,11 +31,18 @@ static void put_seen(struct run *run, const struct seen *seen, bool is_wanted) {
     put_piece(run->out, seen->offset, seen->bytes, &seen->piece);
 }
 
+/* Returns the place after some bytes that begin at `looked.here`. */
+static struct place place_after(const struct run *run, const uint8_t *bytes, size_t len) {
+    struct place place = looked.here, more = {0, 0, 0, false};
+    go_on(&more, run->request->columns, run->source.encoding, bytes, len);
+    add_place(&place, &more);
+    return place;
+}
+
 /* Returns true if this is the piece that was asked for: it covers the offset, or the column. */
 static bool is_wanted(const struct run *run, const struct seen *seen) {
-    struct place after = looked.here;
     if (!looked.is_by_line) return seen->offset + seen->piece.len > looked.offset;
-    go_on(&after, run->request->columns, run->source.encoding, seen->bytes, seen->piece.len);
+    struct place after = place_after(run, seen->bytes, seen->piece.len);
     if (looked.here.lines != looked.wanted.lines) return false;
     return after.lines > looked.here.lines ? looked.here.columns >= looked.wanted.columns : after.columns > looked.wanted.columns;
 }
@@ -71,10 +78,10 @@ static struct seen seen_at(const struct block *block, size_t at) {
 /* Passes over the blocks before the line that is asked for, but for the last pieces, which may be those before it. Returns where to look. */
 static size_t pass_lines(const struct run *run, const struct block *block) {
     enum { LAST = 4 * AROUND + LEAD };
-    size_t lines = looked.is_by_line && !looked.is_found ? count_line_feeds(block->encoding, block->bytes, block->end) : 0;
+    uint64_t lines = looked.is_by_line && !looked.is_found ? count_line_feeds(block->encoding, block->bytes, block->end) : 0;
     if (lines == 0 || looked.here.lines + lines >= looked.wanted.lines || block->end <= LAST) return 0;
     size_t front = cut_before(block->encoding, block->bytes, block->end, block->end - block->end % 2 - LAST);
-    go_on(&looked.here, run->request->columns, block->encoding, block->bytes, front);
+    looked.here = place_after(run, block->bytes, front);
     return front;
 }
 
@@ -83,7 +90,7 @@ static void look_around(struct run *run, struct worker *worker) {
     for (size_t at = pass_lines(run, block); at < block->end && !run->has_stopped;) {
         struct seen seen = seen_at(block, at);
         look_at(run, &seen);
-        if (looked.is_by_line) go_on(&looked.here, run->request->columns, block->encoding, seen.bytes, seen.piece.len);
+        if (looked.is_by_line) looked.here = place_after(run, seen.bytes, seen.piece.len);
         at += seen.piece.len;
     }
 }

@@ -4,8 +4,9 @@
 #include <stdlib.h>
 #include <string.h>
 
-/* A file is binary if its first FRONT bytes contain a NUL, as for grep. */
-enum { FRONT = 8192 };
+/* A file is binary if its first FRONT bytes contain a NUL, as for grep. Hints are for what AROUND bytes before and after the first invalid byte
+ * are, if there are at least FEW. */
+enum { FRONT = 8192, AROUND = 1 << 15, FEW = 3 };
 
 static bool has_room_for_found(struct worker *worker) {
     if (worker->count < worker->room) return true;
@@ -126,8 +127,8 @@ static void tell_found(struct run *run, struct worker *worker) {
     look_at_block(run, &worker->block);
     bool is_enough = is_brief(request) || run->is_binary;
     for (size_t i = 0; i < worker->count && !run->has_stopped; i++) {
-        if (is_enough) run->first = worker->block.at + worker->found[i].at;
-        else if (run->invalid < request->most) put_found(run, run->out, &worker->block, &worker->found[i]);
+        if (!run->invalid) run->first = worker->block.at + worker->found[i].at;
+        if (!is_enough && run->invalid < request->most) put_found(run, run->out, &worker->block, &worker->found[i]);
         run->invalid++;
         run->has_stopped = is_enough;
     }
@@ -146,18 +147,38 @@ static void put_summary_json(struct run *run) {
     put_text(run->out, run->has_stopped ? ",\"complete\":false}\n" : ",\"complete\":true}\n");
 }
 
-/* Says which encoding a file may have that is no UTF-8: the one whose byte order mark it begins with. */
-static void put_hint(struct run *run) {
-    nody_encoding_t encoding;
-    uint8_t front[2];
+/* What the bytes around the first invalid byte of a file most likely are. A few invalid bytes, one that Windows-1252 has not, or more than the
+ * characters of UTF-8 beside them, are no sign of another encoding: they may be damage. */
+static nody_guess_t guess_around(const struct run *run) {
+    static uint8_t bytes[2 * AROUND];
+    nody_survey_t survey;
     int error;
+    uint64_t at = run->first > AROUND ? run->first / 2 * 2 - AROUND : 0;
+    nody_survey(bytes, read_at(&run->source, bytes, sizeof bytes, at, &error), &survey);
+    nody_guess_t guess = nody_guess(&survey);
+    bool is_mixed = guess == NODY_GUESS_UTF8_MIXED, is_latin = is_mixed || guess == NODY_GUESS_WINDOWS1252;
+    bool is_damage = survey.utf8.faults < FEW || survey.utf8.undefined || (is_mixed && survey.utf8.chars < survey.utf8.faults);
+    return is_latin && is_damage ? NODY_GUESS_UTF8 : guess;
+}
+
+/* Says on standard error what may help with a file that is not valid UTF-8. */
+static void put_hint(const struct run *run) {
+    static const struct {
+        nody_guess_t guess;
+        const char *hint;
+    } hints[] = {
+        {NODY_GUESS_UTF16LE_MARKED, "begins with the mark of UTF-16LE: try --encoding auto"},
+        {NODY_GUESS_UTF16BE_MARKED, "begins with the mark of UTF-16BE: try --encoding auto"},
+        {NODY_GUESS_UTF16LE, "looks like UTF-16LE: try --encoding utf-16le"},
+        {NODY_GUESS_UTF16BE, "looks like UTF-16BE: try --encoding utf-16be"},
+        {NODY_GUESS_WINDOWS1252, "looks like Windows-1252: try fix --errors windows-1252"},
+        {NODY_GUESS_UTF8_MIXED, "looks like UTF-8 with bytes of an 8-bit encoding: if that is Windows-1252, try fix --errors windows-1252"},
+    };
     const struct source *source = &run->source;
-    bool is_file = S_ISREG(source->about.st_mode) && source->encoding == NODY_UTF8 && !source->is_by_bom;
-    if (!is_file || nody_encoding_of_bom(front, read_at(source, front, sizeof front, 0, &error), &encoding) == 0) return;
-    put_name(run->out, source->name);
-    put_text(run->out, ": begins with the mark of ");
-    put_text(run->out, name_of_encoding(encoding));
-    put_text(run->out, ": try --encoding auto\n");
+    if (!S_ISREG(source->about.st_mode) || source->encoding != NODY_UTF8 || source->is_by_bom) return;
+    nody_guess_t guess = guess_around(run);
+    for (size_t i = 0; i < sizeof hints / sizeof *hints; i++)
+        if (hints[i].guess == guess) complain(source->name, hints[i].hint);
 }
 
 static void put_count(struct run *run, const char *before, uint64_t count) {

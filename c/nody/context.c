@@ -7,12 +7,12 @@
 /* Bytes that are looked at before and after the invalid one, and the most columns that are filled. */
 enum { REACH = 4096, MOST_WIDTH = 400, INDENT = 4 };
 
-/* A part of the input around an invalid byte. */
+/* A part of the input around an invalid byte, and room for what becomes of it: at most three bytes for each. */
 struct around {
-    uint8_t bytes[2 * REACH];
+    uint8_t bytes[3 * 2 * REACH];
     nody_encoding_t encoding;
     size_t begin, at, end; /* the line's part, and the invalid byte in it */
-    bool is_cut;           /* the line begins before it */
+    bool is_cut, goes_on;  /* the line begins before it, and ends after it */
 };
 
 /* A terminal that can show colours and several lines for one. */
@@ -50,22 +50,25 @@ static void load_around(struct around *it, const struct run *run, const struct b
         len = read_at(&run->source, it->bytes, before + REACH, offset - before, &error);
     } else {
         if (at < REACH) before = at;
-        len = before + (block->len - at < REACH ? block->len - at : REACH);
+        len = before + (block->end - at < REACH ? block->end - at : REACH);
         memcpy(it->bytes, block->bytes + at - before, len);
     }
     it->at = before;
-    it->end = len < before ? before : len;
+    it->goes_on = len == before + REACH;
+    it->end = it->goes_on ? cut_before(it->encoding, it->bytes, len, len - LEAD) : len < before ? before : len;
     it->is_cut = offset > before;
 }
 
 /* The end of the line: before its line feed, and a carriage return before that. */
-static size_t end_of_line(const struct around *it) {
+static size_t end_of_line(struct around *it) {
     size_t end = it->at;
     for (size_t at = it->at; at < it->end;) {
         nody_piece_t piece = piece_at(it->encoding, it->bytes + at, it->end - at);
         at += piece.len;
-        if (piece.kind == NODY_KIND_OK && piece.scalar == '\n') break;
-        if (piece.kind != NODY_KIND_OK || piece.scalar != '\r') end = at;
+        if (piece.kind != NODY_KIND_OK || (piece.scalar != '\r' && piece.scalar != '\n')) end = at;
+        if (piece.kind != NODY_KIND_OK || piece.scalar != '\n') continue;
+        it->goes_on = false;
+        break;
     }
     return end;
 }
@@ -142,33 +145,24 @@ static const char ellipsis[] = "\xE2\x80\xA6";
 /* Puts a part of a line, as far as it fits into the width, and ends the line. */
 static void put_part(struct output *out, const struct around *it, size_t width, bool has_color) {
     size_t used = it->is_cut;
+    bool is_whole = true;
     if (it->is_cut) put_text(out, ellipsis);
-    for (size_t at = it->begin; at < it->end;) {
+    for (size_t at = it->begin; at < it->end && is_whole;) {
         nody_piece_t piece = piece_at(it->encoding, it->bytes + at, it->end - at);
         struct shape shape = shape_of(it->bytes + at, &piece);
         at += piece.len;
-        if ((used += shape.width) > width - (at < it->end)) {
-            put_text(out, ellipsis);
-            break;
-        }
-        put_shape(out, &shape, has_color);
+        is_whole = (used += shape.width) <= width - (at < it->end || it->goes_on);
+        if (is_whole) put_shape(out, &shape, has_color);
     }
+    if (!is_whole || it->goes_on) put_text(out, ellipsis);
     put_byte(out, '\n');
 }
 
 /* Replaces the invalid bytes of a part of a line, as the request says. */
 static void replace_part(struct around *it, const struct request *request) {
-    static uint8_t made[4 * 2 * REACH];
+    static uint8_t made[sizeof it->bytes];
     nody_recoder_t recoder = nody_recoder(it->encoding, it->encoding);
-    size_t read, len, more;
-    if (request->errors == LOSSY) {
-        nody_recoder_feed_lossy(&recoder, it->bytes + it->begin, it->end - it->begin, made, sizeof made, &read, &len);
-        nody_recoder_finish_lossy(&recoder, made + len, sizeof made - len, &more);
-    } else {
-        nody_recoder_feed(&recoder, it->bytes + it->begin, it->end - it->begin, made, sizeof made, &read, &len);
-        nody_recoder_finish(&recoder, made + len, sizeof made - len, &more);
-    }
-    it->end = len + more < sizeof it->bytes ? len + more : sizeof it->bytes;
+    it->end = replace_invalid(&recoder, request->errors, it->bytes + it->begin, it->end - it->begin, made, sizeof made);
     it->begin = 0;
     memcpy(it->bytes, made, it->end);
 }

@@ -10,11 +10,11 @@ static void count(struct worker *worker) {
     memset(worker->kinds, 0, sizeof worker->kinds);
     while ((at += valid_up_to(block->encoding, block->bytes + at, block->end - at)) < block->end) {
         nody_piece_t piece = piece_at(block->encoding, block->bytes + at, block->len - at);
-        worker->characters += count_pieces(block->encoding, block->bytes + begin, at - begin);
+        worker->characters += nody_char_count(block->encoding, block->bytes + begin, at - begin);
         worker->kinds[piece.kind]++;
         begin = at += piece.len;
     }
-    worker->characters += count_pieces(block->encoding, block->bytes + begin, block->end - begin);
+    worker->characters += nody_char_count(block->encoding, block->bytes + begin, block->end - begin);
     worker->end.lines = count_line_feeds(block->encoding, block->bytes, block->end);
 }
 

@@ -3,8 +3,6 @@
   * All that knows how pieces are found is in this file, over the calls of noddychest.h. */
 #include "nody.h"
 
-#include <string.h>
-
 static uint16_t unit_at(nody_encoding_t encoding, const uint8_t *bytes) {
     unsigned low = encoding == NODY_UTF16LE ? bytes[0] : bytes[1], high = encoding == NODY_UTF16LE ? bytes[1] : bytes[0];
     return (uint16_t)(high << 8 | low);
@@ -12,10 +10,6 @@ static uint16_t unit_at(nody_encoding_t encoding, const uint8_t *bytes) {
 
 static bool is_leading(uint16_t unit) {
     return (unit & 0xFC00) == 0xD800;
-}
-
-static bool is_trailing(uint16_t unit) {
-    return (unit & 0xFC00) == 0xDC00;
 }
 
 /* How many bytes at the end, at most three, are pieces that later bytes may change: incomplete characters, and invalid bytes whose kind
@@ -55,50 +49,8 @@ size_t valid_up_to(nody_encoding_t encoding, const uint8_t *bytes, size_t len) {
     return encoding == NODY_UTF8 ? nody_utf8_valid_up_to(bytes, len) : nody_utf16_bytes_valid_up_to(encoding, bytes, len);
 }
 
-/* The number of pieces of bytes that begin and end between pieces. */
-size_t count_pieces(nody_encoding_t encoding, const uint8_t *bytes, size_t len) {
-    size_t pairs = 0;
-    bool is_after_leading = false;
-    if (encoding == NODY_UTF8) return nody_utf8_char_count(bytes, len);
-    for (size_t i = 0; i + 1 < len; i += 2) {
-        uint16_t unit = unit_at(encoding, bytes + i);
-        pairs += is_after_leading && is_trailing(unit);
-        is_after_leading = is_leading(unit);
-    }
-    return len / 2 + len % 2 - pairs;
-}
-
-/* A vector of sixteen bytes, which gcc and clang support on any CPU. */
-enum { LANES = 16, MOST_ROUNDS = 255 };
-typedef uint8_t lanes __attribute__((vector_size(LANES)));
-
-/* Counts a byte in `rounds` vectors, at most as many as a lane can count. */
-static size_t count_in_lanes(const uint8_t *bytes, size_t rounds, uint8_t wanted) {
-    lanes counts = {0}, all = counts + wanted, here;
-    size_t count = 0;
-    for (size_t i = 0; i < rounds; i++) {
-        memcpy(&here, bytes + LANES * i, LANES);
-        counts -= (lanes)(here == all);
-    }
-    for (size_t i = 0; i < LANES; i++) count += counts[i];
-    return count;
-}
-
-static size_t count_bytes(const uint8_t *bytes, size_t len, uint8_t wanted) {
-    size_t count = 0;
-    while (len >= LANES) {
-        size_t rounds = len / LANES < MOST_ROUNDS ? len / LANES : MOST_ROUNDS;
-        count += count_in_lanes(bytes, rounds, wanted);
-        bytes += LANES * rounds;
-        len -= LANES * rounds;
-    }
-    for (size_t i = 0; i < len; i++) count += bytes[i] == wanted;
-    return count;
-}
-
-size_t count_line_feeds(nody_encoding_t encoding, const uint8_t *bytes, size_t len) {
-    size_t count = 0;
-    if (encoding == NODY_UTF8) return count_bytes(bytes, len, '\n');
-    for (size_t i = 0; i + 1 < len; i += 2) count += unit_at(encoding, bytes + i) == '\n';
-    return count;
+uint64_t count_line_feeds(nody_encoding_t encoding, const uint8_t *bytes, size_t len) {
+    nody_position_t at = nody_position();
+    nody_position_advance(&at, encoding, bytes, len);
+    return at.line - 1;
 }

@@ -4,11 +4,18 @@
 #include <stdlib.h>
 #include <string.h>
 
-/* Returns true if a GLOB fits the name, or what follows a slash in it. */
+/* Returns true if a path begins with "." or "..", which are no names of folders. */
+static bool is_dotted(const char *path) {
+    size_t len = strcspn(path, SEPARATORS);
+    return len > 0 && len <= 2 && strncmp(path, "..", len) == 0;
+}
+
+/* Returns true if a GLOB fits the name, or what follows a slash in it. (.* fits hidden names, and not ./text or ../text: those need a GLOB that
+ * begins as they do) */
 static bool is_excluded(const struct request *request, const char *name) {
     for (size_t i = 0; i < request->excluded_count; i++)
         for (const char *tail = name, *end; tail; tail = (end = strpbrk(tail, SEPARATORS)) ? end + 1 : NULL)
-            if (fnmatch(request->excluded[i], tail, 0) == 0) return true;
+            if (is_dotted(tail) <= is_dotted(request->excluded[i]) && fnmatch(request->excluded[i], tail, 0) == 0) return true;
     return false;
 }
 
@@ -81,8 +88,9 @@ static void visit_folder(struct inputs *inputs, const char *folder, enum found_h
 
 static void visit_named(struct inputs *inputs, const char *name) {
     struct stat about;
-    if (is_excluded(inputs->request, name)) return;
-    if (inputs->request->is_recursive && strcmp(name, "-") != 0 && stat(name, &about) == 0 && S_ISDIR(about.st_mode)) {
+    bool is_input = strcmp(name, "-") == 0;
+    if (!is_input && is_excluded(inputs->request, name)) return;
+    if (inputs->request->is_recursive && !is_input && stat(name, &about) == 0 && S_ISDIR(about.st_mode)) {
         visit_folder(inputs, name, IS_NAMED);
         inputs->end_folder(inputs, name);
     } else {

@@ -7,9 +7,10 @@
 
 static struct output out;
 
-/* Says on standard error what is wrong with something. */
+/* Says on standard error what is wrong with something, after what was written before. */
 void complain(const char *name, const char *why) {
     hide_progress();
+    flush_output(&out);
     put_text(&err, "nody: ");
     put_name(&err, name);
     put_text(&err, ": ");
@@ -23,7 +24,7 @@ enum status tell_failure(struct run *run) {
     const struct source *source = &run->source;
     hide_progress();
     if (run->out->error) return HAS_FAILED;
-    flush_output(run->out);
+    if (run->out->is_shown) flush_output(run->out);
     if (source->error) complain(source->name, strerror(source->error));
     else if (run->has_no_memory) complain(source->name, "there is no memory");
     else if (source->is_shorter && source->is_followed) complain(source->name, "it became shorter, and is read from its front again");
@@ -40,7 +41,6 @@ static bool is_output(const struct request *request, const struct stat *input) {
 }
 
 static void fail_input(struct inputs *inputs, const char *name, const char *why) {
-    flush_output(&out);
     complain(name, why);
     inputs->status = HAS_FAILED;
 }
@@ -79,7 +79,6 @@ static void visit_input(struct inputs *inputs, const char *name, enum found_how 
     } else if (!is_open) {
         fail_input(inputs, name, strerror(run.source.error));
     } else if (is_output(run.request, &run.source.about)) {
-        flush_output(&out);
         complain(name, "it is the output too");
         here = HAS_FAILED;
     } else {

@@ -43,7 +43,7 @@ enum status { IS_VALID = 0, IS_INVALID = 1, IS_WRONG = 2, HAS_FAILED = 3 };
 enum command_bit { CHECK = 1, LIST = 2, COUNT = 4, AT = 8, RECODE = 16, FIX = 32, VIEW = 64 };
 
 /* What becomes of invalid bytes. `ways` has the words for it. */
-enum errors { REPLACE, LOSSY, STRICT };
+enum errors { REPLACE, LOSSY, DROP, WINDOWS_1252, LATIN_1, STRICT };
 
 enum when { AUTO, ALWAYS, NEVER };
 
@@ -207,8 +207,7 @@ size_t undecided_len(nody_encoding_t encoding, const uint8_t *bytes, size_t len)
 size_t cut_before(nody_encoding_t encoding, const uint8_t *bytes, size_t len, size_t at);
 nody_piece_t piece_at(nody_encoding_t encoding, const uint8_t *bytes, size_t len);
 size_t valid_up_to(nody_encoding_t encoding, const uint8_t *bytes, size_t len);
-size_t count_pieces(nody_encoding_t encoding, const uint8_t *bytes, size_t len);
-size_t count_line_feeds(nody_encoding_t encoding, const uint8_t *bytes, size_t len);
+uint64_t count_line_feeds(nody_encoding_t encoding, const uint8_t *bytes, size_t len);
 
 /* A position in text, relative to the front of a block: a number of lines, and then of columns in the last line. If columns are cells, a tab
  * goes to the next multiple of eight, which depends on where the block begins: `before_tab` has the cells up to the first tab of the block's
@@ -267,6 +266,7 @@ struct run {
     bool is_binary;
     uint64_t first;      /* the offset of the first invalid byte of a binary file */
     uint64_t last_line;  /* the line that was shown last, from 1 */
+    bool has_output; /* recode --bom: the front of the output is settled */
     bool is_same; /* a file is replaced by its own converted text, and that is the text itself so far */
     uint64_t bytes, characters, invalid;
     uint64_t kinds[NODY_KIND_NONE];
@@ -296,6 +296,7 @@ typedef enum status rewrite(struct run *run, struct output *out);
 
 enum status write_into(struct run *run, const char *into, rewrite *write);
 enum status recode_to(struct run *run, struct output *out);
+size_t replace_invalid(nody_recoder_t *recoder, int errors, const uint8_t *bytes, size_t len, uint8_t *out, size_t room);
 enum status refuses(const char *name, const char *why);
 void tell_replaced(const struct run *run);
 

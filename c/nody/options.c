@@ -10,7 +10,7 @@ enum { ALL = CHECK | LIST | COUNT | AT | RECODE | FIX | VIEW };
 const struct command_spec commands[] = {
     {"check", CHECK, run_check, "[OPTION..] [FILE..]", "say which files are not valid, and where and why", "0 valid, 1 invalid bytes"},
     {"fix", FIX, run_fix, "[OPTION..] FILE..", "replace invalid bytes in files, and leave valid files alone", "0 fixed or valid, 1 invalid bytes (only with --dry-run)"},
-    {"view", VIEW, run_view, "[OPTION..] FILE", "show a text of any size on the terminal, each invalid byte marked", "0 shown"},
+    {"view", VIEW, run_view, "[OPTION..] [FILE]", "show a text of any size on the terminal, each invalid byte marked", "0 shown"},
     {"count", COUNT, run_count, "[OPTION..] [FILE..]", "count bytes, characters, lines and invalid bytes", "0 valid, 1 invalid bytes"},
     {"list", LIST, run_list, "[OPTION..] [FILE..]", "write a line for each character and each invalid byte", "0 valid, 1 invalid bytes"},
     {"at", AT, run_at, "[OPTION..] FILE OFFSET|LINE:COLUMN", "show what is at an offset, and around it", "0 a character, 1 an invalid byte"},
@@ -21,6 +21,9 @@ enum { COMMANDS = sizeof commands / sizeof *commands };
 const struct word ways[] = {
     {"replace", REPLACE, "one U+FFFD for each invalid byte (default)"},
     {"lossy", LOSSY, "one U+FFFD for each maximal subpart, as browsers do"},
+    {"drop", DROP, "leave invalid bytes out"},
+    {"windows-1252", WINDOWS_1252, "take each invalid byte of UTF-8 for Windows-1252"},
+    {"latin1", LATIN_1, "take each invalid byte of UTF-8 for ISO-8859-1"},
     {"strict", STRICT, "stop at the first invalid byte"},
     {NULL, 0, NULL},
 };
@@ -81,20 +84,26 @@ static void show_usage(FILE *to, const struct command_spec *command) {
     fprintf(to, "usage: nody %s %s\n", command->name, command->usage);
 }
 
-static void show_option(const struct spec *spec) {
+/* Returns true if a command takes this word for --errors. */
+static bool has_way(enum command_bit command, int way) {
+    return command != FIX || way != STRICT;
+}
+
+static void show_option(const struct spec *spec, enum command_bit command) {
     char shown[64];
     bool has_letter = spec->value < FROM;
     snprintf(shown, sizeof shown, "%s%c%s--%s%s%s", has_letter ? "-" : " ", has_letter ? spec->value : ' ', has_letter ? ", " : "  ", spec->name,
              spec->argument ? " " : "", spec->argument ? spec->argument : "");
     printf("  %-26s %s\n", shown, spec->help);
-    for (const struct word *it = ways; spec->value == ERRORS && it->word; it++) printf("  %-26s     %s: %s\n", "", it->word, it->help);
+    for (const struct word *it = ways; spec->value == ERRORS && it->word; it++)
+        if (has_way(command, it->value)) printf("  %-26s     %s: %s\n", "", it->word, it->help);
 }
 
 static void show_command(const struct command_spec *command) {
     show_usage(stdout, command);
     printf("%s.\n\n", command->help);
     for (int i = 0; i < SPECS; i++)
-        if (specs[i].takers & (unsigned)command->bit && specs[i].help && !(IS_WINDOWS && specs[i].value == FOLLOW)) show_option(&specs[i]);
+        if (specs[i].takers & (unsigned)command->bit && specs[i].help && !(IS_WINDOWS && specs[i].value == FOLLOW)) show_option(&specs[i], command->bit);
     printf("\nExit status: %s, 2 wrong arguments, 3 a file could not be read or written. man nody has more.\n", command->statuses);
 }
 
@@ -167,7 +176,7 @@ static bool takes_value(struct request *request, int option, const char *value) 
     switch (option) {
     case FROM: return takes_encoding(request, value);
     case TO: return encoding_of_label(value, &request->to);
-    case ERRORS: return takes_word(ways, value, &request->errors) && (request->bit != FIX || request->errors != STRICT);
+    case ERRORS: return takes_word(ways, value, &request->errors) && has_way(request->bit, request->errors);
     case MAX: return takes_most(request, value);
     case JOBS: return takes_jobs(request, value);
     case COLOR: return takes_word(whens, value, &request->color);

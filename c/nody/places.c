@@ -18,17 +18,6 @@ unsigned width_of(uint32_t scalar) {
     return width < 0 ? 1 : (unsigned)width;
 }
 
-/* How many bytes of these there are up to the last line feed, and with it. */
-static size_t end_of_lines(nody_encoding_t encoding, const uint8_t *bytes, size_t len) {
-    size_t low = encoding == NODY_UTF16BE, at = len - len % 2;
-    if (encoding == NODY_UTF8) {
-        while (len > 0 && bytes[len - 1] != '\n') len--;
-        return len;
-    }
-    while (at > 0 && !(bytes[at - 2 + low] == '\n' && bytes[at - 1 - low] == 0)) at -= 2;
-    return at;
-}
-
 /* Moves the position over a part of a line, by cells. */
 static void go_on_in_cells(struct place *place, nody_encoding_t encoding, const uint8_t *bytes, size_t len) {
     for (size_t at = 0; at < len;) {
@@ -48,16 +37,13 @@ static void go_on_in_cells(struct place *place, nody_encoding_t encoding, const 
 
 /* Moves the position over bytes that begin and end between pieces. */
 void go_on(struct place *place, int columns, nody_encoding_t encoding, const uint8_t *bytes, size_t len) {
-    size_t lines = count_line_feeds(encoding, bytes, len);
-    if (lines > 0) {
-        size_t end = end_of_lines(encoding, bytes, len);
-        place->lines += lines;
-        place->columns = 0;
-        bytes += end;
-        len -= end;
-    }
-    if (columns == DISPLAY) go_on_in_cells(place, encoding, bytes, len);
-    else place->columns += columns == BYTES ? len : count_pieces(encoding, bytes, len);
+    nody_position_t at = nody_position();
+    nody_position_advance(&at, encoding, bytes, len);
+    size_t in_line = (size_t)at.byte_column - 1;
+    place->lines += at.line - 1;
+    if (at.line > 1) place->columns = 0;
+    if (columns == DISPLAY) go_on_in_cells(place, encoding, bytes + (len - in_line), in_line);
+    else place->columns += columns == BYTES ? in_line : at.column - 1;
 }
 
 /* Moves a position in the whole input by another one, counted from it. */

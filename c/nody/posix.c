@@ -7,6 +7,9 @@
 #include <stdlib.h>
 #include <string.h>
 #include <sys/ioctl.h>
+#ifdef __linux__
+#include <sys/xattr.h>
+#endif
 
 /* Closed streams are opened, so that no file gets their numbers; to read or to write them still fails. */
 void start_system(void) {
@@ -108,27 +111,22 @@ static void drop_and_end(int number) {
     raise(number);
 }
 
-/* Makes the temporary file; no signal comes between that and its being known. */
-static int make_unfinished(char *name) {
+/* Makes the temporary file; no signal comes between that and its being known. One for a new name gets the mode, and the access control list,
+ * that the umask and the folder give to new files: mkstemp gives it fewer permissions. */
+static int make_unfinished(char *name, bool is_new) {
     static const int numbers[] = {SIGINT, SIGTERM, SIGHUP, SIGQUIT, SIGALRM, SIGXCPU};
     sigset_t all, had;
     sigfillset(&all);
     on_signals(numbers, sizeof numbers / sizeof *numbers, drop_and_end);
     pthread_sigmask(SIG_SETMASK, &all, &had);
     int file = mkstemp(name);
+    if (file >= 0 && is_new && unlink(name) == 0 && close(file) == 0) file = open(name, O_WRONLY | O_CREAT | O_EXCL | O_CLOEXEC, 0666);
     if (file >= 0) unfinished = name;
     pthread_sigmask(SIG_SETMASK, &had, NULL);
     return file;
 }
 
 /* ---- Files that are replaced */
-
-/* The modes that a new file gets here. */
-static mode_t new_mode(void) {
-    mode_t mask = umask(0);
-    umask(mask);
-    return 0666 & ~mask;
-}
 
 /* Gives a file the owner and group of another one, as far as that is allowed, and returns the mode that it may then have: never setuid or
  * setgid for an owner or a group that is not the other file's. */
@@ -141,6 +139,21 @@ static mode_t take_owner(int file, const struct stat *about) {
     return about->st_mode & (is_same ? 07777 : 01777);
 }
 
+/* Gives a new file the access control list that another one has, or none, and returns the mode that it may then have. (the bits of the group
+ * are the mask of a list: without the list, the group would get what others were given) */
+static mode_t take_list(int file, const char *name, mode_t mode) {
+#ifdef __linux__
+    static const char list[] = "system.posix_acl_access";
+    static char entries[1 << 16];
+    ssize_t len = getxattr(name, list, entries, sizeof entries);
+    if (len <= 0) fremovexattr(file, list); /* (one that the folder gave it) */
+    else if (fsetxattr(file, list, entries, (size_t)len, 0) != 0) mode &= ~(mode_t)070;
+#else
+    (void)file, (void)name;
+#endif
+    return mode;
+}
+
 /* Makes a file in the folder of the name, with the mode and where possible the owner that the name has. (its own name is short, since that
  * of the file may be as long as names can be) */
 bool make_temporary(struct replacement *it, const struct stat *about) {
@@ -150,8 +163,8 @@ bool make_temporary(struct replacement *it, const struct stat *about) {
     if (!(it->temporary = malloc(folder + sizeof ending))) return false;
     memcpy(it->temporary, it->name, folder);
     memcpy(it->temporary + folder, ending, sizeof ending);
-    it->file = make_unfinished(it->temporary);
-    return it->file >= 0 && fchmod(it->file, about ? take_owner(it->file, about) : new_mode()) == 0;
+    it->file = make_unfinished(it->temporary, !about);
+    return it->file >= 0 && (!about || fchmod(it->file, take_list(it->file, it->name, take_owner(it->file, about))) == 0);
 }
 
 /* Sees to it that the new name is there after a failure of power. (not all systems can, and the file itself is then safe) */

@@ -23,7 +23,9 @@ static bool can_go_back(void) {
 }
 
 void start_progress(bool is_quiet) {
-    is_wanted = !is_quiet && can_go_back();
+    static int can = -1;
+    if (can < 0) can = can_go_back();
+    is_wanted = !is_quiet && can;
     if (is_wanted) begun = now();
     said = begun + before_first - between;
 }

@@ -3,23 +3,21 @@
 
 #include <string.h>
 
-static void replace_each(struct worker *worker, const uint8_t *bytes, size_t len) {
-    const struct request *request = worker->run->request;
-    nody_recoder_t recoder = nody_recoder(worker->block.encoding, request->to);
-    size_t read, written;
-    nody_recoder_feed(&recoder, bytes, len, worker->made, worker->made_room, &read, &worker->made_len);
-    nody_recoder_finish(&recoder, worker->made + worker->made_len, worker->made_room - worker->made_len, &written);
-    worker->made_len += written;
-    worker->replaced = recoder.replaced;
-}
-
-/* (a block ends where a maximal subpart ends: none goes on into the next) */
-static void replace_lossy(struct worker *worker, const uint8_t *bytes, size_t len) {
-    nody_recoder_t recoder = nody_recoder(worker->block.encoding, worker->run->request->to);
-    size_t read, written;
-    nody_recoder_feed_lossy(&recoder, bytes, len, worker->made, worker->made_room, &read, &worker->made_len);
-    nody_recoder_finish_lossy(&recoder, worker->made + worker->made_len, worker->made_room - worker->made_len, &written);
-    worker->made_len += written;
+/* Transcodes bytes that begin and end between maximal subparts, by a new recoder, into room for all of the output. Returns its length. */
+size_t replace_invalid(nody_recoder_t *recoder, int errors, const uint8_t *bytes, size_t len, uint8_t *out, size_t room) {
+    static const nody_repair_t repairs[] = {[DROP] = NODY_REPAIR_DROP, [WINDOWS_1252] = NODY_REPAIR_WINDOWS_1252, [LATIN_1] = NODY_REPAIR_LATIN_1};
+    size_t read, made, more;
+    if (errors == REPLACE) {
+        nody_recoder_feed(recoder, bytes, len, out, room, &read, &made);
+        nody_recoder_finish(recoder, out + made, room - made, &more);
+    } else if (errors == LOSSY) {
+        nody_recoder_feed_lossy(recoder, bytes, len, out, room, &read, &made);
+        nody_recoder_finish_lossy(recoder, out + made, room - made, &more);
+    } else {
+        nody_recoder_feed_repair(recoder, bytes, len, out, room, repairs[errors], NULL, 0, &read, &made);
+        nody_recoder_finish_repair(recoder, out + made, room - made, repairs[errors], NULL, 0, &more);
+    }
+    return made + more;
 }
 
 /* Transcodes the block up to its first invalid byte. */
@@ -37,10 +35,12 @@ static void recode(struct worker *worker) {
     size_t len = block->end - block->mark;
     worker->has_failed = !has_room(worker, nody_recoded_len_max(block->encoding, worker->run->request->to, BLOCK_ROOM));
     if (worker->has_failed) return;
-    switch (worker->run->request->errors) {
-    case REPLACE: replace_each(worker, bytes, len); break;
-    case LOSSY: replace_lossy(worker, bytes, len); break;
-    case STRICT: recode_strictly(worker, bytes, len); break;
+    if (worker->run->request->errors == STRICT) {
+        recode_strictly(worker, bytes, len);
+    } else {
+        nody_recoder_t recoder = nody_recoder(block->encoding, worker->run->request->to);
+        worker->made_len = replace_invalid(&recoder, worker->run->request->errors, bytes, len, worker->made, worker->made_room);
+        worker->replaced = recoder.replaced;
     }
 }
 
@@ -59,33 +59,38 @@ static bool is_same(const struct worker *worker) {
     return block->mark == 0 && worker->made_len == block->end && memcmp(worker->made, block->bytes, block->end) == 0;
 }
 
-/* Puts the byte order mark at the front, unless the text begins with one. */
+/* Puts the byte order mark at the front, unless the text begins with one. (the first blocks may become nothing) */
 static void put_mark(struct run *run, const struct worker *worker) {
     static const char *const marks[] = {"\xEF\xBB\xBF", "\xFF\xFE", "\xFE\xFF"};
     const char *mark = marks[run->request->to];
     size_t len = strlen(mark);
-    if (!run->request->has_mark || (worker && worker->made_len >= len && memcmp(worker->made, mark, len) == 0)) return;
+    if (!run->request->has_mark || run->has_output) return;
+    run->has_output = true;
+    if (worker && worker->made_len >= len && memcmp(worker->made, mark, len) == 0) return;
     put(run->out, mark, len);
     run->is_same = false;
 }
 
 static void put_recoded(struct run *run, struct worker *worker) {
-    if (run->bytes == 0) put_mark(run, worker);
+    if (worker->made_len > 0) put_mark(run, worker);
     put(run->out, worker->made, worker->made_len);
     run->is_same = run->is_same && is_same(worker);
-    run->invalid += run->request->errors == REPLACE ? worker->replaced : worker->count;
+    run->invalid += run->request->errors == STRICT ? worker->count : worker->replaced;
     if (worker->count) tell_first(run, worker);
 }
 
+/* Says how many invalid bytes there were, and what became of them. (of --errors lossy they are not counted) */
 void tell_replaced(const struct run *run) {
-    if (run->request->is_quiet || run->request->errors != REPLACE || !run->invalid) return;
+    static const char *const became[] = {[DROP] = " dropped\n", [WINDOWS_1252] = " read as Windows-1252\n", [LATIN_1] = " read as ISO-8859-1\n"};
+    int errors = run->request->errors == DROP || run->source.encoding == NODY_UTF8 ? run->request->errors : REPLACE;
+    if (run->request->is_quiet || !run->invalid) return;
     put_text(&err, "nody: ");
     put_name(&err, run->source.name);
     put_text(&err, ": ");
     put_number(&err, run->invalid);
     put_text(&err, " ");
     put_text(&err, noun_of_invalid(run->source.encoding, run->invalid));
-    put_text(&err, " became U+FFFD\n");
+    put_text(&err, errors == REPLACE ? " became U+FFFD\n" : became[errors]);
     flush_output(&err);
 }
 
@@ -95,7 +100,7 @@ enum status recode_to(struct run *run, struct output *out) {
     run->command = &recodes;
     run->out = out;
     run_blocks(run);
-    if (run->bytes == 0 && !run->source.error) put_mark(run, NULL);
+    if (!run->source.error) put_mark(run, NULL);
     flush_output(out);
     enum status failure = tell_failure(run);
     return failure != IS_VALID ? failure : run->invalid && run->request->errors == STRICT ? IS_INVALID : IS_VALID;

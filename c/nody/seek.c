@@ -101,7 +101,7 @@ int64_t next_word(struct text *text, const struct word_bytes *word, uint64_t fro
         const uint8_t *bytes = bytes_of(text, from, NEAR_ROOM, &len);
         int64_t at = find_word(bytes, len, word, unit_of(text));
         if (at >= 0) return (int64_t)from + at;
-        if (from + len >= text->size || len < word->len) break;
+        if (from + len >= text->size || len <= word->len) break;
         size_t step = (len - word->len + 1) & ~(size_t)1;
         from += step;
         if (has_to_stop(&since, step, stop)) return STOPPED;
@@ -128,7 +128,7 @@ int64_t offset_of_line(struct text *text, struct known *known, uint64_t line, is
         size_t len;
         const uint8_t *bytes = bytes_of(text, known->offset, NEAR_ROOM, &len);
         if (len > 1) len -= len % 2;
-        size_t lines = count_line_feeds(text->encoding, bytes, len);
+        uint64_t lines = count_line_feeds(text->encoding, bytes, len);
         if (len == 0) return NOT_FOUND;
         if (known->line + lines >= line) len = after_lines(text->encoding, bytes, len, line - known->line);
         known->line += known->line + lines >= line ? line - known->line : lines;

@@ -58,10 +58,11 @@ static bool copy_input(struct text *text) {
     static uint8_t part[1 << 16];
     struct pollfd it = {text->input, POLLIN, 0};
     if (text->input < 0 || poll(&it, 1, 0) <= 0) return false;
-    ssize_t count = read(text->input, part, sizeof part);
+    ssize_t count = read(text->input, part, sizeof part), put = 0;
     if (count < 0 && (errno == EINTR || errno == EAGAIN)) return false;
-    if (count > 0 && pwrite(text->file, part, (size_t)count, (off_t)text->size) == count) return true;
-    if (count != 0) text->error = errno;
+    for (ssize_t done = 0; done < count && put >= 0; done += put) put = pwrite(text->file, part + done, (size_t)(count - done), (off_t)text->size + done);
+    if (count > 0 && put >= 0) return true;
+    if (count != 0) text->failure = errno;
     text->input = -1;
     return false;
 }
@@ -96,7 +97,7 @@ bool open_text(struct text *text, const struct source *source, const struct requ
     text->file = is_file ? source->file : open_temporary();
     text->encoding = request->from;
     text->size = text->at = text->len = 0;
-    text->error = 0;
+    text->error = text->failure = 0;
     if (text->file < 0) return false;
     update_text(text);
     if (request->is_by_bom) {

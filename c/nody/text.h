@@ -17,7 +17,7 @@ struct text {
     int input; /* the pipe that is copied into `file`, or -1 */
     nody_encoding_t encoding;
     uint64_t size;
-    int error;
+    int error, failure; /* of a read of `file`, and of copying the pipe; or 0 */
     uint64_t at; /* of the window */
     size_t len;
     uint8_t window[WINDOW_ROOM];

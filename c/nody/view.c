@@ -130,6 +130,7 @@ static size_t cell_of(uint64_t row, uint64_t offset) {
     size_t column = 0;
     for (uint64_t at = row; at < offset;) {
         nody_piece_t piece = piece_of(&view.text, at);
+        if (piece.len == 0) break; /* (the file became shorter, which update_text has not seen yet) */
         column += cells_of(&piece, column);
         at += piece.len;
     }
@@ -143,7 +144,7 @@ static uint64_t at_cell(uint64_t row, size_t cell) {
     for (size_t column = 0; at < end;) {
         nody_piece_t piece = piece_of(&view.text, at);
         column += cells_of(&piece, column);
-        if (column > cell || at + piece.len >= end) break;
+        if (piece.len == 0 || column > cell || at + piece.len >= end) break;
         at += piece.len;
     }
     return at;
@@ -204,6 +205,7 @@ static void draw_text_row(int y, uint64_t row) {
         char shown[32] = "";
         nody_piece_t piece = piece_of(&view.text, at);
         size_t cells = cells_of(&piece, column);
+        if (piece.len == 0) break;
         attr_t look = shape_piece_in(shown, sizeof shown, at, &piece, cells);
         if (at == view.cursor && piece.kind == NODY_KIND_OK) look |= A_UNDERLINE;
         put_cells(y, column, shown, look);
@@ -220,6 +222,7 @@ static void draw_hex_row(int y, uint64_t row) {
     for (uint64_t at = boundary_of(&view.text, row); at < row + per_row && at < view.text.size;) {
         size_t len;
         nody_piece_t piece = piece_of(&view.text, at);
+        if (piece.len == 0) break;
         size_t cells = cells_of(&piece, 0) > 2 || piece.kind != NODY_KIND_OK || piece.scalar < 0x20 || piece.scalar == 0x7F ? 1 : cells_of(&piece, 0);
         attr_t look = shape_piece_in(shown, sizeof shown, at, &piece, 1);
         const char *beside = piece.kind != NODY_KIND_OK || look != A_NORMAL || piece.scalar < 0x20 ? "." : shown;
@@ -253,8 +256,9 @@ static void draw_status(void) {
     if (view.message[0]) snprintf(whole, sizeof whole, "%s", view.message);
     else if (view.text.error) snprintf(whole, sizeof whole, "cannot read: %s", strerror(view.text.error));
     else {
+        const char *failure = view.text.failure ? strerror(view.text.failure) : NULL, *front = failure ? failure : view.is_followed ? "follow" : NULL;
         put_line_of_status(status, sizeof status);
-        snprintf(whole, sizeof whole, "%s%s  %s%s", view.is_followed ? "[follow] " : "", status, name_of_encoding(view.text.encoding), view.text.input >= 0 ? " .." : "");
+        snprintf(whole, sizeof whole, "%s%.80s%s%s  %s%s", front ? "[" : "", front ? front : "", front ? "] " : "", status, name_of_encoding(view.text.encoding), view.text.input >= 0 ? " .." : "");
     }
     attrset(A_REVERSE);
     mvhline(LINES - 1, 0, ' ', COLS);

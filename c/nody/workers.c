@@ -127,7 +127,8 @@ static void *work(void *unused) {
 /* The number of threads to use. (a small file has one, and so has a pipe if the number was not given: it reports each part before it waits
  * for the next) */
 static size_t jobs_of(struct run *run) {
-    long here = sysconf(_SC_NPROCESSORS_ONLN);
+    static long here; /* (asked once: the system opens a file to tell it) */
+    if (here == 0) here = sysconf(_SC_NPROCESSORS_ONLN);
     size_t jobs = run->request->jobs, asked = jobs ? jobs : here < 1 ? 1 : here < JOBS ? (size_t)here : JOBS;
     if (asked == 1 || run->request->is_followed) return 1;
     if (S_ISREG(run->source.about.st_mode)) read_apart(&run->source);

@@ -229,18 +229,12 @@ struct converted {
 
 static struct converted convert(enum way way, uint8_t from, uint8_t to, const uint8_t *in, size_t len) {
     struct converted it;
-    nody_recoder_t recoder = nody_recoder(from, to);
     nody_fault_t fault;
-    size_t more = 0;
     memset(&it, 0, sizeof it);
     it.read = len;
     if (way == REPLACING) expect(nody_recode(from, to, in, len, it.out, sizeof it.out, &it.written) == NODY_STATUS_DONE, "a shard");
     if (way == STRICT) (void)nody_recode_strict(from, to, in, len, it.out, sizeof it.out, &it.read, &it.written, &fault);
-    if (way == LOSSY) {
-        expect(nody_recoder_feed_lossy(&recoder, in, len, it.out, sizeof it.out, &it.read, &it.written) == NODY_STATUS_DONE, "a shard, lossily");
-        expect(nody_recoder_finish_lossy(&recoder, it.out + it.written, sizeof it.out - it.written, &more) == NODY_STATUS_DONE, "its end");
-        it.written += more;
-    }
+    if (way == LOSSY) expect(nody_recode_lossy(from, to, in, len, it.out, sizeof it.out, &it.written) == NODY_STATUS_DONE, "a shard, lossily");
     return it;
 }
 
@@ -415,6 +409,102 @@ static void undecided(void) {
     expect(nody_undecided_len(NODY_UTF8, NULL, 0) == 0 && nody_undecided_len(3, NULL, 0) == SIZE_MAX, "an end of nothing, and in no encoding");
 }
 
+/* Lines and columns, counted by hand. */
+static void positions(void) {
+    static const struct {
+        const char *first, *second;
+        size_t first_len, second_len;
+        uint64_t line, column, byte_column;
+        nody_encoding_t encoding;
+    } rows[] = {
+        {"", "", 0, 0, 1, 1, 1, NODY_UTF8},
+        {"a\nb\xC3\xA9" "c", "", 6, 0, 2, 4, 5, NODY_UTF8},
+        {"a\nb\xC3", "\xA9" "c", 4, 2, 2, 4, 5, NODY_UTF8},
+        {"a\nb\xC3", "", 4, 0, 2, 3, 3, NODY_UTF8},
+        {"\xF0\x9F\x98", "", 3, 0, 1, 4, 4, NODY_UTF8},
+        {"\xF0\x9F\x98", "\x80\r", 3, 2, 1, 3, 6, NODY_UTF8},
+        {"\xE2\x82", "A\n\n", 2, 3, 3, 1, 1, NODY_UTF8},
+        {"\x3D\xD8\x00", "\xDE\x0A\x00" "a\x00", 3, 5, 2, 2, 3, NODY_UTF16LE},
+        {"\x0A\x00\x00", "\x0A\xD8\x3D", 3, 3, 2, 2, 3, NODY_UTF16BE},
+        {"\x00", "\x0A\x00", 1, 2, 2, 2, 2, NODY_UTF16BE},
+    };
+    for (size_t i = 0; i < sizeof rows / sizeof *rows; i++) {
+        nody_position_t at = nody_position();
+        expect(nody_position_advance(&at, rows[i].encoding, (const uint8_t *)rows[i].first, rows[i].first_len) == NODY_STATUS_DONE &&
+                   nody_position_advance(&at, rows[i].encoding, (const uint8_t *)rows[i].second, rows[i].second_len) == NODY_STATUS_DONE, "a position advances");
+        expect(at.line == rows[i].line && at.column == rows[i].column && at.byte_column == rows[i].byte_column, "a line, and columns");
+    }
+}
+
+/* An input for each rule by which an input is guessed, and the counts of one. compare/surveys has a plain program that returns the same. */
+static void surveyed(void) {
+    static const struct {
+        const char *bytes;
+        size_t len;
+        nody_guess_t guess;
+    } inputs[] = {
+        {"GIF89a", 6, NODY_GUESS_BINARY}, {"\xEF\xBB\xBF" "a", 4, NODY_GUESS_UTF8_MARKED}, {"\xFF\xFE\0\0", 4, NODY_GUESS_UTF32},
+        {"\xFF\xFE\0", 3, NODY_GUESS_UTF16LE_MARKED}, {"\xFE\xFF\0h", 4, NODY_GUESS_UTF16BE_MARKED}, {"abcd\0efgh", 9, NODY_GUESS_BINARY},
+        {"h\0i\0", 4, NODY_GUESS_UTF16LE}, {"\0h\0i", 4, NODY_GUESS_UTF16BE}, {"a\1b", 3, NODY_GUESS_BINARY}, {"", 0, NODY_GUESS_ASCII},
+        {"plain", 5, NODY_GUESS_ASCII}, {"caf\xC3\x83\xC2\xA9", 7, NODY_GUESS_UTF8_TWICE}, {"caf\xC3\xA9", 5, NODY_GUESS_UTF8},
+        {"caf\xC3\xA9 caf\xC3", 10, NODY_GUESS_UTF8_CUT}, {"caf\xED\xA0\xBD\xED\xB8\x80", 9, NODY_GUESS_UTF8_SURROGATES},
+        {"caf\xC3\xA9 caf\xE9 !", 12, NODY_GUESS_UTF8_MIXED}, {"\xCF\xF0\xE8\xE2\xE5\xF2", 6, NODY_GUESS_OTHER_8BIT}, {"a \x81", 3, NODY_GUESS_OTHER_8BIT},
+        {"caf\xE9", 4, NODY_GUESS_WINDOWS1252},
+    };
+    static const uint8_t mixed[] = "na\xEFve ca\x9F" "fe \xC3\xA9\xC3\x83\xC2\xA9 \x81\xC8\xE9 \xED\xA0\xBD\1\0\xE2\x82";
+    nody_survey_t survey;
+    for (size_t i = 0; i < sizeof inputs / sizeof *inputs; i++) {
+        nody_survey((const uint8_t *)inputs[i].bytes, inputs[i].len, &survey);
+        expect(survey.len == inputs[i].len && nody_guess(&survey) == inputs[i].guess, "a guess");
+    }
+    nody_survey(mixed, sizeof mixed - 1, &survey);
+    expect(survey.len == 30 && survey.nul == 1 && survey.control == 1 && survey.head == 0 && survey.tail == 2 && memcmp(survey.front, "na\xEFv", 4) == 0, "a survey");
+    expect(survey.utf8.chars == 3 && survey.utf8.faults == 10 && survey.utf8.third == 2 && survey.utf8.signs == 1 && survey.utf8.undefined == 1, "counts of UTF-8");
+    expect(survey.utf8.surrogates == 1 && survey.utf8.twice == 1 && survey.utf8.twice_chars == 2, "counts of sequences");
+    expect(survey.utf16le.plain == 0 && survey.utf16le.stray == 1 && survey.utf16be.stray == 0 && survey.utf16be.unpaired == 0, "counts of units");
+    expect(strcmp(nody_guess_text(NODY_GUESS_BINARY), "not text") == 0 && strcmp(nody_guess_text(15), "?") == 0, "a text of a guess");
+}
+
+/* The bytes of a survey before its padding. */
+enum { SURVEY_LEN = offsetof(nody_survey_t, tail) + 1 };
+
+/* What inputs may be: guesses in order, as their numbers; the rules are those of `others` in crates/surveys/specs/GuessLists. */
+static void guessed_again(void) {
+    static const struct {
+        const char *bytes;
+        size_t len, count;
+        nody_guess_t guesses[3];
+    } inputs[] = {
+        {"caf\xC3\xA9", 5, 1, {NODY_GUESS_UTF8}}, {"GIF89a", 6, 1, {NODY_GUESS_BINARY}}, {"a \x81", 3, 1, {NODY_GUESS_OTHER_8BIT}},
+        {"caf\xE9", 4, 2, {NODY_GUESS_WINDOWS1252, NODY_GUESS_OTHER_8BIT}}, {"caf\xC3\x83\xC2\xA9", 7, 2, {NODY_GUESS_UTF8_TWICE, NODY_GUESS_UTF8}},
+        {"\xCF\xF0\xE8\xE2\xE5\xF2", 6, 2, {NODY_GUESS_OTHER_8BIT, NODY_GUESS_WINDOWS1252}}, {"h\0i\0", 4, 2, {NODY_GUESS_UTF16LE, NODY_GUESS_BINARY}},
+        {"abcd\0efgh", 9, 2, {NODY_GUESS_BINARY, NODY_GUESS_ASCII}}, {"\0\1\2\3", 4, 2, {NODY_GUESS_BINARY, NODY_GUESS_UTF16LE}},
+        {"caf\xC3\xA9 caf\xC3", 10, 3, {NODY_GUESS_UTF8_CUT, NODY_GUESS_UTF8_MIXED, NODY_GUESS_WINDOWS1252}},
+    };
+    for (size_t i = 0; i < sizeof inputs / sizeof *inputs; i++) {
+        const uint8_t *bytes = (const uint8_t *)inputs[i].bytes;
+        nody_surveyor_t surveyor = nody_surveyor(), copy;
+        nody_survey_t survey, of_parts;
+        nody_guess_t guesses[4] = {99, 99, 99, 99};
+        nody_survey(bytes, inputs[i].len, &survey);
+        expect(nody_guesses(&survey, NULL, 0) == 0 && nody_guesses(&survey, guesses, 1) == 1 && guesses[0] == nody_guess(&survey) && guesses[1] == 99, "one guess");
+        expect(nody_guesses(&survey, guesses, 4) == inputs[i].count && memcmp(guesses, inputs[i].guesses, inputs[i].count) == 0 && guesses[3] == 99, "guesses");
+        for (size_t at = 0; at < inputs[i].len; at++) {
+            copy = surveyor;
+            expect(nody_surveyor_feed(&copy, bytes + at, inputs[i].len - at) == NODY_STATUS_DONE && nody_surveyor_survey(&copy, &of_parts) == NODY_STATUS_DONE &&
+                   memcmp(&of_parts, &survey, SURVEY_LEN) == 0, "a survey of two parts");
+            expect(nody_surveyor_feed(&surveyor, bytes + at, 1) == NODY_STATUS_DONE && nody_surveyor_feed(&surveyor, NULL, 0) == NODY_STATUS_DONE, "a byte");
+        }
+        expect(nody_surveyor_survey(&surveyor, &of_parts) == NODY_STATUS_DONE && memcmp(&of_parts, &survey, SURVEY_LEN) == 0, "a survey of bytes one by one");
+    }
+    nody_surveyor_t none, before;
+    nody_survey_t survey;
+    memset(&none, 0xFF, sizeof none);
+    before = none;
+    expect(nody_surveyor_feed(&none, (const uint8_t *)"a", 1) == NODY_STATUS_REFUSED && memcmp(&none, &before, sizeof none) == 0, "no surveyor is fed");
+    expect(nody_surveyor_survey(&none, &survey) == NODY_STATUS_REFUSED && survey.len == 0, "no surveyor has a survey");
+}
+
 /* The byte order marks of the Unicode standard, section 23.8. */
 static void marks(void) {
     nody_encoding_t encoding = 9;
@@ -547,6 +637,8 @@ static void lossy(void) {
             expect(nody_recoder_finish_lossy(&recoder, out + written + more, 32 - written - more, &last) == NODY_STATUS_DONE, "the end, lossily");
             expect(written + more + last == need && memcmp(out, cases[i].want, need) == 0 && recoder.replaced == 0 && recoder.count == 0, "one U+FFFD for each maximal subpart");
         }
+        expect(nody_recode_lossy(NODY_UTF8, NODY_UTF8, in, len, out, need, &written) == NODY_STATUS_DONE && written == need && memcmp(out, cases[i].want, need) == 0, "at once, lossily");
+        expect(nody_recode_lossy(NODY_UTF8, NODY_UTF8, in, len, out, need - 1, &written) == NODY_STATUS_FULL && written < need && memcmp(out, cases[i].want, written) == 0, "no room for all, lossily");
     }
     expect(nody_recoder_feed_lossy(&small, (const uint8_t *)"\xe2\x82" "A", 3, out, 3, &read, &written) == NODY_STATUS_FULL && written == 3, "no room for the A");
     expect(nody_recoder_feed_lossy(&small, (const uint8_t *)"\xe2\x82" "A" + read, 3 - read, out, 1, &read, &written) == NODY_STATUS_DONE && written == 1 && out[0] == 'A', "room for it");
@@ -564,6 +656,126 @@ static void lossy(void) {
                 expect(written + more + last == ends[i].need && memcmp(out, ends[i].want, ends[i].need) == 0, "the end of UTF-16, lossily");
             }
     expect(nody_recoder_feed_lossy(&none, le, 7, out, 32, &read, &written) == NODY_STATUS_REFUSED && read == 0 && written == 0 && nody_recoder_finish_lossy(&none, out, 32, &written) == NODY_STATUS_REFUSED, "no recoder, lossily");
+    expect(nody_recode_lossy(3, 0, le, 7, out, 32, &written) == NODY_STATUS_REFUSED && written == 0 && nody_recode_lossy(0, 3, le, 7, out, 32, &written) == NODY_STATUS_REFUSED, "no encoding, lossily");
+    expect(nody_recode_lossy(NODY_UTF8, NODY_UTF8, NULL, 0, NULL, 0, &written) == NODY_STATUS_DONE && written == 0, "nothing, lossily");
+}
+
+/* A character up to U+FFFF in an encoding; returns its length. */
+static size_t put_short(uint8_t to, uint32_t scalar, uint8_t *out) {
+    uint8_t high = (uint8_t)(scalar >> 8), low = (uint8_t)scalar;
+    if (to != NODY_UTF8) {
+        out[0] = to == NODY_UTF16LE ? low : high;
+        out[1] = to == NODY_UTF16LE ? high : low;
+        return 2;
+    }
+    if (scalar < 0x80) return out[0] = low, 1;
+    out[0] = (uint8_t)(scalar < 0x800 ? 0xC0 | scalar >> 6 : 0xE0 | scalar >> 12);
+    if (scalar >= 0x800) out[1] = (uint8_t)(0x80 | (scalar >> 6 & 0x3F));
+    out[scalar < 0x800 ? 1 : 2] = (uint8_t)(0x80 | (scalar & 0x3F));
+    return scalar < 0x800 ? 2 : 3;
+}
+
+/* Windows-1252 from 80 to 9F: the index of the WHATWG Encoding Standard, and Python's cp1252 but for 81, 8D, 8F, 90 and 9D, which it lacks. */
+static const uint32_t WINDOWS_1252[32] = {
+    0x20AC, 0x0081, 0x201A, 0x0192, 0x201E, 0x2026, 0x2020, 0x2021, 0x02C6, 0x2030, 0x0160, 0x2039, 0x0152, 0x008D, 0x017D, 0x008F,
+    0x0090, 0x2018, 0x2019, 0x201C, 0x201D, 0x2022, 0x2013, 0x2014, 0x02DC, 0x2122, 0x0161, 0x203A, 0x0153, 0x009D, 0x017E, 0x0178,
+};
+
+/* A table: of a name, or with the numbers at which what they mean changes, 100 of them. */
+enum { NOTHING = -1, OWN_LEN = 100 };
+static const uint32_t OWN[] = {0, 0x41, 0x7F, 0x80, 0x7FF, 0x800, 0xD7FF, 0xD800, 0xDFFF, 0xE000, 0xFFFD, 0xFFFF, 0x10000, 0x10FFFF, 0x110000, UINT32_MAX};
+static uint32_t own[OWN_LEN];
+
+static int32_t meant(nody_repair_t repair, uint32_t byte) {
+    uint32_t number = byte - 0x80 < OWN_LEN ? own[byte - 0x80] : UINT32_MAX;
+    switch (repair) {
+    case NODY_REPAIR_DROP: return NOTHING;
+    case NODY_REPAIR_WINDOWS_1252: return (int32_t)(byte < 0xA0 ? WINDOWS_1252[byte - 0x80] : byte);
+    case NODY_REPAIR_LATIN_1: return (int32_t)byte;
+    default: return number > 0xFFFF || (number >= 0xD800 && number < 0xE000) ? NOTHING : (int32_t)number;
+    }
+}
+
+/* Whether an input becomes the output by a table, however it is cut in two, and at once; and how many faults are counted. */
+static int is_repaired(uint8_t from, uint8_t to, nody_repair_t repair, const uint8_t *in, size_t len, const uint8_t *want, size_t need, uint64_t faults) {
+    uint8_t out[32];
+    size_t read, written, more, last, most = nody_recoded_len(from, to, in, len);
+    for (size_t at = 0; at <= len; at++) {
+        nody_recoder_t recoder = nody_recoder(from, to);
+        if (nody_recoder_feed_repair(&recoder, in, at, out, 32, repair, own, OWN_LEN, &read, &written) != NODY_STATUS_DONE || read != at) return 0;
+        if (nody_recoder_feed_repair(&recoder, in + at, len - at, out + written, 32 - written, repair, own, OWN_LEN, &read, &more) != NODY_STATUS_DONE) return 0;
+        if (nody_recoder_finish_repair(&recoder, out + written + more, 32 - written - more, repair, own, OWN_LEN, &last) != NODY_STATUS_DONE) return 0;
+        if (written + more + last != need || memcmp(out, want, need) != 0 || recoder.replaced != faults || recoder.count != 0) return 0;
+    }
+    memset(out, GUARD, sizeof out);
+    if (nody_recode_repair(from, to, in, len, out, most, repair, own, OWN_LEN, &written) != NODY_STATUS_DONE || written != need || out[most] != GUARD) return 0;
+    if (memcmp(out, want, need) != 0) return 0;
+    if (need == 0) return 1;
+    if (nody_recode_repair(from, to, in, len, out, need - 1, repair, own, OWN_LEN, &written) != NODY_STATUS_FULL || written + 4 < need) return 0;
+    return nody_recode_repair(to, to, want, need, out, need, repair, own, OWN_LEN, &written) == NODY_STATUS_DONE && written == need && memcmp(out, want, need) == 0;
+}
+
+/* Each byte of each table, between two characters and at the end, in each encoding. Then faults of UTF-16. */
+static void repaired(void) {
+    for (size_t i = 0; i < OWN_LEN; i++) own[i] = OWN[i * 7 % (sizeof OWN / sizeof *OWN)];
+    for (uint8_t to = 0; to < 3; to++)
+        for (nody_repair_t repair = 0; repair <= NODY_REPAIR_TABLE; repair++) {
+            for (uint32_t byte = 0x80; byte < 0x100; byte++) {
+                const uint8_t in[] = {0xC3, 0xA9, (uint8_t)byte, '!', (uint8_t)byte};
+                uint8_t want[32];
+                size_t need = put_short(to, 0xE9, want);
+                int32_t scalar = meant(repair, byte);
+                if (scalar != NOTHING) need += put_short(to, (uint32_t)scalar, want + need);
+                need += put_short(to, '!', want + need);
+                if (scalar != NOTHING) need += put_short(to, (uint32_t)scalar, want + need);
+                expect(is_repaired(NODY_UTF8, to, repair, in, sizeof in, want, need, 2), "a byte by a table");
+            }
+            for (uint8_t from = NODY_UTF16LE; from <= NODY_UTF16BE; from++) {
+                static const uint32_t units[] = {0xDC00, 0xE9, 0xD800, 0x21, 0xD83D};
+                uint8_t in[11], want[32];
+                size_t need = 0;
+                for (size_t i = 0; i < 5; i++) {
+                    int is_fault = units[i] >= 0xD800;
+                    put_short(from, units[i], in + 2 * i);
+                    if (!is_fault || repair != NODY_REPAIR_DROP) need += put_short(to, is_fault ? 0xFFFD : units[i], want + need);
+                }
+                in[10] = 0x41;
+                if (repair != NODY_REPAIR_DROP) need += put_short(to, 0xFFFD, want + need);
+                expect(is_repaired(from, to, repair, in, sizeof in, want, need, 4), "surrogates by a table");
+            }
+        }
+}
+
+/* Tables that are empty or too long, capacities that are too small, and what is rejected. */
+static void repaired_at_the_edges(void) {
+    static const uint8_t in[] = {0x41, 0xE2, 0x82, 0xFF, 0x42}, le[] = {0x00, 0xDC, 0x42, 0x00};
+    uint32_t many[130];
+    nody_recoder_t recoder = nody_recoder(NODY_UTF8, NODY_UTF8), before, none = nody_recoder(3, 0);
+    uint8_t out[32];
+    size_t read, written;
+    for (size_t i = 0; i < 130; i++) many[i] = 0xFFFF;
+    expect(nody_recode_repair(NODY_UTF8, NODY_UTF8, in, 5, out, 32, NODY_REPAIR_TABLE, many, 130, &written) == NODY_STATUS_DONE && written == 11 && memcmp(out, "A\xef\xbf\xbf\xef\xbf\xbf\xef\xbf\xbf" "B", 11) == 0, "a table that is too long");
+    expect(nody_recode_repair(NODY_UTF8, NODY_UTF8, in, 5, out, 32, NODY_REPAIR_TABLE, NULL, 0, &written) == NODY_STATUS_DONE && written == 2 && memcmp(out, "AB", 2) == 0, "an empty table");
+    expect(nody_recode_repair(NODY_UTF16LE, NODY_UTF8, le, 4, out, 32, NODY_REPAIR_TABLE, NULL, 0, &written) == NODY_STATUS_DONE && written == 1 && out[0] == 'B', "an empty table, of UTF-16");
+    expect(nody_recode_repair(NODY_UTF8, NODY_UTF8, NULL, 0, NULL, 0, NODY_REPAIR_DROP, NULL, 0, &written) == NODY_STATUS_DONE && written == 0, "nothing by a table");
+    expect(nody_recode_repair(NODY_UTF8, NODY_UTF8, in + 3, 1, NULL, 0, NODY_REPAIR_DROP, NULL, 0, &written) == NODY_STATUS_DONE && written == 0, "no room for nothing");
+    expect(nody_recoder_feed_repair(&recoder, in, 3, out, 32, NODY_REPAIR_LATIN_1, NULL, 0, &read, &written) == NODY_STATUS_DONE && written == 1 && recoder.count == 2, "bytes that are held");
+    expect(nody_recoder_finish_repair(&recoder, out, 3, NODY_REPAIR_LATIN_1, NULL, 0, &written) == NODY_STATUS_FULL && written == 2 && recoder.replaced == 1, "no room for the end, by a table");
+    expect(nody_recoder_finish_repair(&recoder, out, 2, NODY_REPAIR_LATIN_1, NULL, 0, &written) == NODY_STATUS_DONE && written == 2 && memcmp(out, "\xc2\x82", 2) == 0 && recoder.replaced == 2, "room for it");
+    nody_recoder_feed(&recoder, in, 3, out, 32, &read, &written);
+    memset(out, GUARD, sizeof out);
+    for (int repair = NODY_REPAIR_TABLE + 1; repair < 256; repair++) {
+        memcpy(&before, &recoder, sizeof before);
+        read = written = 9;
+        expect(nody_recoder_feed_repair(&recoder, in, 5, out, 32, (nody_repair_t)repair, own, OWN_LEN, &read, &written) == NODY_STATUS_REFUSED && read + written == 0, "no table");
+        written = 9;
+        expect(nody_recoder_finish_repair(&recoder, out, 32, (nody_repair_t)repair, own, OWN_LEN, &written) == NODY_STATUS_REFUSED && written == 0, "the end by no table");
+        written = 9;
+        expect(nody_recode_repair(NODY_UTF8, NODY_UTF8, in, 5, out, 32, (nody_repair_t)repair, own, OWN_LEN, &written) == NODY_STATUS_REFUSED && written == 0, "an input by no table");
+        expect(memcmp(&before, &recoder, sizeof before) == 0 && out[0] == GUARD, "what is rejected changes nothing");
+    }
+    expect(nody_recoder_feed_repair(&none, in, 5, out, 32, NODY_REPAIR_DROP, NULL, 0, &read, &written) == NODY_STATUS_REFUSED && nody_recoder_finish_repair(&none, out, 32, NODY_REPAIR_DROP, NULL, 0, &written) == NODY_STATUS_REFUSED && none.replaced == 0, "no recoder, by a table");
+    expect(nody_recode_repair(3, NODY_UTF8, in, 5, out, 32, NODY_REPAIR_DROP, NULL, 0, &written) == NODY_STATUS_REFUSED && nody_recode_repair(NODY_UTF8, 3, in, 5, out, 32, NODY_REPAIR_DROP, NULL, 0, &written) == NODY_STATUS_REFUSED && out[0] == GUARD, "no encoding, by a table");
 }
 
 /* Transcodes the same bytes again and again, and counts how often the output was wrong. */
@@ -676,15 +888,19 @@ static void decode_in_parts(uint8_t encoding, const uint8_t *in, size_t len) {
     nody_decoder_finish_faults(&decoder, pieces, most, &written);
     nody_recoder_feed(&recoder, in, 1, made, nody_recoded_len_max(encoding, encoding, 1), &read, &written);
     nody_recoder_held(&recoder, made, sizeof made);
+    nody_position_t position = nody_position();
+    nody_position_advance(&position, encoding, in, len - 7);
+    nody_position_advance(&position, encoding, in + len - 7, 7);
     nody_boundary_before(encoding, in, len, len / 2);
     nody_char_count(encoding, in, len);
     nody_offset_of(encoding, in, len, nody_number_of(encoding, in, len, len / 2));
 }
 
 static void recode_each_way(uint8_t from, uint8_t to, const uint8_t *in, size_t len) {
-    nody_recoder_t a = nody_recoder(from, to), b = a, c = a;
+    nody_recoder_t a = nody_recoder(from, to), b = a, c = a, d = a;
     nody_fault_t fault;
     nody_encoding_t told = from;
+    nody_survey_t survey;
     size_t read, written;
     nody_recode(from, to, in, len, made, sizeof made, &written);
     nody_recoded_len(from, to, in, len);
@@ -694,16 +910,25 @@ static void recode_each_way(uint8_t from, uint8_t to, const uint8_t *in, size_t 
         nody_recoder_feed(&a, in + start, cut - start, made, sizeof made, &read, &written);
         nody_recoder_feed_strict(&b, in + start, cut - start, made, sizeof made, &read, &written, &fault);
         nody_recoder_feed_lossy(&c, in + start, cut - start, made, sizeof made, &read, &written);
+        nody_recoder_feed_repair(&d, in + start, cut - start, made, sizeof made, NODY_REPAIR_TABLE, own, OWN_LEN, &read, &written);
     }
     nody_recoder_finish(&a, made, sizeof made, &written);
     nody_recoder_finish_strict(&b, made, sizeof made, &written, &fault);
     nody_recoder_finish_lossy(&c, made, sizeof made, &written);
+    nody_recoder_finish_repair(&d, made, sizeof made, NODY_REPAIR_TABLE, own, OWN_LEN, &written);
     nody_utf16_bytes_valid_up_to(from, in, len);
     nody_shard_end(from, in, len, len / 2);
     nody_boundary_after(from, in, len, len / 2);
     nody_undecided_len(from, in, len / 2 + 1);
     nody_changed_range(from, in, len, len / 2, len / 2 + 1);
     nody_encoding_of_bom(in, len, &told);
+    nody_surveyor_t surveyor = nody_surveyor();
+    nody_guess_t guesses[3];
+    nody_surveyor_feed(&surveyor, in, len);
+    nody_surveyor_survey(&surveyor, &survey);
+    nody_survey(in, len, &survey);
+    nody_guess(&survey);
+    nody_guesses(&survey, guesses, 3);
 }
 
 static void *takes_all(void *unused) {
@@ -756,11 +981,16 @@ int main(int argc, char **argv) {
     changes();
     faults();
     undecided();
+    positions();
+    surveyed();
+    guessed_again();
     marks();
     words();
     strictly();
     replaced();
     lossy();
+    repaired();
+    repaired_at_the_edges();
     vectors();
     random_cases(argc > 1 ? strtoul(argv[1], NULL, 10) : 1000);
     if (argc == 2) {

@@ -1,6 +1,6 @@
 /* Holds the decoder for input in parts against one written here, and against nody_utf8_pieces of the whole: each division of small
- * inputs with each room, and random inputs in parts and rooms of many lengths; all pieces, only the faults, and both in turn. The last
- * line is 'N passed, M failed'.
+ * inputs with each room, and random inputs in parts and rooms of many lengths; all pieces, only the faults, and both in turn. Positions
+ * are held against the pieces of all that was passed, counted from the front. The last line is 'N passed, M failed'.
  *
  * usage: decoder ROUNDS */
 #include "noddychest.h"
@@ -220,6 +220,33 @@ static void check_divisions(nody_encoding_t encoding, const uint8_t *bytes, size
             }
 }
 
+/* Whether the position is the one after these bytes, counted piece by piece. */
+static int is_after(nody_encoding_t encoding, const uint8_t *bytes, size_t len, const nody_position_t *at) {
+    uint64_t line = 1, column = 1, byte_column = 1;
+    size_t count = located(encoding, 0, bytes, len, want), k;
+    for (k = 0; k < count; k++) {
+        int ends_line = want[k].kind == NODY_KIND_OK && want[k].scalar == 0x0a;
+        line += ends_line ? 1 : 0;
+        column = ends_line ? 1 : column + 1;
+        byte_column = ends_line ? 1 : byte_column + want[k].len;
+    }
+    return at->line == line && at->column == column && at->byte_column == byte_column && at->count <= 3;
+}
+
+/* Each division of an input into three parts. The middle of the first part, and an empty one, are passed too. */
+static void check_positions(nody_encoding_t encoding, const uint8_t *bytes, size_t len, unsigned long number) {
+    size_t i, j;
+    for (i = 0; i <= len; i++)
+        for (j = i; j <= len; j++) {
+            nody_position_t at = nody_position();
+            int is_right = nody_position_advance(&at, encoding, bytes, i) == NODY_STATUS_DONE && is_after(encoding, bytes, i, &at);
+            is_right &= nody_position_advance(&at, encoding, bytes + i, j - i) == NODY_STATUS_DONE && is_after(encoding, bytes, j, &at);
+            is_right &= nody_position_advance(&at, encoding, NULL, 0) == NODY_STATUS_DONE && is_after(encoding, bytes, j, &at);
+            is_right &= nody_position_advance(&at, encoding, bytes + j, len - j) == NODY_STATUS_DONE && is_after(encoding, bytes, len, &at);
+            expect(is_right, "the position after three parts", number);
+        }
+}
+
 static uint64_t state = 20261127;
 
 static uint32_t any(uint32_t below) {
@@ -233,7 +260,7 @@ static size_t make_bytes(uint8_t *out, size_t len, nody_encoding_t encoding) {
     size_t place = 0;
     uint32_t kind = any(6), damage = any(3);
     while (place + 4 <= len) {
-        uint32_t scalar = FIRST[kind < 5 ? (any(4) ? kind : any(5)) : any(5)] + any(60);
+        uint32_t scalar = any(30) ? FIRST[kind < 5 ? (any(4) ? kind : any(5)) : any(5)] + any(60) : '\n';
         uint16_t units[2];
         size_t count, k;
         if (encoding == NODY_UTF8) place += nody_utf8_encode(scalar, out + place, 4);
@@ -258,14 +285,19 @@ static void check_random(unsigned long rounds) {
         size_t len = make_bytes(bytes, any(4) ? any(300) : any(MOST - 8), encoding), place = 0, most = 1 + any(100), room = 1 + any(any(2) ? 8 : 400);
         uint64_t offset = any(3) ? 0 : (any(2) ? UINT64_MAX : (uint64_t)1 << 32) - any(200);
         struct run run = started(encoding, offset, (enum asks)any(3));
+        nody_position_t at = nody_position();
+        int is_right = 1;
         while (place < len) {
             size_t part = 1 + any((uint32_t)most);
             if (part > len - place) part = len - place;
             feed(&run, bytes + place, part, room);
+            is_right &= nody_position_advance(&at, encoding, bytes + place, part) == NODY_STATUS_DONE;
             place += part;
+            if (!any(5)) is_right &= is_after(encoding, bytes, place, &at);
             expect(nody_undecided_len(encoding, bytes, place) == run.decoder.count, "as many bytes are undecided as are held", round);
         }
         finish(&run, room);
+        expect(is_right && is_after(encoding, bytes, len, &at), "the position after random parts", round);
         check_done(&run, encoding, offset, bytes, len, "random parts", round);
     }
 }
@@ -372,6 +404,30 @@ static void check_ends(void) {
     expect(nody_decoder_finish_faults(&decoder, NULL, 0, &written) == NODY_STATUS_DONE && !written, "no fault at the end", 0);
 }
 
+/* Lines as long as no count of eight bits is, and what is refused. */
+static void check_position_edges(void) {
+    enum { LONG = 200000 };
+    static uint8_t bytes[LONG];
+    nody_position_t at = nody_position(), refused = at;
+    size_t k;
+    memset(bytes, '\n', LONG);
+    expect(nody_position_advance(&at, NODY_UTF8, bytes, LONG) == NODY_STATUS_DONE && at.line == LONG + 1 && at.column == 1 && at.byte_column == 1, "line feeds", 0);
+    for (k = 0; k < LONG; k += 2) bytes[k] = 0;
+    at = nody_position();
+    expect(nody_position_advance(&at, NODY_UTF16BE, bytes, LONG - 1) == NODY_STATUS_DONE && at.line == LONG / 2 && at.column == 2 && at.byte_column == 2, "line feeds of UTF-16", 0);
+    expect(nody_position_advance(&at, NODY_UTF16BE, bytes + LONG - 1, 1) == NODY_STATUS_DONE && at.line == LONG / 2 + 1 && at.column == 1, "the last of them", 0);
+    at = nody_position();
+    expect(nody_position_advance(&at, NODY_UTF16LE, bytes, LONG) == NODY_STATUS_DONE && at.line == 1 && at.column == LONG / 2 + 1 && at.byte_column == LONG + 1, "units 0A00", 0);
+    expect(nody_position_advance(&refused, (nody_encoding_t)3, bytes, LONG) == NODY_STATUS_REFUSED && refused.line == 1 && refused.column == 1, "no encoding of a position", 0);
+    refused.count = 4;
+    expect(nody_position_advance(&refused, NODY_UTF8, bytes, LONG) == NODY_STATUS_REFUSED && refused.line == 1 && refused.count == 4, "a position that holds four bytes", 0);
+    at.line = at.column = at.byte_column = UINT64_MAX;
+    at.count = 0;
+    expect(nody_position_advance(&at, NODY_UTF8, (const uint8_t *)"ab", 2) == NODY_STATUS_DONE && at.line == UINT64_MAX && at.column == 1 && at.byte_column == 1, "columns modulo 2^64", 0);
+    expect(nody_position_advance(&at, NODY_UTF8, (const uint8_t *)"\n", 1) == NODY_STATUS_DONE && at.line == 0 && at.column == 1, "lines modulo 2^64", 0);
+    expect(sizeof at == 32, "the size of a position", 0);
+}
+
 static void check_edges(void) {
     nody_decoder_t decoder = nody_decoder((nody_encoding_t)3), copy;
     nody_located_t room[4] = {{77, 77, 77, 77}, {77, 77, 77, 77}, {77, 77, 77, 77}, {77, 77, 77, 77}};
@@ -400,6 +456,7 @@ static void check_edges(void) {
 
 int main(int count, char **words) {
     static const uint8_t BYTES[] = {0x41, 0x80, 0xa0, 0xc3, 0xe0, 0xe2, 0xed, 0xf0, 0xf4, 0xff, 0xd8, 0xdc, 0x00};
+    static const uint8_t LINES[] = {0x0a, 0x00, 0xd8, 0xdc, 0xf0, 0x9f, 0x41};
     unsigned long rounds = count > 1 ? strtoul(words[1], NULL, 10) : 1000, number;
     uint8_t bytes[4];
     size_t k;
@@ -410,6 +467,13 @@ int main(int count, char **words) {
         check_divisions((nody_encoding_t)(number % 3), bytes, 4, PIECES, number);
         check_divisions((nody_encoding_t)(number % 3), bytes, 4, number % 2 ? FAULTS : IN_TURN, number);
     }
+    for (number = 0; number < 7ul * 7 * 7 * 7 * 7 * 7; number += 1 + 4 * (rounds < 1000)) {
+        unsigned long rest = number;
+        uint8_t lines[6];
+        for (k = 0; k < 6; k++, rest /= 7) lines[k] = LINES[rest % 7];
+        check_positions((nody_encoding_t)(number % 3), lines, 6, number);
+    }
+    check_position_edges();
     check_ends();
     check_random(rounds);
     check_long(rounds < 60 ? rounds : 60 + rounds / 100);

@@ -1,8 +1,9 @@
 /* Holds the library against a decoder that is written here from the grammar of RFC 3629, section 4, and from RFC 2781, section 2.2,
  * and shares nothing with it: edges COUNT. Each buffer lies between two pages that must not be touched, once at the end of the
  * first and once at the front of the other. Every input is converted with each room of 0 to 14 bytes and each split into two parts,
- * with U+FFFD for faults, which are counted, with one for each maximal subpart (the Unicode standard, D93b), and strictly, where
- * each fault has to come at its place and with its kind: all inputs of up to three bytes of those that the grammar names, and then
+ * with U+FFFD for faults, which are counted, with one for each maximal subpart (the Unicode standard, D93b), with what a table has for
+ * each fault, and strictly, where each fault has to come at its place and with its kind: all inputs of up to three bytes of those that the
+ * grammar names, and then
  * COUNT random ones. Of each first part a recoder holds the front of a code alone. Structs of random bytes are rejected, or recode within bounds. Prints what failed, and then
  * `N passed, M failed`. */
 #define _DEFAULT_SOURCE
@@ -236,21 +237,40 @@ static size_t lossy_of(nody_encoding_t from, nody_encoding_t to, const uint8_t *
     return made;
 }
 
-/* is_recoded_in for the lossy calls, which count no replaced bytes. */
-static int is_lossy_in(nody_encoding_t from, nody_encoding_t to, const uint8_t *in, size_t len, size_t split, size_t room, const uint8_t *want, size_t need) {
+/* A table of random numbers, and what a fault becomes by it. */
+typedef struct {
+    int is_lossy; /* by no table, but with one U+FFFD for each maximal subpart */
+    nody_repair_t repair;
+    const uint32_t *table;
+    size_t len;
+} manner;
+
+static const manner LOSSY = {1, NODY_REPAIR_DROP, NULL, 0};
+
+static nody_status_t feed_by(const manner *by, nody_recoder_t *recoder, const uint8_t *in, size_t len, uint8_t *out, size_t room, size_t *read, size_t *written) {
+    if (by->is_lossy) return nody_recoder_feed_lossy(recoder, in, len, out, room, read, written);
+    return nody_recoder_feed_repair(recoder, in, len, out, room, by->repair, by->table, by->len, read, written);
+}
+
+static nody_status_t finish_by(const manner *by, nody_recoder_t *recoder, uint8_t *out, size_t room, size_t *written) {
+    if (by->is_lossy) return nody_recoder_finish_lossy(recoder, out, room, written);
+    return nody_recoder_finish_repair(recoder, out, room, by->repair, by->table, by->len, written);
+}
+
+/* is_recoded_in for the lossy calls, which count no replaced bytes, and for those with a table. */
+static int is_made_in(const manner *by, nody_encoding_t from, nody_encoding_t to, const uint8_t *in, size_t len, size_t split, size_t room, const uint8_t *want, size_t need, size_t replaced) {
     nody_recoder_t recoder = nody_recoder(from, to);
     size_t place = 0, made = 0, end = split;
     for (int calls = 0; calls < 200; calls++) {
         uint8_t *out = fenced_bytes(out_fence, room, at_end);
         size_t read = 0, written = 0;
         int is_last = place == len && end == len;
-        nody_status_t status = is_last ? nody_recoder_finish_lossy(&recoder, out, room, &written)
-                                       : nody_recoder_feed_lossy(&recoder, in + place, end - place, out, room, &read, &written);
+        nody_status_t status = is_last ? finish_by(by, &recoder, out, room, &written) : feed_by(by, &recoder, in + place, end - place, out, room, &read, &written);
         if (status == NODY_STATUS_REFUSED || written > room || read > end - place || made + written > need) return 0;
-        if (memcmp(out, want + made, written) != 0 || recoder.replaced != 0) return 0;
+        if (memcmp(out, want + made, written) != 0 || recoder.replaced > replaced) return 0;
         made += written;
         place += read;
-        if (status == NODY_STATUS_DONE && is_last) return made == need && nody_recoder_held(&recoder, NULL, 0) == 0;
+        if (status == NODY_STATUS_DONE && is_last) return made == need && recoder.replaced == replaced && nody_recoder_held(&recoder, NULL, 0) == 0;
         if (status == NODY_STATUS_DONE && place != end) return 0;
         if (status == NODY_STATUS_DONE) end = len;
         if (status == NODY_STATUS_FULL && read + written == 0) {
@@ -266,7 +286,43 @@ static int are_lossy(nody_encoding_t from, nody_encoding_t to, const uint8_t *in
     size_t need = lossy_of(from, to, in, len, pieces, want);
     for (size_t room = 0; room < ROOMS; room++)
         for (size_t split = 0; split <= len; split++)
-            if (!is_lossy_in(from, to, in, len, split, room, want, need)) return 0;
+            if (!is_made_in(&LOSSY, from, to, in, len, split, room, want, need, 0)) return 0;
+    return 1;
+}
+
+/* Transcodes the bytes by a table; returns the length of the output. */
+static size_t repaired_of(const manner *by, nody_encoding_t from, nody_encoding_t to, const uint8_t *in, const cut_text *pieces, uint8_t *out, size_t *faults) {
+    size_t made = 0;
+    *faults = 0;
+    for (size_t i = 0; i < pieces->count; i++) {
+        const cut_piece *it = &pieces->piece[i];
+        uint32_t scalar = it->scalar;
+        int is_byte = it->is_fault && from == NODY_UTF8, is_unit = it->is_fault && from != NODY_UTF8;
+        if (is_byte && by->repair == NODY_REPAIR_LATIN_1) scalar = in[it->start];
+        if (is_byte && by->repair == NODY_REPAIR_TABLE) scalar = in[it->start] - 0x80U < by->len ? by->table[in[it->start] - 0x80] : 0xD800;
+        if (is_unit && by->repair == NODY_REPAIR_TABLE && by->len == 0) scalar = 0xD800;
+        if (it->is_fault && by->repair == NODY_REPAIR_DROP) scalar = 0xD800;
+        if (!it->is_fault || (scalar < 0x10000 && (scalar < 0xD800 || scalar > 0xDFFF))) made += put(to, scalar, out + made);
+        *faults += (size_t)it->is_fault;
+    }
+    return made;
+}
+
+/* Drops what is invalid, takes it for ISO-8859-1, or asks a table, in turn. */
+static int are_repaired(nody_encoding_t from, nody_encoding_t to, const uint8_t *in, size_t len, const cut_text *pieces) {
+    static uint32_t table[128];
+    static unsigned turn;
+    manner by = {0, NODY_REPAIR_DROP, NULL, 0};
+    uint8_t want[MADE];
+    turn = turn * 1664525 + 1013904223;
+    by.repair = (nody_repair_t)(turn >> 29 & 3);
+    if (by.repair == NODY_REPAIR_WINDOWS_1252) by.repair = NODY_REPAIR_TABLE;
+    if (by.repair == NODY_REPAIR_TABLE) by.table = table, by.len = turn >> 20 & 1 ? 128 : turn >> 21 & 127;
+    for (size_t i = 0; i < by.len; i++) table[i] = (uint32_t)(turn >> 3) * (uint32_t)(i + 1) >> (turn >> 22 & 15);
+    size_t faults, need = repaired_of(&by, from, to, in, pieces, want, &faults);
+    for (size_t room = 0; room < ROOMS; room++)
+        for (size_t split = 0; split <= len; split++)
+            if (!is_made_in(&by, from, to, in, len, split, room, want, need, faults)) return 0;
     return 1;
 }
 
@@ -404,6 +460,7 @@ static void recodings(nody_encoding_t from, const uint8_t *in, size_t len, const
         expect(holds && nody_recoded_len(from, to, in, len) == need && need <= nody_recoded_len_max(from, to, len), "recoded", shown);
         expect(are_strict(from, to, in, len, pieces), "recoded strictly", shown);
         expect(are_lossy(from, to, in, len, pieces), "recoded lossily", shown);
+        expect(are_repaired(from, to, in, len, pieces), "recoded by a table", shown);
     }
 }
 

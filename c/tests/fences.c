@@ -24,7 +24,7 @@ typedef struct {
     uint8_t *front, *end;
 } fence;
 
-static fence inputs, parts, outputs, structs;
+static fence inputs, parts, outputs, structs, tables;
 
 /* (a call that leaves them ends the program, and this is the last one that was made) */
 static const char *volatile call = "none";
@@ -133,6 +133,12 @@ static nody_piece_t (*const ENDS_OF_UNITS[])(const uint16_t *, size_t) = {nody_u
 
 static void measure(const asked *ask) {
     EACH(i, LENGTHS) HOLDS(CALL(LENGTHS[i].in_bytes(ask->in, ask->len)) <= ask->len && LENGTHS[i].in_units(ask->units, ask->count) <= ask->count);
+    nody_survey_t survey;
+    HOLDS(CALL((nody_survey(ask->in, ask->len, &survey), survey.len)) == ask->len && nody_guess(&survey) <= NODY_GUESS_BINARY);
+    size_t room = below(5), count;
+    nody_guess_t *guesses = (nody_guess_t *)room_of(room);
+    HOLDS((count = CALL(nody_guesses(&survey, guesses, room))) <= room && count <= 3 && (count == 0) == (room == 0));
+    HOLDS((count == 0 || guesses[0] == nody_guess(&survey)) && is_painted(guesses, count, room));
     EACH(i, AT_OF_BYTES) HOLDS(CALL(AT_OF_BYTES[i](ask->in, ask->len, ask->at)) <= ask->len);
     EACH(i, AT_OF_UNITS) HOLDS(CALL(AT_OF_UNITS[i](ask->units, ask->count, ask->at)) <= ask->count);
     EACH(i, IN_ENCODING) HOLDS(CALL(IN_ENCODING[i](ask->from, ask->in, ask->len)) <= ask->len && IN_ENCODING[i](ask->none, ask->in, ask->len) == SIZE_MAX);
@@ -247,6 +253,36 @@ static void recode(const asked *ask) {
     HOLDS(status == NODY_STATUS_REFUSED && it.read == 0 && it.written == 0 && is_told(&it) && is_painted(out, 0, room));
 }
 
+/* A table of up to 140 numbers, most of them characters up to U+FFFF, and which table a call takes. */
+typedef struct {
+    nody_repair_t repair;
+    const uint32_t *table;
+    size_t len;
+} repair;
+
+static repair any_repair(void) {
+    size_t len = below(141);
+    uint32_t *table = (uint32_t *)(void *)in_fence(tables, len * sizeof *table);
+    for (size_t i = 0; i < len; i++) table[i] = below(below(9) ? 0x10000 : UINT32_MAX);
+    return (repair){(nody_repair_t)below(4), table, len};
+}
+
+/* The calls that nody_recoded_len has a sufficient capacity for. */
+static void recode_by_recoder(const asked *ask) {
+    size_t need = nody_recoded_len(ask->from, ask->to, ask->in, ask->len), room = below(2) ? need : below((uint32_t)need + 1);
+    repair by = any_repair();
+    uint8_t *out = room_of(room);
+    told it = UNTOLD;
+    nody_status_t status = CALL(nody_recode_lossy(ask->from, ask->to, ask->in, ask->len, out, room, &it.written));
+    HOLDS(it.written <= room && is_told(&it) && status <= NODY_STATUS_FULL && (status == NODY_STATUS_DONE || room < need) && is_painted(out, room, room));
+    out = room_of(room);
+    status = CALL(nody_recode_repair(ask->from, ask->to, ask->in, ask->len, out, room, by.repair, by.table, by.len, &it.written));
+    HOLDS(it.written <= room && is_told(&it) && status <= NODY_STATUS_FULL && (status == NODY_STATUS_DONE || room < need) && is_painted(out, room, room));
+    out = room_of(room);
+    status = CALL(nody_recode_repair(ask->from, ask->to, ask->in, ask->len, out, room, (nody_repair_t)(4 + below(252)), by.table, by.len, &it.written));
+    HOLDS(status == NODY_STATUS_REFUSED && it.written == 0 && is_told(&it) && is_painted(out, 0, room));
+}
+
 static void recode_units(const asked *ask) {
     size_t room = below((uint32_t)(ask->len + 2)), written = 99;
     uint8_t *out = room_of(2 * room);
@@ -267,18 +303,22 @@ static void fill_any(void *bytes, size_t len) {
 }
 
 static nody_status_t feed(nody_recoder_t *recoder, const uint8_t *in, size_t len, uint8_t *out, size_t room, told *it) {
-    switch (below(3)) {
+    repair by = any_repair();
+    switch (below(4)) {
     case 0: return CALL(nody_recoder_feed(recoder, in, len, out, room, &it->read, &it->written));
     case 1: return CALL(nody_recoder_feed_lossy(recoder, in, len, out, room, &it->read, &it->written));
+    case 2: return CALL(nody_recoder_feed_repair(recoder, in, len, out, room, by.repair, by.table, by.len, &it->read, &it->written));
     default: return CALL(nody_recoder_feed_strict(recoder, in, len, out, room, &it->read, &it->written, &it->fault));
     }
 }
 
 static nody_status_t finish(nody_recoder_t *recoder, uint8_t *out, size_t room, told *it) {
+    repair by = any_repair();
     it->read = 0;
-    switch (below(3)) {
+    switch (below(4)) {
     case 0: return CALL(nody_recoder_finish(recoder, out, room, &it->written));
     case 1: return CALL(nody_recoder_finish_lossy(recoder, out, room, &it->written));
+    case 2: return CALL(nody_recoder_finish_repair(recoder, out, room, by.repair, by.table, by.len, &it->written));
     default: return CALL(nody_recoder_finish_strict(recoder, out, room, &it->written, &it->fault));
     }
 }
@@ -331,6 +371,45 @@ static void decode_parts(const asked *ask, int is_any) {
     }
 }
 
+static void advance_position(const asked *ask, int is_any) {
+    nody_position_t *position = (nody_position_t *)(void *)(structs.end - sizeof *position);
+    *position = nody_position();
+    if (is_any) fill_any(position, sizeof *position);
+    for (size_t calls = 0, at = 0; calls < 6; calls++) {
+        size_t len = below(2) ? below((uint32_t)(ask->len - at) + 1) : at < ask->len;
+        nody_encoding_t encoding = below(9) ? ask->from : ask->none;
+        int is_one = encoding < 3 && position->count < 4;
+        nody_position_t before;
+        memcpy(&before, position, sizeof before);
+        const uint8_t *part = part_of(ask, at, len);
+        HOLDS((CALL(nody_position_advance(position, encoding, part, len)) == NODY_STATUS_DONE) == is_one);
+        HOLDS(is_one ? position->count < 4 : memcmp(position, &before, sizeof before) == 0);
+        at += is_one ? len : 0;
+    }
+}
+
+/* The two last bytes of a surveyor that are not padding count the first and the last bytes that it keeps. */
+static void feed_surveyor(const asked *ask, int is_any) {
+    nody_surveyor_t *surveyor = (nody_surveyor_t *)(void *)(structs.end - sizeof *surveyor);
+    const uint8_t *counts = (const uint8_t *)surveyor + 172;
+    *surveyor = nody_surveyor();
+    if (is_any) fill_any(surveyor, sizeof *surveyor);
+    for (size_t calls = 0, at = 0; calls < 6; calls++) {
+        size_t len = below(2) ? below((uint32_t)(ask->len - at) + 1) : at < ask->len;
+        int is_one = counts[0] <= 4 && 3 <= counts[1] && counts[1] <= 16;
+        nody_surveyor_t before;
+        nody_survey_t survey;
+        memcpy(&before, surveyor, sizeof before);
+        const uint8_t *part = part_of(ask, at, len);
+        HOLDS((CALL(nody_surveyor_feed(surveyor, part, len)) == NODY_STATUS_DONE) == is_one);
+        HOLDS(is_one || memcmp(surveyor, &before, sizeof before) == 0);
+        HOLDS((CALL(nody_surveyor_survey(surveyor, &survey)) == NODY_STATUS_DONE) == is_one);
+        HOLDS(nody_guess(&survey) <= NODY_GUESS_BINARY && (is_one || survey.len == 0));
+        at += is_one ? len : 0;
+        HOLDS(is_any || survey.len == at);
+    }
+}
+
 static void fences(unsigned long count) {
     static uint8_t copy[MOST_LEN];
     while (count-- > 0) {
@@ -343,10 +422,13 @@ static void fences(unsigned long count) {
         encode();
         name((nody_kind_t)below(256));
         recode(&ask);
+        recode_by_recoder(&ask);
         recode_units(&ask);
         for (int is_any = 0; is_any < 2; is_any++) {
             recode_parts(&ask, is_any);
             decode_parts(&ask, is_any);
+            advance_position(&ask, is_any);
+            feed_surveyor(&ask, is_any);
         }
         call = "all calls";
         HOLDS(memcmp(copy, ask.in, ask.len) == 0);
@@ -397,6 +479,7 @@ int main(int argc, char **argv) {
     parts = make_fence();
     outputs = make_fence();
     structs = make_fence();
+    tables = make_fence();
     fences(count);
     if (argc < 3) signals();
     return tell();

@@ -40,6 +40,8 @@ static_assert(noexcept(++std::declval<nody::decoder &>().feed(""sv).begin()) && 
 using parted = decltype(std::declval<nody::decoder &>().feed(""sv));
 static_assert(!std::is_copy_constructible_v<parted> && !std::is_copy_assignable_v<parted>);
 static_assert(std::is_nothrow_move_constructible_v<parted> && std::is_nothrow_move_assignable_v<parted>);
+static_assert(noexcept(nody::guess_of(""sv)) && noexcept(nody::guesses_of(""sv)) && noexcept(nody::surveyor()) && noexcept(std::declval<nody::surveyor &>().feed(""sv)));
+static_assert(noexcept(nody::position(nody::encoding::utf8)) && noexcept(std::declval<nody::position &>().advance(""sv)));
 static_assert(noexcept(nody::first(""sv)) && noexcept(nody::last(u""sv)) && std::is_same_v<decltype(nody::first(""sv)), std::optional<nody::piece>>);
 
 // What nody::bytes is made of, and what not.
@@ -227,7 +229,7 @@ template <class Text> static void try_text(const Text &text, const char *what) {
     nody::recoder recoder(encoding::utf8, encoding::utf8);
     nody::located room[4];
     std::uint8_t bytes[16];
-    std::string out, lossy, strict, stopped;
+    std::string out, lossy, repaired, strict, stopped;
     auto part = decoder.feed(text);
     auto faults = decoder.feed_faults(text);
     bool holds = count(nody::pieces(text)) == 3 && count(nody::pieces_back(text)) == 3 && count(nody::faults(text)) == 1 && count(part) == 3 && count(faults) == 1;
@@ -239,7 +241,9 @@ template <class Text> static void try_text(const Text &text, const char *what) {
     holds = holds && nody::recode(encoding::utf8, encoding::utf8, text) == "h\xC3\xA9\xEF\xBF\xBD" && nody::to_utf16(text) == u"h\u00E9\uFFFD" && nody::recode_strict(encoding::utf8, encoding::utf8, text, stopped)->offset == 3;
     recoder.feed(text, out);
     recoder.feed_lossy(text, lossy);
-    holds = holds && out == "h\xC3\xA9\xEF\xBF\xBD" && lossy == out && recoder.feed_strict(text, strict)->offset == 11 && strict == "h\xC3\xA9";
+    recoder.feed_repair(text, repaired, nody::repair::latin_1);
+    holds = holds && out == "h\xC3\xA9\xEF\xBF\xBD" && lossy == out && repaired == "h\xC3\xA9\xC3\xBF" && recoder.feed_strict(text, strict)->offset == 15 && strict == "h\xC3\xA9";
+    holds = holds && nody::recode_lossy(encoding::utf8, encoding::utf8, text) == lossy && nody::recode_repair(encoding::utf8, encoding::utf8, text, nody::repair::drop) == "h\xC3\xA9";
     holds = holds && recoder.feed_into(text, bytes, sizeof bytes).written == 6 && decoder.feed_into(text, room, 4).written == 3 && decoder.feed_faults_into(text, room, 4).written == 1;
     expect(holds, what);
 }
@@ -332,6 +336,39 @@ static void try_undecided() {
     expect(nody::undecided_len(static_cast<encoding>(3), "a") == SIZE_MAX, "an encoding that there is none of");
 }
 
+// (the encodings of these texts are those of the codecs of Python that made them)
+static void try_guesses() {
+    expect(nody::guess_of("caf\xE9"sv) == nody::guess::windows1252 && nody::guess_of("caf\xC3\xA9"sv) == nody::guess::utf8, "guesses of one byte and of a character");
+    expect(nody::guess_of("h\0\xE9\0"sv) == nody::guess::utf16le && nody::guess_of(std::string()) == nody::guess::ascii, "guesses of units and of nothing");
+    expect(nody::guess_of("\xF4\xC5\xCB\xD3\xD4"sv) == nody::guess::other_8bit, "a guess of KOI8-R");
+    expect(nody::text_of(nody::guess::binary) == "not text" && nody::text_of(static_cast<nody::guess>(99)) == "?", "texts of guesses");
+    const nody::guesses told = nody::guesses_of("\xF4\xC5\xCB\xD3\xD4"sv);
+    expect(std::vector<nody::guess>(told.begin(), told.end()) == std::vector<nody::guess>{nody::guess::other_8bit, nody::guess::windows1252} && told[1] == nody::guess::windows1252, "guesses");
+    nody::surveyor surveyor, other;
+    surveyor.feed("caf\xC3"sv);
+    other = surveyor;
+    other.feed(std::vector<unsigned char>{0xA9});
+    expect(nody::guess_of(other.survey()) == nody::guess::utf8 && nody::guess_of(surveyor.survey()) == nody::guess::windows1252, "a copy of a surveyor goes on from there");
+    expect(other.survey().len == 5 && surveyor.survey().utf8.faults == 1 && nody::guesses_of(other.survey()).size() == 1, "surveys");
+}
+
+static void try_positions() {
+    using nody::encoding;
+    nody::position at(encoding::utf8), none(static_cast<encoding>(3));
+    at.advance("a\nb\xC3");
+    nody::position other = at;
+    expect(at.line() == 2 && at.column() == 3 && at.byte_column() == 3, "a position within a character");
+    at.advance("\xA9" "c");
+    other.advance("c"sv);
+    expect(at.line() == 2 && at.column() == 4 && at.byte_column() == 5, "a character in two parts");
+    expect(other.line() == 2 && other.column() == 4 && other.byte_column() == 4, "a copy of a position continues from there");
+    none.advance("a\n");
+    expect(none.line() == 1 && none.column() == 1 && none.byte_column() == 1, "a position in no encoding");
+    nody::position units(encoding::utf16be);
+    units.advance("\0\n\xD8\x3D\xDE\0\0"s);
+    expect(units.line() == 2 && units.column() == 3 && units.byte_column() == 6, "a position in UTF-16");
+}
+
 static void try_recode() {
     using nody::encoding;
     expect(nody::recode(encoding::utf8, encoding::utf16be, "h\xC3\xA9\xFF") == "\0h\0\xE9\xFF\xFD"s, "recode");
@@ -372,6 +409,56 @@ static void try_recoder() {
     one.feed_lossy("A\xF0\x9F", lossy);
     one.finish_lossy(lossy);
     expect(lossy == "\xEF\xBF\xBD" "A\xEF\xBF\xBD", "maximal subparts");
+}
+
+// Windows-1252 by Python's cp1252, ISO-8859-1, and tables of each type that gives one.
+static void try_repairs() {
+    using nody::encoding;
+    using nody::repair;
+    const char mixed[] = "\x80\x81 caf\xE9 na\xC3\xAFve\xF0\x9F";
+    auto fixed = [&](const repair &by) { return nody::recode_repair(encoding::utf8, encoding::utf8, mixed, by); };
+    expect(fixed(repair::drop) == " caf na\xC3\xAFve", "invalid bytes that are dropped");
+    expect(fixed(repair::windows_1252) == "\xE2\x82\xAC\xC2\x81 caf\xC3\xA9 na\xC3\xAFve\xC3\xB0\xC5\xB8", "Windows-1252");
+    expect(fixed(repair::latin_1) == "\xC2\x80\xC2\x81 caf\xC3\xA9 na\xC3\xAFve\xC3\xB0\xC2\x9F", "ISO-8859-1");
+    std::array<char32_t, 2> two = {U'<', U'>'};
+    const std::vector<std::optional<char32_t>> some = {std::nullopt, U'\uFFFF'};
+    expect(fixed(*repair::from(two)) == "<> caf na\xC3\xAFve", "the table of an array");
+    expect(fixed(repair::from(some).value()) == "\xEF\xBF\xBF caf na\xC3\xAFve", "the table of a vector");
+    expect(fixed(*repair::from(std::vector<char32_t>{})) == fixed(repair::drop), "an empty table");
+#if __cplusplus >= 202002L
+    expect(fixed(*repair::from(std::span<const char32_t>(two))) == "<> caf na\xC3\xAFve", "the table of a span");
+#endif
+    unsigned calls = 0;
+    auto counted = [&calls](std::uint8_t byte) {
+        expect(byte == 0x80 + calls++, "the byte that a table is asked for");
+        return static_cast<char32_t>(byte == 0xE9 ? U'e' : U'?');
+    };
+    auto asked = repair::from(counted);
+    expect(calls == 128 && asked && fixed(*asked) == "?? cafe na\xC3\xAFve??" && calls == 128, "the table of a function");
+    expect(fixed(*repair::from([](std::uint8_t) { return std::optional<char32_t>(); })) == fixed(repair::drop), "a function that has no character");
+    expect(nody::recode_repair(encoding::utf16le, encoding::utf8, "\0\xDC!"s, *repair::from([](std::uint8_t) { return std::optional<char32_t>(); })).empty(), "UTF-16 by it");
+    expect(nody::recode_repair(encoding::utf16le, encoding::utf8, "\0\xDC!"s, repair::latin_1) == "\xEF\xBF\xBD\xEF\xBF\xBD", "UTF-16 by a table");
+    for (char32_t wrong : {char32_t{0xD800}, char32_t{0xDFFF}, char32_t{0x10000}, char32_t{0x1F600}, char32_t{0xFFFFFFFF}}) {
+        two[1] = wrong;
+        expect(!repair::from(two) && !repair::from([&](std::uint8_t) { return wrong; }), "what is no character up to U+FFFF");
+    }
+    expect(!repair::from(std::vector<char32_t>(129, U'a')) && repair::from(std::vector<char32_t>(128, U'a')), "a table that is too long");
+#ifdef __cpp_exceptions
+    bool came = false;
+    try {
+        (void)repair::from([](std::uint8_t byte) -> char32_t { return byte < 0x90 ? U'a' : throw std::runtime_error("of the caller"); });
+    } catch (const std::runtime_error &it) {
+        came = it.what() == "of the caller"s;
+    }
+    expect(came, "what a function throws");
+#endif
+    nody::recoder parts(encoding::utf8, encoding::utf16be);
+    std::string out;
+    for (char byte : std::string_view(mixed)) parts.feed_repair(std::string_view(&byte, 1), out, repair::windows_1252);
+    expect(parts.held() == 2 && parts.replaced() == 3, "the end is held");
+    parts.finish_repair(out, repair::windows_1252);
+    expect(out == nody::recode_repair(encoding::utf8, encoding::utf16be, mixed, repair::windows_1252) && parts.replaced() == 5 && parts.held() == 0, "byte by byte");
+    static_assert(repair::windows_1252.number() == NODY_REPAIR_WINDOWS_1252 && repair::drop.table_len() == 0, "the named ones are constants");
 }
 
 static void try_strict_recoder() {
@@ -811,8 +898,11 @@ int main() {
     try_faults();
     try_marks();
     try_undecided();
+    try_guesses();
+    try_positions();
     try_recode();
     try_recoder();
+    try_repairs();
     try_strict_recoder();
     try_decoder();
     try_decoder_of_units();

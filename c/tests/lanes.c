@@ -40,6 +40,7 @@ static void ask(const char *when, int lanes) {
     nody_recoder_t recoder = nody_recoder(UTF8, UTF16BE);
     nody_fault_t fault;
     nody_decoder_t decoder = nody_decoder(UTF16BE);
+    nody_position_t position = nody_position();
     nody_bytes_t bytes = nody_bytes(utf8, BYTES + 2);
     nody_units_t units = nody_units(utf16, CHARS + 1);
     nody_located_t faults[3];
@@ -62,6 +63,14 @@ static void ask(const char *when, int lanes) {
     expect(nody_utf16_faults(&units, &unit_offset, faults, 3) == 1 && faults[0].offset == CHARS, "nody_utf16_faults", when);
     expect(nody_decoder_feed_faults(&decoder, utf16be, BYTES + 2, faults, 3, &taken, &written) == NODY_STATUS_DONE && taken == BYTES + 2 &&
                written == 1 && faults[0].offset == BYTES, "nody_decoder_feed_faults", when);
+    expect(nody_position_advance(&position, UTF16BE, utf16be, BYTES + 2) == NODY_STATUS_DONE && position.line == 1 &&
+               position.column == CHARS + 2 && position.byte_column == BYTES + 3, "nody_position_advance", when);
+    nody_surveyor_t surveyor = nody_surveyor();
+    nody_survey_t survey;
+    nody_survey(utf8, BYTES + 2, &survey);
+    expect(survey.len == BYTES + 2 && survey.utf8.faults == 2, "nody_survey", when);
+    expect(nody_surveyor_feed(&surveyor, utf8, BYTES + 2) == NODY_STATUS_DONE && nody_surveyor_survey(&surveyor, &survey) == NODY_STATUS_DONE &&
+               survey.utf8.faults == 2, "nody_surveyor_feed", when);
     taken = BYTES;
     written = 0;
     expect(nody_recoded_len(UTF8, UTF16BE, utf8, BYTES) == BYTES, "nody_recoded_len", when);
@@ -69,6 +78,7 @@ static void ask(const char *when, int lanes) {
     expect(recodes(nody_recode_strict(UTF8, UTF16BE, utf8, BYTES, out, sizeof out, &taken, &written, &fault)), "nody_recode_strict", when);
     expect(recodes(nody_recoder_feed(&recoder, utf8, BYTES, out, sizeof out, &taken, &written)), "nody_recoder_feed", when);
     expect(recodes(nody_recoder_feed_lossy(&recoder, utf8, BYTES, out, sizeof out, &taken, &written)), "nody_recoder_feed_lossy", when);
+    expect(recodes(nody_recoder_feed_repair(&recoder, utf8, BYTES, out, sizeof out, NODY_REPAIR_LATIN_1, NULL, 0, &taken, &written)), "nody_recoder_feed_repair", when);
     expect(recodes(nody_recoder_feed_strict(&recoder, utf8, BYTES, out, sizeof out, &taken, &written, &fault)), "nody_recoder_feed_strict", when);
 }
 

@@ -132,9 +132,19 @@ def places_of(pieces):
     return places
 
 
+# What becomes of an invalid byte of UTF-8, for each word of --errors with a table, and what is said of it.
+TABLES = {
+    "drop": (lambda byte: "", "dropped"),
+    "windows-1252": (lambda byte: chr(byte) if byte in (0x81, 0x8D, 0x8F, 0x90, 0x9D) else bytes([byte]).decode("cp1252"), "read as Windows-1252"),
+    "latin1": (chr, "read as ISO-8859-1"),
+}
+
+
 def recoded(data, form, to, errors):
     """What recode writes, and where it stops."""
     pieces, name = pieces_of(data, form), to.replace("utf-16", "utf-16-")
+    if errors in TABLES and (form == "utf-8" or errors == "drop"):
+        return "".join(TABLES[errors][0](data[it[0]]) if is_error(it) else it[2] for it in pieces).encode(name)
     if errors == "lossy":
         return data.decode(form.replace("utf-16", "utf-16-"), "replace").encode(name)
     if errors == "strict":
@@ -237,6 +247,10 @@ def try_recode(program, given, shown, piped, data, form, reasons, words, chance)
     got = run([*asked, given], piped)
     expect(got == (0, recoded(data, form, to, "replace"), count), f"recode {form} {to} of {data!r}: {got}")
     says([*asked, "--errors", "lossy", given], 0, recoded(data, form, to, "lossy"), b"", piped)
+    errors = chance.choice([*TABLES])
+    told_of = count.replace(b"became U+FFFD", TABLES[errors][1].encode()) if form == "utf-8" or errors == "drop" else count
+    got = run([*asked, "--errors", errors, given], piped)
+    expect(got == (0, recoded(data, form, to, errors), told_of), f"recode {form} {to} --errors {errors} of {data!r}: {got}")
     got = run([*asked, "--errors", "strict", given], piped)
     first = told.splitlines(True)[0] if wrong else b""
     expect(got == (status, recoded(data, form, to, "strict"), first), f"recode strictly {form} {to} of {data!r}: {got}")
@@ -274,7 +288,7 @@ def check_large(folder, program, reasons):
         for jobs in ([], ["--jobs", "1"], ["--jobs", "7"]):
             says([program, *ALL, "--from", form, *jobs, name], status, want, b"")
             says([program, "count", "--from", form, *jobs, name], *wanted_count(name, data, form, reasons), b"")
-            for errors in ("replace", "lossy"):
+            for errors in ("replace", "lossy", *TABLES):
                 says([program, "recode", "--from", form, "--to", "utf-16be", "--errors", errors, "--quiet", *jobs, name], 0, recoded(data, form, "utf-16be", errors), b"")
         says([program, *ALL, "--from", form, "-"], status, want.replace(name.encode(), b"-"), b"", data)
         for offset in (0, 100, len(data) // 2, len(data) - 1):
@@ -291,8 +305,8 @@ def check_options(folder, program, reasons):
     lines = wanted_check(name, data, "utf-8", reasons)[1].splitlines(True)
     says([program, "check", "--quiet", name], 1, b"", b"")
     says([program, "check", "-q", "-"], 0, b"", b"", b"text")
-    says([program, "check", "--max", "2", name], 1, b"".join(lines[:2]) + f"{name}: 1 more invalid byte (--max 0 shows all)\n".encode(), b"")
-    says([program, "check", name, "--max=0x1", name], 1, 2 * (lines[0] + f"{name}: 2 more invalid bytes (--max 0 shows all)\n".encode()), b"")
+    says([program, "check", "--max", "2", name], 1, b"".join(lines[:2]) + f"{name}: 1 more invalid byte (--max 0 shows all)\n".encode(), b"looks like Windows-1252")
+    says([program, "check", name, "--max=0x1", name], 1, 2 * (lines[0] + f"{name}: 2 more invalid bytes (--max 0 shows all)\n".encode()), b"looks like Windows-1252")
     told = [json.loads(it) for it in run([program, "check", "--json", name])[1].splitlines()]
     expect([(it["line"], it["column"], it["offset"], it["length"], it["kind"]) for it in told[:-1]] == [(i + 1, 1, 2 * i, 1, "NonUtf8Byte") for i in range(3)], f"{told}")
     expect(told[-1] == {"file": name, "encoding": "UTF-8", "valid": False, "binary": False, "invalid": 3, "complete": True}, f"{told[-1]}")
@@ -335,7 +349,7 @@ def check_origin(folder, program, reasons):
                         (["recode", "-q", "--to", "utf-16le"], (0, recoded(data[13:], "utf-8", "utf-16le", "replace")))):
         with open(name, "rb", buffering=0) as file:
             file.read(13)
-            says([program, *words], *want, b"", stdin=file)
+            says([program, *words], *want, b"-: looks like UTF-8 with bytes of an 8-bit encoding" if words is ALL else b"", stdin=file)
 
 
 def check_marks(program):
@@ -380,6 +394,11 @@ def check_words(program, name):
         says([program, command, name, "--version"], 0, version, b"")
     expect(contents(name) == had, "a file that is named beside --version")
     expect(run([program, "--help"])[1].count(b"\n  nody ") == 7 and run([program, "at", "--help"])[1].count(b"usage: nody ") == 1, "--help")
+    page = contents(f"{os.path.dirname(C)}/packaging/man/nody.1").decode().split(".SH DESCRIPTION")[0].replace("\\-", "-")
+    page = re.sub(r"^\.\w+|\\~|\s", "", page, flags=re.M)
+    for command in ("check", "fix", "view", "list", "count", "at", "recode"):
+        usage = re.sub(r"\s", "", run([program, command, "--help"])[1].decode().split("\n" if command != "recode" else "convert")[0].removeprefix("usage: "))
+        expect(usage in page, f"the synopsis of the man page has no {usage}")
 
 
 # ---- What fails
@@ -494,6 +513,7 @@ def check_replaced(folder, program):
     expect(contents(name) == recoded(data, "utf-8", "utf-8", "replace"), "in place, after files that cannot be")
     expect(sorted(os.listdir(place)) == ["link", "new", "out", "text"], f"what is left: {os.listdir(place)}")
     check_owners(place, program)
+    check_lists(place, program)
     check_descriptors(place, program)
     check_limits(place, program)
 
@@ -528,6 +548,42 @@ def check_owners(place, program):
     os.chown(name, 0, 0)
     says([program, "recode", name, "-o", name], 3, b"", f"nody: {name}: Permission denied\n".encode(), user=65534)
     expect(contents(name) == b"text\xef\xbf\xbd" and os.listdir(shared) == ["text"], "-o on a file that may not be written")
+    shutil.rmtree(shared)
+
+
+def list_of(named, group, other):
+    """An access control list, as Linux keeps it: what user 1234, the group and others may; its mask allows reading and writing."""
+    entries = [(1, 6, -1), (2, named, 1234), (4, group, -1), (0x10, 6, -1), (0x20, other, -1)]
+    return struct.pack("<I", 2) + b"".join(struct.pack("<HHi", *it) for it in entries)
+
+
+def check_lists(place, program):
+    """Access control lists: a file that is replaced keeps its own, or none; a new one gets that of its folder."""
+    shared, name, new = f"{place}/lists", f"{place}/lists/text", f"{place}/lists/new"
+    of_file, of_folder = "system.posix_acl_access", "system.posix_acl_default"
+    os.mkdir(shared)
+    try:
+        os.setxattr(shared, of_folder, list_of(4, 0, 0))
+    except OSError:
+        print("nody.py: left out: access control lists, which this file system has not")
+        return
+    for has_list in (True, False):
+        put_file(name, b"text\xff")
+        os.setxattr(name, of_file, list_of(6, 0, 0))
+        if not has_list:
+            os.removexattr(name, of_file)
+            os.chmod(name, 0o640)
+        had = os.listxattr(name), os.stat(name).st_mode
+        for words in (["recode", "-q", "--in-place"], ["fix", "-q", "--backup", "~"]):
+            with open(name, "r+b") as file:
+                file.truncate(file.write(b"more\xff"))
+            says([program, *words, name], 0, b"", b"")
+            expect((os.listxattr(name), os.stat(name).st_mode) == had and contents(name) == b"more\xef\xbf\xbd", f"{words} of a file with a list: {os.listxattr(name)} {oct(os.stat(name).st_mode)}")
+            expect(not has_list or os.getxattr(name, of_file) == list_of(6, 0, 0), f"the list of a file that is replaced by {words}")
+        os.remove(f"{name}~")
+    with open(f"{shared}/made", "wb"):
+        says([program, "recode", "-o", new, name], 0, b"", b"")
+    expect(os.stat(new).st_mode == os.stat(f"{shared}/made").st_mode and os.getxattr(new, of_file) == os.getxattr(f"{shared}/made", of_file), "the list of a new file")
     shutil.rmtree(shared)
 
 
@@ -1142,7 +1198,8 @@ def check_completion():
         return
     script = '. "$0"; COMP_WORDS=("$@") COMP_CWORD=$(($# - 1)); _nody; echo "${COMPREPLY[*]}"'
     for words, want in (("nody c", "check count"), ("nody check nody ", ""), ("nody check nody -", OFFERED["check"]),
-                        ("nody recode --errors l", "lossy"), ("nody check --from = utf-16l", "utf-16le"), ("nody check --from =", "utf-8 utf-16le utf-16be auto bom"), ("nody check --encoding a", "auto"), ("nody check --columns d", "display"),
+                        ("nody recode --errors l", "lossy latin1"), ("nody recode --errors s", "strict"), ("nody fix --errors ", OFFERED_ERRORS["fix"]),
+                        ("nody check --from = utf-16l", "utf-16le"), ("nody check --from =", "utf-8 utf-16le utf-16be auto bom"), ("nody check --encoding a", "auto"), ("nody check --columns d", "display"),
                         ("nody at --from b", "bom"), ("nody check -- -", ""), ("nody recode -o ", ""), ("nody --v", "--version"), ("nody recode --to ", "utf-8 utf-16le utf-16be")):
         got = run(["bash", "-c", script, f"{os.path.dirname(C)}/packaging/completions/nody", *words.split(" ")])
         expect(got == (0, f"{want}\n".encode(), b""), f"completion of {words!r}: {got}, not {want}")
@@ -1155,6 +1212,7 @@ OFFERED = {"check": "--encoding --names --null --recursive --files0-from --exclu
            "count": "--encoding --quiet --json --jobs --help",
            "at": "--encoding --columns --json --help",
            "recode": "--encoding --to --errors --bom --output --in-place --quiet --jobs --help"}
+OFFERED_ERRORS = {"fix": "replace lossy drop windows-1252 latin1", "recode": "replace lossy drop windows-1252 latin1 strict"}
 
 
 def check_completion_of_zsh():
@@ -1168,6 +1226,9 @@ def check_completion_of_zsh():
         status, out, err = run(["zsh", "-f", "-c", script, path, "nody", "nody", command, ""])
         offered = set(re.findall(rb"^(?:\([^)]*\)|\*)?(--[a-z0-9-]+)", out, re.M))
         expect(status == 0 and not err and offered == set(want.encode().split()), f"completion of zsh for {command}: {status}, {out}, {err}")
+        ways = OFFERED_ERRORS.get(command, "").split()
+        line = next((it for it in out.decode().splitlines() if it.startswith("--errors")), "")
+        expect(re.findall(r"([\w-]+)\\:[\"']", line) == ways, f"completion of zsh for {command} --errors: {line}")
     for words, want in (("nody nody", ["check:", "fix:", "view:", "list:", "count:", "at:", "recode:", "(-)--version"]), ("nody-pieces nody-pieces", ["(--ends)--merge", "(--merge)--ends"]), ("nody-recode nody-recode", ["utf16be"])):
         status, out, err = run(["zsh", "-f", "-c", script, path, *words.split(), ""])
         expect(status == 0 and not err and all(it.encode() in out for it in want), f"completion of zsh for {words}: {status}, {out}, {err}")
@@ -1179,7 +1240,7 @@ def check_completion_of_fish():
         print("nody.py: left out: fish is not there")
         return
     folder = f"{os.path.dirname(C)}/packaging/completions"
-    asked = [("nody c", "check count"), ("nody check nody --q", "--quiet"), ("nody recode --errors l", "lossy"), ("nody check --encoding=utf-16l", "--encoding=utf-16le"), ("nody at --encoding a", "auto"),
+    asked = [("nody c", "check count"), ("nody check nody --q", "--quiet"), ("nody recode --errors l", "latin1 lossy"), ("nody fix --errors w", "windows-1252"), ("nody check --encoding=utf-16l", "--encoding=utf-16le"), ("nody at --encoding a", "auto"),
              ("nody --v", "--version"), ("nody list --m", ""), ("nody recode --t", "--to"), ("nody-pieces --m", "--merge"), ("nody-recode utf16", "utf16be utf16le")]
     script = f"for it in {folder}/*.fish; source $it; end; for it in $argv; complete -C $it | string replace -r '\\t.*' '' | sort | string join ' '; echo; end"
     status, out, err = run(["fish", "--no-config", "-c", script, *[words for words, _ in asked]])

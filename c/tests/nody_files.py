@@ -80,6 +80,14 @@ def check_folders(folder, program):
     says([program, "check", "-r", "--exclude", "*.txt", "--exclude", "sub", top], 1, None, b"")
     says([program, "check", "-rl", "--exclude", "*.txt", "--exclude", "sub", top], 1, f"{top}/wrong\n".encode(), b"")
     says([program, "check", "-rl", "--exclude", "tree", top], 0, b"", b"")
+    put_file(f"{top}/.hidden", b"\xff\n")
+    for words, named in (([], "./"), (["."], "./"), (["../tree"], "../tree/"), ([top], f"{top}/")):
+        want = "".join(f"{named}{it}\n" for it in ("sub/a\nb\033[31m", "sub/wrong.txt", "wrong"))
+        says([program, "check", "-rl", "--exclude", ".*", "--exclude", "*.bin", *words], 1, want.encode(), b"", cwd=top)
+    says([program, "check", "-rl", "--exclude", "./.*", "--exclude", "./sub"], 1, b"./wrong\n", b"", cwd=top)
+    os.remove(f"{top}/.hidden")
+    for words in ([], ["-"]):
+        says([program, "check", "--exclude", "*", *words], 1, None, b"", b"\xff")
     names = run([program, "check", "-rl0", top])[1].split(b"\0")
     want = [f"{top}/sub/a\nb\033[31m", f"{top}/sub/deeper/image.bin", f"{top}/sub/wrong.txt", f"{top}/wrong", ""]
     expect(names == [it.encode() for it in want], f"check -rl0: {names}")
@@ -207,7 +215,7 @@ def check_shown(folder, program):
     for mark, form in ((b"\xff\xfe", "UTF-16LE"), (b"\xfe\xff", "UTF-16BE")):
         put_file(name, mark + "h\u00e9\n".encode(form))
         got = run([program, "check", name])
-        expect(got[0] == 1 and got[1].endswith(f"{name}: begins with the mark of {form}: try --encoding auto\n".encode()), f"a hint: {got}")
+        expect(got[0] == 1 and got[2] == f"nody: {name}: begins with the mark of {form}: try --encoding auto\n".encode(), f"a hint: {got}")
         says([program, "check", "-v", "--encoding", "auto", name], 0, f"{name}: valid {form}\n".encode(), b"")
     check_columns(folder, program)
     check_context(folder, program)
@@ -231,6 +239,10 @@ def check_columns(folder, program):
                     if size <= 400:
                         lines = [json.loads(x) for x in run([program, "at", "--json", "--columns", unit, name, f"{it['line']}:{it['column']}"])[1].splitlines()]
                         expect([(x["file"], x["offset"]) for x in lines if x["covers"]] == [(name, it["offset"])], f"at {it['line']}:{it['column']} in {unit}: {lines}")
+    put_file(name, b"a\tb\t\xff\n")
+    for column, offset in ((1, 0), (2, 1), (8, 1), (9, 2), (10, 3), (16, 3), (17, 4), (18, 5)):
+        told = run([program, "at", "--columns", "display", name, f"1:{column}"])[1]
+        expect(f"\n> {offset} ".encode() in b"\n" + told, f"at a column after a tab in the first line: 1:{column}: {told}")
 
 
 def cells(line, are_wide):
@@ -421,6 +433,8 @@ def check_fix(folder, program):
     expect(contents(name) == SAMPLE and contents(f"{name}~") == SAMPLE and len(os.listdir(place)) == 3, "a backup that is there stays, and so does the file")
     says([program, "fix", "--errors", "lossy", "-q", name], 0, b"", b"")
     expect(contents(name) == SAMPLE.decode("utf-8", "replace").encode(), "fix --errors lossy")
+    try_fix_tables(program, place, name)
+    try_long_lines(program, name)
     marked = b"\xff\xfe" + "h\u00e9".encode("utf-16-le")
     put_file(name, marked + b"\x00\xd8")
     says([program, "fix", "-q", "--encoding", "auto", name], 0, b"", b"")
@@ -442,6 +456,34 @@ def check_fix(folder, program):
     put_file(name, SAMPLE * 1000)
     says([program, "fix", "--backup", ".old", name], 3, b"", b"File too large", preexec_fn=limited)
     expect(contents(name) == SAMPLE * 1000 and not [it for it in os.listdir(place) if ".old" in it or it.startswith(".nody")], f"a full disk: {os.listdir(place)}")
+
+
+def try_fix_tables(program, place, name):
+    """Each byte of each table, in place; and then nothing is left to fix."""
+    data = b"".join(b"%c %c\n" % (byte, byte) for byte in range(0x80, 0x100)) + "\u00e9\u20ac\U0001f600".encode() + b"\xf0\x9f\x98"
+    for errors, (_, said) in nody.TABLES.items():
+        want = nody.recoded(data, "utf-8", "utf-8", errors)
+        put_file(name, data)
+        status, diff, _ = run([program, "fix", "--dry-run", "--errors", errors, name])
+        expect(status == 1 and contents(name) == data and diff.count(b"\n@@ ") == 129, f"fix --dry-run --errors {errors}: {diff}")
+        says([program, "fix", "--errors", errors, "--backup", f".{errors}", name], 0, b"", f"nody: {name}: 259 invalid bytes {said}\n".encode())
+        expect(contents(name) == want and contents(f"{name}.{errors}") == data, f"fix --errors {errors}: {contents(name)}")
+        had = os.stat(name)
+        says([program, "fix", "--errors", errors, "--backup", f".{errors}", name], 0, b"", b"")
+        now = os.stat(name)
+        expect((had.st_ino, had.st_mtime_ns, had.st_ctime_ns) == (now.st_ino, now.st_mtime_ns, now.st_ctime_ns), f"a file that was fixed by {errors} is valid")
+        os.remove(f"{name}.{errors}")
+
+
+def try_long_lines(program, name):
+    """Of a long line --dry-run shows a part, which begins and ends between characters."""
+    for front, back in ((b"", "\u00e9" * 5000), (b"a" * 9001, "\u20ac" * 5000), (b"\xff" * 9000, "")):
+        put_file(name, front + b"\xff" + back.encode() + b"\n")
+        status, diff, _ = run([program, "fix", "--dry-run", name])
+        old, new = diff.decode().splitlines()[3:]
+        count = old.count("\\x")
+        expect(status == 1 and count == old.count("\\xFF") and "\\x" not in new and count == new.count("\ufffd"), f"a long line: {old[-40:]}, {new[-40:]}")
+        expect(old[-1] == new[-1] == "\u2026" and old[1:].replace("\\xFF", "\ufffd") == new[1:], f"the end of a long line: {old[-40:]}, {new[-40:]}")
 
 
 def check_fix_moments(folder, program, compiler, build):
@@ -477,6 +519,11 @@ def check_marks(program):
             says([program, "recode", "--bom", "--to", to], 0, want, b"", text.encode())
             says([program, "recode", "--bom", "--to", to], 0, want, b"", ("\ufeff" + text).encode())
             says([program, "recode", "--bom", "--to", to, "--encoding", "auto"], 0, want, b"", b"\xff\xfe" + text.encode("utf-16-le"))
+            for dropped in range(1, 9):
+                said = f"nody: -: {dropped} invalid byte{'s' * (dropped > 1)} dropped\n".encode()
+                says([program, "recode", "--bom", "--to", to, "--errors", "drop"], 0, want, said, b"\x80" * dropped + ("\ufeff" + text).encode())
+                says([program, "recode", "--bom", "--to", to, "--errors", "drop"], 0, want, said, b"\x80" * dropped + text.encode())
+            says([program, "recode", "--bom", "--to", to, "--encoding", "auto"], 0, want, b"", ("\ufeff\ufeff" + text).encode())
 
 
 def main():

@@ -98,7 +98,7 @@ def check_texts(pair):
         for words in (["check", "--max", "0"], ["check", "--json", "-a"], ["count"], ["count", "--json"], ["recode", "--to", "utf-16le", "--bom"]):
             pair.same([*words, *given], text)
         for words in (["check", "--columns", "display", "-a", "--max", "0"], ["check", "--columns", "bytes", "-v"], ["check", "--context", "--color", "always", "-a"],
-                      ["list"], ["list", "--json"], ["at", "-", "20"], ["at", "--json", "-", "2:3"], ["recode", "--errors", "lossy"], ["recode", "--errors", "strict"],
+                      ["list"], ["list", "--json"], ["at", "-", "20"], ["at", "--json", "-", "2:3"], ["recode", "--errors", "lossy"], ["recode", "--errors", "strict"], ["recode", "--errors", "windows-1252"], ["recode", "--errors", "drop"],
                       ["recode", "--to", "utf-16be", "-o", "-", "-q"], ["check", "-q"], ["count", "--jobs", "3"]):
             if count == 40:
                 pair.same([*words, *given], text)
@@ -164,7 +164,8 @@ def check_names(pair):
 def check_changes(pair):
     """Files that are replaced."""
     emoji = "\xe4\U0001f600.txt"
-    for words in (["fix", "bad.txt"], ["fix", emoji, "ok.txt", "nope"], ["fix", "-q", "--errors", "lossy", emoji], ["fix", "--backup", ".old", "bad.txt", emoji, "ok.txt"],
+    for words in (["fix", "bad.txt"], ["fix", emoji, "ok.txt", "nope"], ["fix", "-q", "--errors", "lossy", emoji], ["fix", "--errors", "windows-1252", emoji], ["fix", "--errors", "latin1", "--dry-run", "bad.txt"],
+                  ["fix", "--backup", ".old", "bad.txt", emoji, "ok.txt"],
                   ["fix", "--dry-run", "bad.txt", emoji], ["fix", "--backup", ".txt", "bad", "bad.txt"], ["fix", "--jobs", "2", "sub/sub/more.bin", "zeros.bin"],
                   ["recode", "--in-place", "--to", "utf-16le", "--bom", "bad.txt", emoji], ["recode", "--in-place", "--encoding", "auto", "sub/marked.txt"],
                   ["recode", "--in-place", "--errors", "strict", "bad.txt"], ["recode", "-o", "new.txt", "bad.txt"], ["recode", "-o", emoji, "--to", "utf-16be", "ok.txt"],

@@ -98,12 +98,18 @@ static void widen_lossily(void) {
     if (nody_recoder_feed_lossy(&recoder, text, text_len, out, sizeof out, &read, &written) != NODY_STATUS_DONE) exit(1);
 }
 
+static void widen_by_table(void) {
+    nody_recoder_t recoder = nody_recoder(NODY_UTF8, NODY_UTF16LE);
+    size_t read, written;
+    if (nody_recoder_feed_repair(&recoder, text, text_len, out, sizeof out, NODY_REPAIR_WINDOWS_1252, NULL, 0, &read, &written) != NODY_STATUS_DONE) exit(1);
+}
+
 static const struct {
     const char *name;
     void (*call)(void);
 } calls[] = {{"utf8-to-utf16le", widen}, {"utf16le-to-utf8", narrow}, {"pieces", decode}, {"valid-up-to", validate},
              {"utf16-bytes-valid-up-to", validate_bytes}, {"utf16-valid-up-to", validate_units}, {"strictly", widen_strictly}, {"utf16le-strictly", narrow_strictly},
-             {"strictly-in-parts", widen_strictly_in_parts}, {"short", widen_short}, {"lossily", widen_lossily},
+             {"strictly-in-parts", widen_strictly_in_parts}, {"short", widen_short}, {"lossily", widen_lossily}, {"by-table", widen_by_table},
              {"char-count", count},
              {"faults", find_at_once}, {"faults-in-parts", find_faults}, {"utf16-faults-in-parts", find_unit_faults}};
 

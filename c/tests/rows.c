@@ -1,4 +1,4 @@
-/* Compares the library's calls with the rows of crates/conformance and crates/run_rows, as far as a call for C returns what a
+/* Compares the library's calls with the rows of crates/conformance and crates/run_vectors, as far as a call for C returns what a
  * row asks: rows CRATES. Prints what differs, and then `N passed, M failed`. */
 #include "noddychest.h"
 #include "rows.h"
@@ -152,7 +152,7 @@ static void of_units(const char *crates) {
 }
 
 static void of_lists(const char *crates) {
-    struct rows rows = open_rows(crates, "run_rows/data/lists.txt");
+    struct rows rows = open_rows(crates, "run_vectors/data/lists.txt");
     while (next_row(&rows)) {
         size_t len;
         char **column = rows.column;
@@ -293,6 +293,10 @@ static void one_of_units(const char *digits, const char *call, char *answers) {
     size_t len;
     uint16_t *units = units_of(digits, &len);
     int is_end = strcmp(call, "from_slice_end") == 0;
+    if (!is_end && strncmp(call, "char::from_utf16_", 17) != 0) {
+        free(units);
+        return;
+    }
     nody_piece_t piece = is_end ? nody_utf16_last(units, len) : nody_utf16_first(units, len);
     cut_at(answers, " ; ");
     if (strstr(answers, "Ok(")) {
@@ -335,8 +339,8 @@ int main(int argc, char **argv) {
     of_units(argv[1]);
     of_lists(argv[1]);
     of_calls(argv[1]);
-    of_places(argv[1], "run_rows/data/places.txt");
-    of_places(argv[1], "run_rows/data/block_places.txt");
+    of_places(argv[1], "run_vectors/data/places.txt");
+    of_places(argv[1], "run_vectors/data/block_places.txt");
     expect(nody_supported(), "nody_supported", "on this processor");
     return tell();
 }

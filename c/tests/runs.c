@@ -1,5 +1,5 @@
 /* Runs the programs as a user does, and compares their output, their errors and their status with the rows of crates/conformance and
- * crates/run_rows, and with what is required if reads, writes or allocations fail:
+ * crates/run_vectors, and with what is required if reads, writes or allocations fail:
  *
  *   runs CRATES PIECES RECODE FAULTY_PIECES FAULTY_RECODE EXAMPLE_PIECES EXAMPLE_RECODE
  *
@@ -276,13 +276,13 @@ int main(int argc, char **argv) {
     in_file = temporary();
     out_file = temporary();
     said_file = temporary();
-    of_runs(argv[1], "run_rows/data/runs.txt", argv[2], argv[3], NULL);
-    of_runs(argv[1], "run_rows/data/long_runs.txt", argv[2], argv[3], NULL);
+    of_runs(argv[1], "run_vectors/data/runs.txt", argv[2], argv[3], NULL);
+    of_runs(argv[1], "run_vectors/data/long_runs.txt", argv[2], argv[3], NULL);
     of_bytes(argv[1], argv[2], 1);
     of_bytes(argv[1], argv[6], 0);
     of_recode(argv[1], argv[3]);
     of_recode(argv[1], argv[7]);
-    for (size_t i = 0; i < sizeof faults / sizeof *faults; i++) of_runs(argv[1], "run_rows/data/runs.txt", argv[4], argv[5], faults[i]);
+    for (size_t i = 0; i < sizeof faults / sizeof *faults; i++) of_runs(argv[1], "run_vectors/data/runs.txt", argv[4], argv[5], faults[i]);
     refuse_each(argv[4], NULL, NULL, "pieces: no memory");
     refuse_each(argv[4], "--merge", NULL, "pieces: no memory");
     refuse_each(argv[4], "--ends", "FBFBFBFBFBFB", "pieces: no memory");

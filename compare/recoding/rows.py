@@ -3,7 +3,7 @@
 
 usage: python3 compare/recoding/rows.py
 
-It writes `blocks.txt`, `block_places.txt` and `held.txt` to crates/run_rows/data. Blocks have up to 133 bytes, and the thing
+It writes `blocks.txt`, `block_places.txt` and `held.txt` to crates/run_vectors/data. Blocks have up to 133 bytes, and the thing
 that is other, a fault or a code of another length, lies over the end of the first 16, 32, 48, 64, 80, 96, 112 or 128 bytes, or
 begins or ends there. Surrogates stand at each of the first 41 places of units.
 
@@ -162,7 +162,7 @@ def main(words):
         return 0 if words in (['--help'], ['-h']) else 2
     rng = random.Random(130)
     for name, rows in ('blocks', recoded_rows), ('block_places', place_rows), ('held', held_rows):
-        path = TOP / f'crates/run_rows/data/{name}.txt'
+        path = TOP / f'crates/run_vectors/data/{name}.txt'
         path.write_text(''.join(f'{row}\n' for row in rows(rng)), encoding='ascii')
     return 0
 

@@ -1,5 +1,5 @@
 // `noddychest fix`: replaces the invalid bytes of a file in place, as nody(1) does.
-import { Recoder, isValid, recode, shardEnd } from "./calls.js";
+import { Recoder, boundaryBefore, isValid, recode } from "./calls.js";
 import { nounOf } from "./check.js";
 import { Input, START, foundIn, lineEnd, linesOf, plus } from "./inputs.js";
 import { complain, isHidden, shown, shownBy } from "./outputs.js";
@@ -7,6 +7,10 @@ import { replaceFile } from "./replacing.js";
 
 // The bytes that are read before and after an invalid one, to show its line; and how many of them decide where that is cut.
 const [REACH, LEAD] = [4096, 4];
+
+// What became of invalid bytes: of units of UTF-16 no table has any.
+const READ = { drop: "dropped", "windows-1252": "read as Windows-1252", "latin-1": "read as ISO-8859-1" };
+const becameOf = (errors, encoding) => (encoding === "utf-8" || errors === "drop" ? READ[errors] : undefined) ?? "became U+FFFD";
 
 function* recoded(input, recoder) {
     for (const { data, cut } of input.blocks()) yield recoder.feed(data.subarray(0, cut));
@@ -31,7 +35,7 @@ export async function fix(out, name, asked) {
         const recoder = new Recoder(input.encoding, input.encoding, { errors: asked.errors });
         await replaceFile(input, recoded(input, recoder), asked.backup);
         const { replaced } = recoder;
-        if (asked.errors === "replace" && replaced && !asked.quiet) complain(input.name, `${replaced} ${nounOf(input.encoding, replaced)} became U+FFFD`);
+        if (replaced && !asked.quiet) complain(input.name, `${replaced} ${nounOf(input.encoding, replaced)} ${becameOf(asked.errors, input.encoding)}`);
         return 0;
     } finally {
         input.close();
@@ -54,16 +58,19 @@ function showChanges(out, input, errors) {
     }
 }
 
-// The line of an invalid byte as it is, and as it would become.
+// The line of an invalid byte as it is, and as it would become; of a long line the part around that byte, between characters.
 function changeOf(input, offset, errors) {
     const { encoding } = input;
     const front = Math.max(offset - REACH, 0);
     const at = offset - front;
-    const data = input.readAt(front, at + REACH);
+    const read = input.readAt(front, at + REACH);
+    const isLong = read.length === at + REACH;
+    const data = isLong ? read.subarray(0, boundaryBefore(read, read.length - LEAD, encoding)) : read;
     const { lines, start } = linesOf(data.subarray(0, at), encoding);
     const isCut = front > 0 && lines === 0;
-    const line = data.subarray(isCut ? shardEnd(data, LEAD, encoding) : start, lineEnd(data, at, encoding));
-    const text = (bytes) => `${isCut ? "…" : ""}${shownBy(shownPiece, bytes, encoding)}\n`;
+    const goesOn = isLong && linesOf(data.subarray(at), encoding).lines === 0;
+    const line = data.subarray(isCut ? boundaryBefore(data, LEAD, encoding) : start, lineEnd(data, at, encoding));
+    const text = (bytes) => `${isCut ? "…" : ""}${shownBy(shownPiece, bytes, encoding)}${goesOn ? "…" : ""}\n`;
     return `-${text(line)}+${text(recode(line, encoding, encoding, { errors }))}`;
 }
 

@@ -24,6 +24,17 @@ export const encodingOf = (front) => encodingOfBom(front)?.encoding ?? "utf-8";
 
 export const aboutOf = (file) => fs.fstatSync(file, { bigint: true });
 
+// The offset at which a file is read on. Others may have read the front of standard input: then it is -1 where the system does not say it.
+// (only Linux does)
+function originOf(file) {
+    if (file !== 0) return 0;
+    try {
+        return Number(/^pos:\s*(\d+)$/m.exec(fs.readFileSync("/proc/self/fdinfo/0", "latin1"))[1]);
+    } catch {
+        return -1;
+    }
+}
+
 // An input, which is read once, in blocks. `about` is what it was when it was opened. One that is to be replaced has to be a file, and no
 // pipe is waited for.
 export class Input {
@@ -31,6 +42,8 @@ export class Input {
     #hasEnded = false;
     // How many bytes were read, from where a file is read; -1 of what is no file.
     #at = -1;
+    // The offset in its file at which the input begins; -1 of what is no file.
+    #origin = -1;
 
     constructor(name, encoding, { isReplaced = false } = {}) {
         this.name = bytesOf(name);
@@ -38,6 +51,7 @@ export class Input {
         try {
             this.about = aboutOf(this.file);
             if (isReplaced && !this.isFile) throw new InputError(this.name, this.about.isDirectory() ? "it is a folder" : "it is no regular file");
+            if (this.isFile) this.#origin = originOf(this.file);
             this.encoding = encoding === AUTO ? this.#encodingByBom() : encoding;
         } catch (error) {
             this.close();
@@ -53,6 +67,11 @@ export class Input {
         return this.about.isFile();
     }
 
+    // Whether `readAt` has the bytes of this input.
+    get hasOffsets() {
+        return this.#origin >= 0;
+    }
+
     // Throws for a file to which standard output goes: it might never end.
     refuseOutput() {
         if (!this.isFile || this.about.size === 0n) return;
@@ -64,13 +83,13 @@ export class Input {
     readAt(offset, size) {
         const bytes = Buffer.alloc(size);
         let len = 0;
-        for (let count; len < size && (count = fs.readSync(this.file, bytes, len, size - len, offset + len)) > 0; ) len += count;
+        for (let count; len < size && (count = fs.readSync(this.file, bytes, len, size - len, this.#origin + offset + len)) > 0; ) len += count;
         return bytes.subarray(0, len);
     }
 
-    // Begins a file again.
+    // Begins a file again. `about` stays: the encoding was found in the file as it was then.
     rewind() {
-        [this.about, this.#front, this.#hasEnded, this.#at] = [aboutOf(this.file), Buffer.alloc(0), false, 0];
+        [this.#front, this.#hasEnded, this.#at] = [Buffer.alloc(0), false, 0];
     }
 
     // Bytes, the offset at which they begin, and how many of them are to be taken: those after them tell why one is invalid.

@@ -38,12 +38,15 @@ function numberOf(word) {
 
 const suffixOf = (word) => (word === "" || word.includes("/") ? undefined : bytesOf(word));
 
+// What becomes of invalid bytes, by its word in the command line and in the calls.
+const ERRORS = new Map([...["replace", "lossy", "drop", "windows-1252"].map((it) => [it, it]), ["latin1", "latin-1"]]);
+
 // Each option: the commands that take it, its letter, what follows it and how that is read, and its default.
 const ENCODING = { name: "encoding", takers: ALL, value: "ENCODING", read: encodingOf, otherwise: "utf-8", help: "the encoding of the input, also --from: utf-8 (default), utf-16le, utf-16be, or auto: by its byte order mark" };
 const OPTIONS = [
     ENCODING,
     { ...ENCODING, name: "from", help: null, is: "encoding" },
-    { name: "errors", takers: ["fix"], value: "HOW", read: oneOf("replace", "lossy"), otherwise: "replace", help: "replace: one U+FFFD for each invalid byte (default); lossy: one for each maximal subpart, as browsers do" },
+    { name: "errors", takers: ["fix"], value: "HOW", read: (word) => ERRORS.get(word), otherwise: "replace", help: "replace: one U+FFFD for each invalid byte (default); lossy: one for each maximal subpart, as browsers do; drop: nothing; windows-1252, latin1: each invalid byte of UTF-8 is taken for that" },
     { name: "names", short: "l", takers: ["check"], help: "write only the names of invalid files" },
     { name: "null", short: "0", takers: ["check"], help: "end each name with a NUL instead of a line feed" },
     { name: "text", short: "a", takers: ["check"], help: "take a binary file for text" },

@@ -1,7 +1,7 @@
 // Prints for how many of COUNT inputs two modules return different results: both.js ONE OTHER COUNT. Each input is converted between all
-// encodings, lossy and strict, whole and in two parts, and split from the front, from both ends, at each offset and in two parts.
+// encodings, lossy, strict and by tables, whole and in two parts, and split from the front, from both ends, at each offset and in two parts.
 import { readFileSync } from "node:fs";
-import { Codec, LOSSY, REPLACE, STRICT, joined } from "../codec.js";
+import { Codec, DROP, LOSSY, REPLACE, STRICT, WINDOWS_1252, joined, repairOf } from "../codec.js";
 import { chances, damaged } from "./help.js";
 
 const load = async (path) => new Codec((await WebAssembly.instantiate(readFileSync(new URL(path, import.meta.url)))).instance.exports);
@@ -33,6 +33,7 @@ function located(codec, bytes, cut, form, most) {
 }
 
 const FORMS = [0, 1, 2];
+const WAYS = [REPLACE, LOSSY, STRICT, DROP, WINDOWS_1252, repairOf(Array.from({ length: 128 }, (_, at) => [at, 0xe9, 0xffff, 0xd800][at % 4]))];
 
 function told(codec, bytes, word, cut) {
     codec.fill(bytes);
@@ -41,7 +42,7 @@ function told(codec, bytes, word, cut) {
     const streamed = run.map((it) => codec.streamedAt(it.place));
     const ends = [codec.validUpTo(), codec.boundary(bytes.length >> 1), codec.formOfBom(), ...FORMS.map((form) => codec.undecidedLength(form))];
     const pairs = FORMS.flatMap((from) => FORMS.map((to) => [from, to]));
-    const recoded = pairs.map(([from, to]) => [REPLACE, LOSSY, STRICT].map((mode) => inParts(codec, bytes, cut, from, to, mode)));
+    const recoded = pairs.map(([from, to]) => WAYS.map((mode) => inParts(codec, bytes, cut, from, to, mode)));
     const whole = pairs.map(([from, to]) => [...joined(codec.recode(from, to, bytes))]);
     const parts = FORMS.map((form) => located(codec, bytes, cut, form, 1 + (bytes.length % 40)));
     return JSON.stringify([run, walk, streamed, ends, codec.names, recoded, whole, parts]);

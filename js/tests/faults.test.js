@@ -256,6 +256,48 @@ test("a string with the list of what was wrong", () => {
     }
 });
 
+// Lengths on both sides of those at which another way to decode is taken, or another window begins.
+const EDGES = [0, 1, 24, 255, 256, 257, 4095, 4096, 4097, 65536 + 4095, 65536 + 4096, 65536 + 4097, 300001];
+
+test("decode of valid text: as TextDecoder has it, also where characters that are not ASCII are few", () => {
+    for (const char of ["a", "é", "你", "😀", "\ufeff", "\ufffd", "\0"]) {
+        for (const length of EDGES) {
+            const [text, all] = [char.repeat(length), new TextEncoder().encode(char.repeat(length))];
+            const rare = new Uint8Array(length + 8).fill(0x61);
+            for (const at of [0, Math.min(90, length), length >> 1, length]) rare.set(new TextEncoder().encode(char), at);
+            for (const bytes of length > 8 ? [all, rare] : [all]) {
+                for (const options of [undefined, { errors: "lossy" }, { fatal: true }]) {
+                    const made = decode(bytes, "utf-8", options);
+                    assert.ok(made.text === shownBy(bytes, "utf-8") && made.faults.length === 0, `${char} ${length}`);
+                }
+            }
+            for (const encoding of ["utf-16le", "utf-16be"]) assert.ok(decode(recode(all, "utf-8", encoding), encoding).text === text, `${encoding} ${length}`);
+        }
+    }
+});
+
+test("an invalid byte on both sides of each edge of a window", () => {
+    for (const encoding of FORMS) {
+        const fault = ofHex({ "utf-8": "e28261", "utf-16le": "00d86100", "utf-16be": "d8000061" }[encoding]);
+        for (const edge of [4096, 4096 + 65536, 4096 + 2 * 65536]) {
+            for (let at = edge - 8; at < edge + 4; at += encoding === "utf-8" ? 1 : 2) {
+                const bytes = new Uint8Array(4096 + 3 * 65536).fill(0x61);
+                assert.equal(isValid(bytes, encoding), true);
+                bytes.set(fault, at);
+                const want = [...pieces(bytes.subarray(at - 2, at + 6), encoding)].filter((it) => it.error).map((it) => ({ ...it, offset: it.offset + at - 2 }));
+                assert.deepEqual([isValid(bytes, encoding), firstFault(bytes, encoding), [...faults(bytes, encoding)]], [false, want[0], want], `${encoding} ${at}`);
+                assert.throws(() => decode(bytes, encoding, { fatal: true }), { name: "FaultError", offset: at, error: want[0].error });
+                const { text, faults: found } = decode(bytes, encoding);
+                assert.deepEqual([found, text.indexOf("\ufffd")], [want, at / (encoding === "utf-8" ? 1 : 2)]);
+                assert.deepEqual([isValid(bytes.subarray(0, at), encoding), firstFault(bytes.subarray(0, at + 2), encoding).offset], [true, at]);
+            }
+        }
+        // (a character that an edge cuts is none)
+        const text = new TextEncoder().encode("😀".repeat(40000));
+        for (let skip = 0; skip < 8; skip++) assert.equal(firstFault(recode(new Uint8Array([...new Uint8Array(skip).fill(0x61), ...text]), "utf-8", encoding), encoding), null);
+    }
+});
+
 test("a text that is too long for a string", async (t) => {
     const before = globalThis.TextDecoder;
     t.after(() => (globalThis.TextDecoder = before));
@@ -272,7 +314,7 @@ test("a text that is too long for a string", async (t) => {
 
 test("words for errors that are none", () => {
     for (const call of [(it) => recode(ofHex("41"), "utf8", "utf8", it), (it) => new Recoder("utf8", "utf8", it), (it) => decode(ofHex("41"), "utf8", it)]) {
-        for (const it of ["ignore", "", "STRICT", "toString", null, 1]) assert.throws(() => call({ errors: it }), { name: "RangeError", message: `noddychest: errors is "replace", "lossy" or "strict", and not ${it}` });
+        for (const it of ["ignore", "", "STRICT", "toString", null, 1]) assert.throws(() => call({ errors: it }), { name: "RangeError", message: `noddychest: errors is "replace", "lossy", "strict", "drop", "windows-1252", "latin-1" or a table, and not ${it}` });
         assert.throws(() => call({ errors: "replace", fatal: true }), { name: "TypeError", message: /fatal is the same as errors: "strict"/ });
     }
 });

@@ -239,7 +239,7 @@ async function answers() {
         }
     };
     const all = [];
-    for (const given of [[], [{}], [Object.create(null)], [{ errors: "lossy" }], [{ fatal: true }], [{ fatal: false, errors: "strict" }]]) {
+    for (const given of [[], [{}], [Object.create(null)], [{ errors: "lossy" }], [{ errors: "drop" }], [{ errors: "windows-1252" }], [{ errors: { 255: "?" } }], [{ fatal: true }], [{ fatal: false, errors: "strict" }]]) {
         for (const form of ["utf-8", "utf-16le", "utf-16be"]) {
             const recoder = new Recoder(form, "utf-8", ...given);
             const feeds = [() => hexOf(recoder.feed(bytes)), () => hexOf(recoder.finish()), () => recoder.replaced];
@@ -279,7 +279,7 @@ async function answers() {
     return [...all, changedRange(bytes, 2, 3), boundaryBefore(bytes, 6), offsetOf(bytes, 2), numberOf(bytes, 3), recodedLength(bytes, "utf-8", "utf-16le")];
 }
 
-const NAMES = ["most", "base", "end", "errors", "fatal", "encoding", "offset", "mode", "isLast", "form", "length", "error", "char", "cause", "settings", "ignoreBOM", "stream", "bytes", "isEnd", "at", "isOver", "filled", "read", "count", "kind", "place", "len", "scalar", "fault", "readableType", "writableType", "from", "to", "next", "done", "value", "total", "names", "calls", "memory"];
+const NAMES = ["most", "base", "end", "errors", "fatal", "encoding", "offset", "mode", "isLast", "form", "length", "error", "char", "cause", "settings", "ignoreBOM", "stream", "bytes", "isEnd", "at", "isOver", "filled", "read", "count", "kind", "place", "len", "scalar", "fault", "readableType", "writableType", "from", "to", "next", "done", "value", "total", "names", "calls", "memory", "suffix", "repair", "table", "255"];
 
 test("what somebody put into Object.prototype changes no answer", async () => {
     const want = await answers();
@@ -470,6 +470,20 @@ test("memory that another thread changes meanwhile: of decode the text and the l
     }
 });
 
+test("memory that another thread changes meanwhile: firstFault gives an invalid byte or null", async () => {
+    const bytes = new Uint8Array(new SharedArrayBuffer(64)).fill(0x61);
+    const worker = new Worker("const bytes = require('node:worker_threads').workerData; for (let i = 0; ; i++) if (i % 64 === 0) Atomics.xor(bytes, 40, 0x80);", { eval: true, workerData: bytes });
+    try {
+        await new Promise((done) => worker.once("online", done));
+        for (let began = Date.now(), i = 0; Date.now() - began < 2000 || i < 2000; i++) {
+            const found = firstFault(bytes);
+            if (found) assert.deepEqual(found, { offset: 40, length: 1, char: null, error: "InterruptedSequence" });
+        }
+    } finally {
+        await worker.terminate();
+    }
+});
+
 test("what somebody put in the place of calls of Uint8Array changes no answer", async () => {
     const prototype = Object.getPrototypeOf(Uint8Array.prototype);
     const want = await answers();
@@ -495,6 +509,50 @@ test("what somebody put in the place of calls of Uint8Array changes no answer", 
             assert.deepEqual(have, want, name);
         }
     }
+});
+
+test("a TextDecoder that rejects shared memory and buffers that may be resized, as those of browsers, is given neither; another class is used from the next call on", () => {
+    const { TextDecoder } = globalThis;
+    let asked = 0;
+    const classOf = (name) => class extends TextDecoder {
+        decode(bytes, ...more) {
+            assert.ok(bytes.buffer instanceof ArrayBuffer && !bytes.buffer.resizable);
+            asked++;
+            return name + super.decode(bytes, ...more);
+        }
+    };
+    const buffers = [(size) => new ArrayBuffer(size), (size) => new SharedArrayBuffer(size), ...(canResize ? [(size) => new ArrayBuffer(size, { maxByteLength: 2 * size })] : [])];
+    try {
+        for (const name of ["1", "2"]) {
+            globalThis.TextDecoder = classOf(name);
+            for (const make of buffers) {
+                for (const size of [24, 1000, 100000]) {
+                    const bytes = new Uint8Array(make(size)).fill(0x61);
+                    assert.deepEqual(decode(bytes), { text: name + "a".repeat(size), faults: [] });
+                    bytes[size - 1] = 0xff;
+                    assert.equal(decode(bytes).text, `${name}${"a".repeat(size - 1)}\ufffd`);
+                }
+            }
+        }
+        assert.ok(asked >= 12 * buffers.length);
+    } finally {
+        globalThis.TextDecoder = TextDecoder;
+    }
+    assert.equal(decode(ofHex("61")).text, "a");
+});
+
+test("a TextDecoder that failed once is not used again", () => {
+    const { decode: whole } = TextDecoder.prototype;
+    TextDecoder.prototype.decode = function () {
+        whole.call(this, ofHex("61d8"), { stream: true });
+        throw new TypeError("not valid");
+    };
+    try {
+        for (const it of ["61", "61ff"]) assert.throws(() => decode(ofHex(it)), { name: "RangeError", message: /too long for a string/ });
+    } finally {
+        TextDecoder.prototype.decode = whole;
+    }
+    for (const [it, want] of [["61", "a"], ["61ff", "a\ufffd"]]) assert.equal(decode(ofHex(it)).text, want);
 });
 
 test("decode of a text that fits in no string throws before it makes the text", () => {

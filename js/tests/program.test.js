@@ -1,7 +1,7 @@
 // The command `noddychest`: what other processes do meanwhile, and what fails. compare/commands holds its output beside nody(1).
 import assert from "node:assert/strict";
 import { spawnSync } from "node:child_process";
-import { chmodSync, chownSync, closeSync, existsSync, mkdtempSync, openSync, readFileSync, readdirSync, rmSync, statSync, writeFileSync } from "node:fs";
+import { chmodSync, chownSync, closeSync, existsSync, mkdtempSync, openSync, readFileSync, readSync, readdirSync, rmSync, statSync, writeFileSync } from "node:fs";
 import { tmpdir } from "node:os";
 import { fileURLToPath } from "node:url";
 import * as util from "node:util";
@@ -63,6 +63,30 @@ test("what others write while a file is fixed is not lost", when(true), () => {
         }
     }
 });
+
+test("a file is not fixed by the encoding that it had before another was written", when(true), () => withFile((path, folder) => {
+    const other = Buffer.from("n\xc3\xa9n\xc3\xa9\xff\xd8", "latin1");
+    const act = `if (made === 0 && !globalThis.wasEnded) { globalThis.wasEnded = true; fs.writeFileSync(path, Buffer.from("${other.toString("hex")}", "hex")); }`;
+    for (const words of [[], ["--dry-run"]]) {
+        writeFileSync(path, Buffer.from("\ufeffa\ud800b", "utf16le"));
+        const told = fixedWhile(path, "readSync", act, "--encoding", "auto", ...words);
+        if (!words.length) assert.deepEqual(told, [3, "", `noddychest: ${path}: ${CHANGED}`]);
+        assert.deepEqual(readFileSync(path), other);
+        assert.deepEqual(Object.keys(filesOf(folder)), ["file"]);
+    }
+}));
+
+test("of a long line --dry-run shows a part, which begins and ends between characters", when(true), () => withFile((path) => {
+    const texts = [["", "é".repeat(5000)], ["a".repeat(9001), "€".repeat(5000)], ["\xff".repeat(9000), ""]];
+    for (const [front, back] of texts) {
+        writeFileSync(path, Buffer.concat([Buffer.from(`${front}\xff`, "latin1"), Buffer.from(`${back}\n`)]));
+        const [status, out] = ran(["fix", "--dry-run", path]);
+        const [old, made] = out.split("\n").slice(3);
+        assert.deepEqual([status, old.at(-1), made.at(-1)], [1, "…", "…"]);
+        assert.equal(old.slice(1).replaceAll("\\xFF", "\ufffd"), made.slice(1));
+        assert.ok(!made.includes("\\x"));
+    }
+}));
 
 test("a file that is removed while it is fixed", when(true), () => withFile((path, folder) => {
     assert.deepEqual(fixedWhile(path, "fsyncSync", "fs.unlinkSync(path)"), [3, "", `noddychest: ${path}: ${CHANGED}`]);
@@ -134,6 +158,21 @@ sys.exit(it.wait())
     const it = spawnSync("python3", ["-c", program, process.execPath, BIN, "check"], { encoding: "utf8" });
     assert.deepEqual([it.status, it.stdout.split("\n")[0].slice(0, 16), it.stderr], [1, "-:1:7: offset 6:", ""]);
 });
+
+test("standard input whose front another process has read", when(isLinux, "offsets of descriptors, as Linux shows them"), () => withFile((path) => {
+    // (NUL at the front makes a file binary, and a mark its encoding)
+    for (const front of ["\0\0\xff\n", "\xff\xfea\0"]) {
+        writeFileSync(path, Buffer.from(`${front}caf\xe9 \xe9t\xe9\n`, "latin1"));
+        for (const words of [["check"], ["check", "--encoding", "auto"]]) {
+            const file = openSync(path, "r");
+            readSync(file, Buffer.alloc(4), 0, 4, null);
+            const [status, out, told] = ran(words, { stdio: [file, "pipe", "pipe"] });
+            closeSync(file);
+            assert.deepEqual([status, out.match(/offset \d+|not valid.*/g)], [1, ["offset 3", "offset 5", "offset 7", "not valid UTF-8: 3 invalid bytes"]]);
+            assert.equal(told, words.length > 1 ? "" : "noddychest: -: looks like Windows-1252: try fix --errors windows-1252\n");
+        }
+    }
+}));
 
 test("a file that is the output too", when(isLinux, "descriptors of Linux"), () => withFile((path) => {
     for (const command of ["check", "list"]) {

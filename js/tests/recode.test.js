@@ -206,3 +206,11 @@ test("encodingOf: of each label what TextDecoder makes of it, and null of other 
     for (const it of [undefined, null, 0, {}, [], Symbol("utf-8")]) assert.equal(encodingOf(it), null);
     assert.throws(() => encodingOf(new Uint8Array(1)), TypeError);
 });
+
+test("a label with much white space inside takes no quadratic time", () => {
+    const [blanks, began] = [" ".repeat(100_000), Date.now()];
+    for (const it of [`utf-8${blanks}x`, `${blanks}utf-8${blanks}x${blanks}`, blanks]) assert.equal(encodingOf(it), null);
+    assert.equal(encodingOf(`${blanks}utf-8${blanks}`), "utf-8");
+    assert.throws(() => recode(new Uint8Array(1), `utf-8${blanks}x`, "utf-8"), RangeError);
+    assert.ok(Date.now() - began < 3000);
+});

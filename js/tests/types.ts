@@ -1,6 +1,6 @@
 // Read only by tsc: each call as a caller with types writes it, and what has to be rejected.
 import { Decoder, Ends, FaultError, Recoder, boundaryAfter, boundaryBefore, changedRange, charCount, decode, encodingOf, encodingOfBom, faults, firstFault, isValid, numberOf, offsetOf, pieces, piecesBack, recode, recodedLength, recoderStream, streamFaults, streamPieces, streamText, textStream, undecidedLength } from "noddychest";
-import type { Encoding, FaultKind, Fault, Piece } from "noddychest";
+import type { Encoding, FaultKind, Fault, Piece, Table } from "noddychest";
 import { load } from "noddychest/load";
 import type { Noddychest, Source } from "noddychest/load";
 
@@ -26,9 +26,11 @@ const mark: { encoding: Encoding; length: number } | null = encodingOfBom(bytes)
 const marked: Piece[] = [...pieces(bytes.subarray(mark?.length ?? 0, changed.start + changed.end), mark?.encoding ?? "utf-8")];
 const labelled: "utf-8" | "utf-16le" | "utf-16be" | null = encodingOf("latin1");
 const strings: ReadableStream<string> = new ReadableStream<Uint8Array>().pipeThrough(textStream(labelled ?? "utf-8", { errors: "lossy", onFault: (fault) => console.log(fault.offset) }));
+const tables: Table[] = ["é".repeat(128).split(""), Uint16Array.of(0x20ac), new Map([[0xe9, "é"]]), { 0xe9: "é", 0xea: null }, (byte) => (byte < 0xa0 ? "" : byte)];
+const repaired: string[] = [...tables, "windows-1252" as const, "latin-1" as const, "drop" as const].map((errors) => decode(bytes, "utf-8", { errors }).text);
 const { text, faults: wrong }: { text: string; faults: Fault[] } = decode(bytes, "utf-8", { errors: "lossy" });
 export async function read(stream: ReadableStream<Uint8Array>): Promise<string> {
-    let all = text + wrong.length + numbers.join();
+    let all = text + repaired.join() + wrong.length + numbers.join();
     for await (const piece of streamPieces(stream)) all += piece.char ?? piece.error;
     for await (const fault of streamFaults([bytes], "utf-16le")) all += fault.offset;
     for await (const part of streamText(stream, "utf-8", { errors: "strict" })) all += part.text + part.offset + part.faults.length;
@@ -71,6 +73,10 @@ console.log(strings);
 streamText(new ReadableStream<string>());
 // @ts-expect-error: no such way
 recode(bytes, "utf-8", "utf-8", { errors: "ignore" });
+// @ts-expect-error: a table has characters for bytes
+recode(bytes, "utf-8", "utf-8", { errors: { 0xe9: true } });
+// @ts-expect-error: a function of a byte returns a character
+recode(bytes, "utf-8", "utf-8", { errors: (byte: number) => [byte] });
 // @ts-expect-error: no such option
 recode(bytes, "utf-8", "utf-8", { strict: true });
 // @ts-expect-error: a string is no bytes

@@ -176,19 +176,19 @@ function od(texts, only) {
     return null;
 }
 
-// What is between an address and the end of a line of gdb or lldb.
+// What is between an address and the end of a line of gdb or lldb. (no text can be divided in two ways, which would take exponential time)
 const VALUES = [
     [/^(?:0x[0-9a-f]{2}\s*)+$/i, (rest) => rest.match(/0x[0-9a-f]+/gi).flatMap((it) => pairs(it.slice(2))), 1],
     ...[4, 8, 16].map((digits) => [new RegExp(`^(?:0x[0-9a-f]{${digits}}\\s*)+$`, "i"), (rest) => rest.match(/0x[0-9a-f]+/gi).flatMap((it) => lowFirst(it, digits / 2)), digits / 2]),
-    [/^(?:0[0-7]*\s*)+$/, (rest) => rest.trim().split(/\s+/).map(octal), 1],
-    [/^(?:-?\d+\s*)+$/, (rest) => rest.trim().split(/\s+/).map((it) => it & 255), 1],
-    [/^(?:-?\d+ '(?:\\\d+|\\.|[^'\\])'\s*)+$/, (rest) => rest.match(/-?\d+ '/g).map((it) => parseInt(it, 10) & 255), 1],
+    [/^0[0-7]*(?:\s+0[0-7]*)*$/, (rest) => rest.trim().split(/\s+/).map(octal), 1],
+    [/^-?\d+(?:\s+-?\d+)*$/, (rest) => rest.trim().split(/\s+/).map((it) => it & 255), 1],
+    [/^(?:-?\d+ '(?:\\\d+|\\\D|[^'\\])'\s*)+$/, (rest) => rest.match(/-?\d+ '/g).map((it) => parseInt(it, 10) & 255), 1],
     [/^(?:[0-9a-f]{2} )*[0-9a-f]{2}(?: {2,}.*)?$/i, (rest) => pairs(rest.replace(/ {2,}.*$/, "").replace(/ /g, "")), 1],
 ];
 
 function debuggers(texts) {
     const split = readLines(texts, (text) => {
-        const found = text.match(/^\s*0x([0-9a-f]+)(?:\s*<[^>]*>)?:\s+(.*?)\s*$/i);
+        const found = text.trimEnd().match(/^\s*0x([0-9a-f]+)(?:\s*<[^>]*>)?:\s+(.*)$/i);
         return found && { offset: found[1], rest: found[2] };
     });
     const way = split && VALUES.find(([form]) => split.every((it) => !it.isRepeated && form.test(it.rest)));

@@ -79,7 +79,7 @@ function showParts() {
 async function survey(mine) {
     const { codec, form, source } = input;
     if (!source.isFile && source.size <= AT_ONCE) {
-        const made = new Survey(codec, form, { size: source.size, evidence: new Evidence() });
+        const made = new Survey(codec, form, { size: source.size, evidence: new Evidence(codec) });
         made.take(source.bytes, true);
         hear(made.news(true), mine);
         return;

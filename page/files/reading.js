@@ -9,7 +9,7 @@ export const WAYS = { text: "text", hexadecimal: "hexadecimal", dump: "a dump", 
 // More is hardly typed: it is text, or what a person chose.
 const LONG = 1 << 24;
 
-const PROMPT = /^\s*(?:[\w.-]+@[\w.-]+[^$#%>]*|\([\w .-]+\)\s*|~)?\s*[$#%>❯]\s+\S.*$/;
+const PROMPT = /^\s*(?:[\w.-]+@[\w.-][^$#%>]*|\([\w .-]+\)\s*|~)?\s*[$#%>❯]\s+\S.*$/;
 const lineBreak = /\r?\n/;
 
 // A text without the command before a dump, the prompt after it, and comments at the ends of its lines.

@@ -32,7 +32,7 @@ export const isLabel = (name) => name in LABELS || name === "utf-16le" || name =
 function textOfPlace(place, next, how) {
     const bytes = bytesOfValue(place.value, place.length);
     if (how === "mixed" && place.cause === CAUSE.latin) return { text: latinOf(bytes[0]), mark: "mended" };
-    if (how === "surrogates") {
+    if (how === "surrogates" && place.cause !== CAUSE.run) {
         if (place.length === 2 && bytes[0] === 0xc0 && bytes[1] === 0x80) return { text: "\0", mark: "mended" };
         const pair = pairOf(place, next);
         if (pair) return { text: pair, mark: "mended", hasNext: true };
@@ -47,7 +47,8 @@ export function pairOf(place, next) {
     return high < 0xdc00 && low >= 0xdc00 ? String.fromCodePoint(0x10000 + ((high - 0xd800) << 10) + low - 0xdc00) : "";
 }
 
-// Parts of the text of bytes from one offset of theirs up to and without another.
+// Parts of the text of bytes from one offset of theirs up to and without another, or up to the end of a place that is on both sides of that.
+// Returns where they end.
 export function* repairedParts(codec, bytes, from, to, how, base = 0) {
     const survey = new Survey(codec, UTF8, { base });
     survey.take(bytes, true);
@@ -55,15 +56,18 @@ export function* repairedParts(codec, bytes, from, to, how, base = 0) {
     let at = from;
     for (let i = 0; i < list.length; i++) {
         const [place, next] = [list.at(i), i + 1 < list.length ? list.at(i + 1) : null];
-        const start = place.offset - base;
-        if (start < at) continue;
+        // (a run may have begun before)
+        const start = Math.max(place.offset - base, at);
+        const length = place.offset - base + place.length - start;
+        if (length <= 0) continue;
         if (start >= to) break;
         if (at < start) yield { text: utf8.decode(bytes.subarray(at, start)), mark: "" };
-        const { text, mark, hasNext } = textOfPlace(place, next, how);
+        const { text, mark, hasNext } = textOfPlace({ ...place, length }, next, how);
         yield { text, mark, place };
-        at = start + place.length + (hasNext ? 3 : 0);
+        at = start + length + (hasNext ? 3 : 0);
     }
     if (at < to) yield { text: utf8.decode(bytes.subarray(at, to)), mark: "" };
+    return Math.max(at, to);
 }
 
 // Text that was encoded twice, decoded once more; a part that was encoded once stays.
@@ -82,6 +86,8 @@ export function decodedTwice(text) {
 export async function* repairedOf(codec, form, source, how, isWanted = () => true) {
     const label = form === UTF8 ? (isLabel(how) ? how : "") : form === UTF16LE ? "utf-16le" : "utf-16be";
     const decoder = label && new TextDecoder(label);
+    // The end of the text so far that may be the front of a character that was encoded twice: all after the last character of ASCII.
+    let held = "";
     for (let at = 0; at < source.size && isWanted(); ) {
         const first = Math.max(at - AROUND, 0);
         const bytes = new Uint8Array(await source.slice(label ? at : first, at + PART + AROUND).arrayBuffer());
@@ -94,10 +100,18 @@ export async function* repairedOf(codec, form, source, how, isWanted = () => tru
         const isLast = at + PART + AROUND >= source.size;
         codec.fill(bytes);
         const end = isLast ? bytes.length : codec.shardEnd(at - first + PART);
-        let text = Array.from(repairedParts(codec, bytes, at - first, end, how, first), (it) => it.text).join("");
-        if (how === "twice") text = decodedTwice(text);
+        const parts = repairedParts(codec, bytes, at - first, end, how, first);
+        let [text, it] = ["", parts.next()];
+        for (; !it.done; it = parts.next()) text += it.value.text;
+        if (how === "twice") {
+            let cut = text.length;
+            while (!isLast && cut && text.charCodeAt(cut - 1) > 0x7f) cut--;
+            const known = cut ? held + text.slice(0, cut) : "";
+            held = (cut ? "" : held) + text.slice(cut);
+            text = decodedTwice(known);
+        }
         yield at === 0 ? text.replace(/^\ufeff/, "") : text;
-        at = first + end;
+        at = first + it.value;
     }
 }
 

@@ -109,13 +109,11 @@ export class Survey {
         Object.assign(this, { causes: new Float64Array(CAUSES.length), bins: new Uint32Array(BINS * CAUSES.length), open: null, earlier: [-1, -1], run: { end: -1, count: 0 }, walked: 0, sent: 0 });
         this.causeOf = codec.names.map((name) => BY_KIND[name] ?? NONE);
         this.strayKind = codec.names.indexOf("UnexpectedContinuationByte");
-        this.surrogateKind = codec.names.indexOf("Utf16ReservedCodepoint");
     }
 
     // Walks over a slice; returns how many of its bytes. The others have to come again, before more.
     take(bytes, isLast) {
-        const { codec, evidence } = this;
-        if (evidence) this.sample(bytes);
+        const { codec } = this;
         codec.fill(bytes, this.form);
         const end = isLast ? codec.len : codec.boundary(Math.max(codec.len - SEEN, 0));
         Object.assign(this, { bytes, walked: 0 });
@@ -125,15 +123,17 @@ export class Survey {
         this.walk(end);
         this.count += codec.countBetween(0, end);
         if (end > 0) this.earlier = [this.at(end - 2), this.at(end - 1)];
+        if (this.evidence && this.form === UTF8) this.sample(bytes, end);
         this.base += end;
         return end;
     }
 
-    sample(bytes) {
-        const whole = this.base < WHOLE ? WHOLE - this.base : SAMPLE;
-        // (units are counted from an even offset on)
-        const from = this.base & 1;
-        this.evidence.sample(this.codec, bytes.subarray(from, from + whole), this.base);
+    // Surveys the front of what was walked over, up to a character. (units are counted from an even offset on)
+    sample(bytes, end) {
+        const { codec, evidence, base } = this;
+        const from = (base + evidence.seen) & 1;
+        const most = from + (base < WHOLE ? WHOLE - base : SAMPLE);
+        evidence.sample(codec, bytes.subarray(from, most < end ? codec.boundary(most) : end));
     }
 
     // A byte of the slice, or of the two before it; -1 if there is none.
@@ -145,7 +145,7 @@ export class Survey {
         const offset = this.base + at;
         this.faults++;
         this.invalid += len;
-        if (this.evidence && this.form === UTF8) this.evidence.fault(offset, this.bytes[at], this.at(at - 2), this.at(at - 1), this.at(at + 1), kind === this.surrogateKind);
+        if (this.evidence) this.evidence.faults++;
         const { open } = this;
         if (open && open.offset + open.length === offset && open.length < open.need && kind === this.strayKind) {
             open.value |= this.bytes[at] << (24 - 8 * open.length);
@@ -254,7 +254,7 @@ export class Survey {
         const to = isLast ? list.length : Math.max(list.length - RUN, Math.min(this.sent, list.length));
         const part = list.part(Math.min(this.sent, to), to);
         this.sent = to;
-        const guessed = isLast && this.evidence && form === UTF8 ? guess(this.withTail(), this.size) : null;
+        const guessed = isLast && this.evidence && form === UTF8 ? guess(this.codec, this.withTail(), this.size) : null;
         return { form, isLast, read: base, count, faults, invalid, line, faultLines, places, causes: causes.slice(), bins: bins.slice(), part, guess: guessed };
     }
 
@@ -267,7 +267,7 @@ export class Survey {
 
 // A guess at the bytes of a source that are at hand.
 export function guessAt(codec, bytes, size) {
-    const survey = new Survey(codec, UTF8, { size, evidence: new Evidence() });
+    const survey = new Survey(codec, UTF8, { size, evidence: new Evidence(codec) });
     survey.take(bytes, true);
     return survey.news(true).guess;
 }
@@ -286,7 +286,7 @@ const pause = () => new Promise((done) => {
 
 // Walks over a Blob; tells now and then what was found. Returns null once it is not wanted.
 export async function surveyOf(codec, form, source, tell, isWanted) {
-    const survey = new Survey(codec, form, { size: source.size, evidence: new Evidence() });
+    const survey = new Survey(codec, form, { size: source.size, evidence: new Evidence(codec) });
     const sliceAt = (at) => source.slice(at, at + (at < SLICE ? FIRST : SLICE)).arrayBuffer();
     let [told, rested] = [-Infinity, performance.now()];
     // Where the slice begins that is being read, and how many of its bytes were walked over already.

@@ -193,6 +193,83 @@ static PyObject *encoding_of_bom(PyObject *module, PyObject *data) {
     return len == 0 ? Py_NewRef(Py_None) : Py_BuildValue("in", (int)encoding, (Py_ssize_t)len);
 }
 
+/* A surveyor crosses as its bytes, which are kept by the package between two parts. */
+static int take_surveyor(PyObject *state, void *into) {
+    nody_surveyor_t *surveyor = into;
+    nody_survey_t survey;
+    if (PyBytes_Check(state) && PyBytes_Size(state) == sizeof *surveyor) {
+        memcpy(surveyor, PyBytes_AsString(state), sizeof *surveyor);
+        if (nody_surveyor_survey(surveyor, &survey) == NODY_STATUS_DONE)
+            return 1;
+    }
+    if (!PyErr_Occurred())
+        PyErr_SetString(PyExc_ValueError, "no Surveyor has this state");
+    return 0;
+}
+
+static PyObject *surveyor_bytes(const nody_surveyor_t *surveyor) {
+    return PyBytes_FromStringAndSize((const char *)surveyor, sizeof *surveyor);
+}
+
+/* surveyor(): a surveyor of an input of which nothing was fed. */
+static PyObject *surveyor(PyObject *module, PyObject *nothing) {
+    nody_surveyor_t made = nody_surveyor();
+    (void)module, (void)nothing;
+    return surveyor_bytes(&made);
+}
+
+/* surveyed(surveyor, data): the surveyor after a part. */
+static PyObject *surveyed(PyObject *module, PyObject *args) {
+    Py_buffer view;
+    Window window;
+    nody_surveyor_t after;
+    int is_open;
+    (void)module;
+    if (!PyArg_ParseTuple(args, "O&O&:surveyed", take_surveyor, &after, take_bytes, &view))
+        return NULL;
+    is_open = open_window(&window, &view);
+    if (is_open) {
+        PyThreadState *thread = let_lock_go((size_t)view.len);
+        window.most = SKIPPED;
+        for (size_t done = 0; done < (size_t)view.len; done += window.len) {
+            next_window(&window, NODY_UTF8, (const uint8_t *)view.buf + done, (size_t)view.len - done);
+            nody_surveyor_feed(&after, window.bytes, window.len);
+        }
+        take_lock(thread);
+        close_window(&window);
+    }
+    PyBuffer_Release(&view);
+    return is_open ? surveyor_bytes(&after) : NULL;
+}
+
+#define U64(number) ((unsigned long long)(number))
+#define UNITS(counts) U64(counts.plain), U64(counts.stray), U64(counts.unpaired)
+
+/* survey(surveyor): the counts of all parts, in the order of nody_survey_t, and the numbers of the guesses. */
+static PyObject *survey(PyObject *module, PyObject *state) {
+    nody_surveyor_t surveyor;
+    nody_survey_t it;
+    nody_guess_t guesses[3];
+    size_t count;
+    (void)module;
+    if (!take_surveyor(state, &surveyor))
+        return NULL;
+    nody_surveyor_survey(&surveyor, &it);
+    count = nody_guesses(&it, guesses, 3);
+    return Py_BuildValue("KKK(KKKKKKKK)(KKK)(KKK)y#BBy#", U64(it.len), U64(it.nul), U64(it.control), U64(it.utf8.chars), U64(it.utf8.faults),
+                         U64(it.utf8.third), U64(it.utf8.signs), U64(it.utf8.undefined), U64(it.utf8.surrogates), U64(it.utf8.twice),
+                         U64(it.utf8.twice_chars), UNITS(it.utf16le), UNITS(it.utf16be), (const char *)it.front,
+                         (Py_ssize_t)(it.len < 4 ? it.len : 4), it.head, it.tail, (const char *)guesses, (Py_ssize_t)count);
+}
+
+static PyObject *guess_text(PyObject *module, PyObject *guess) {
+    unsigned long number = PyLong_AsUnsignedLong(guess);
+    (void)module;
+    if (PyErr_Occurred())
+        return NULL;
+    return PyUnicode_FromString(nody_guess_text((nody_guess_t)(number < 256 ? number : 255)));
+}
+
 /* check(data): rejects what is no bytes-like object. */
 static PyObject *check(PyObject *module, PyObject *data) {
     Py_buffer view;
@@ -406,14 +483,22 @@ static PyObject *recoded_len(PyObject *module, PyObject *args) {
 
 /* ---- transcoding ---- */
 
-/* What is done with faults: one U+FFFD for each, a stop at the first, or one U+FFFD for each maximal subpart. The numbers are those of
- * the package. */
-enum Errors { EACH, STRICT, LOSSY };
+/* What is done with faults: one U+FFFD for each, a stop at the first, one U+FFFD for each maximal subpart, or for each byte what a table
+ * has. The package has numbers for these: REPAIR and more are the tables that the library knows, by their numbers there. */
+enum Way { EACH, STRICT, LOSSY, REPAIR };
+
+#define ENTRIES 128 /* of a table: the bytes from 80 on */
+
+typedef struct {
+    enum Way way;
+    nody_repair_t repair;
+    uint32_t table[ENTRIES]; /* of NODY_REPAIR_TABLE */
+} Errors;
 
 /* Bytes that are being converted: the input, how far it was read, and what was made of it. */
 typedef struct {
     nody_recoder_t recoder;
-    enum Errors errors;
+    const Errors *errors;
     Window window;
     const uint8_t *in;
     size_t len, read;
@@ -445,11 +530,14 @@ static int make_room(Recoding *it) {
 static nody_status_t feed_part(Recoding *it, const uint8_t *in, size_t len, uint8_t *out) {
     size_t read, written, room = it->room - it->written;
     nody_status_t status;
+    const Errors *errors = it->errors;
     out += it->written;
-    if (it->errors == STRICT)
+    if (errors->way == STRICT)
         status = nody_recoder_feed_strict(&it->recoder, in, len, out, room, &read, &written, it->fault);
-    else if (it->errors == LOSSY)
+    else if (errors->way == LOSSY)
         status = nody_recoder_feed_lossy(&it->recoder, in, len, out, room, &read, &written);
+    else if (errors->way == REPAIR)
+        status = nody_recoder_feed_repair(&it->recoder, in, len, out, room, errors->repair, errors->table, ENTRIES, &read, &written);
     else
         status = nody_recoder_feed(&it->recoder, in, len, out, room, &read, &written);
     it->read += read, it->written += written;
@@ -472,11 +560,14 @@ static nody_status_t feed(Recoding *it) {
 static nody_status_t finish(Recoding *it) {
     uint8_t *out = (uint8_t *)PyBytes_AsString(it->made) + it->written;
     size_t written, room = it->room - it->written;
+    const Errors *errors = it->errors;
     nody_status_t status;
-    if (it->errors == STRICT)
+    if (errors->way == STRICT)
         status = nody_recoder_finish_strict(&it->recoder, out, room, &written, it->fault);
-    else if (it->errors == LOSSY)
+    else if (errors->way == LOSSY)
         status = nody_recoder_finish_lossy(&it->recoder, out, room, &written);
+    else if (errors->way == REPAIR)
+        status = nody_recoder_finish_repair(&it->recoder, out, room, errors->repair, errors->table, ENTRIES, &written);
     else
         status = nody_recoder_finish(&it->recoder, out, room, &written);
     it->written += written;
@@ -494,22 +585,32 @@ static int goes(Recoding *it, nody_status_t (*step)(Recoding *)) {
     return status == NODY_STATUS_DONE || status == NODY_STATUS_FAULT;
 }
 
-/* For "O&". */
-static int take_errors(PyObject *number, void *into) {
-    long errors = PyLong_AsLong(number);
-    if (errors == -1 && PyErr_Occurred())
+/* For "O&": a number, or the 128 numbers of a table as `bytes`. */
+static int take_errors(PyObject *object, void *into) {
+    Errors *errors = into;
+    long number;
+    memset(errors, 0, sizeof *errors);
+    if (PyBytes_Check(object) && PyBytes_Size(object) == sizeof errors->table) {
+        errors->way = REPAIR;
+        errors->repair = NODY_REPAIR_TABLE;
+        memcpy(errors->table, PyBytes_AsString(object), sizeof errors->table);
+        return 1;
+    }
+    number = PyLong_AsLong(object);
+    if (number == -1 && PyErr_Occurred())
         return 0;
-    if (errors < EACH || errors > LOSSY) {
+    if (number < EACH || number >= REPAIR + NODY_REPAIR_TABLE) {
         PyErr_SetString(PyExc_ValueError, "no way with errors has this number");
         return 0;
     }
-    *(enum Errors *)into = (enum Errors)errors;
+    errors->way = number < REPAIR ? (enum Way)number : REPAIR;
+    errors->repair = (nody_repair_t)(number < REPAIR ? 0 : number - REPAIR);
     return 1;
 }
 
 /* Feeds a whole view to a recoder, and finishes if that is asked for; returns the output as bytes. In strict mode it stops at the first
  * fault, and `read` is then how many bytes were read. */
-static PyObject *fed(nody_recoder_t *recoder, enum Errors errors, const Py_buffer *view, int is_last, size_t *read, nody_fault_t *fault) {
+static PyObject *fed(nody_recoder_t *recoder, const Errors *errors, const Py_buffer *view, int is_last, size_t *read, nody_fault_t *fault) {
     Recoding it = {*recoder, errors, {NULL, NULL, 0, 0, 0}, view->buf, (size_t)view->len, 0, NULL, 0, 0, fault};
     PyObject *made = NULL;
     *fault = (nody_fault_t){0, 0, NODY_KIND_NONE};
@@ -531,7 +632,7 @@ static PyObject *recode(PyObject *module, PyObject *args) {
     nody_encoding_t from, to;
     nody_recoder_t recoder;
     nody_fault_t fault;
-    enum Errors errors;
+    Errors errors;
     size_t read;
     PyObject *data, *made;
     (void)module;
@@ -539,7 +640,7 @@ static PyObject *recode(PyObject *module, PyObject *args) {
         !take_bytes(data, &view))
         return NULL;
     recoder = nody_recoder(from, to);
-    made = fed(&recoder, errors, &view, 1, &read, &fault);
+    made = fed(&recoder, &errors, &view, 1, &read, &fault);
     if (made != NULL && fault.kind != NODY_KIND_NONE) {
         Py_DECREF(made);
         made = bytes_of(data, &view);
@@ -553,14 +654,14 @@ static PyObject *recode(PyObject *module, PyObject *args) {
 typedef struct {
     PyObject_HEAD
     nody_recoder_t recoder;
-    enum Errors errors;
+    Errors errors;
     Py_ssize_t fed; /* bytes that were fed */
     char busy;      /* 1 while a call goes on: it lets the lock go */
 } Recoder;
 
 static PyObject *recoder_new(PyTypeObject *type, PyObject *args, PyObject *names) {
     nody_encoding_t from, to;
-    enum Errors errors;
+    Errors errors;
     Recoder *self;
     (void)names;
     if (!PyArg_ParseTuple(args, "O&O&O&:Recoder", take_encoding, &from, take_encoding, &to, take_errors, &errors))
@@ -578,7 +679,7 @@ static PyObject *stepped(Recoder *self, const Py_buffer *view, int is_last) {
     nody_recoder_t before = self->recoder, after = self->recoder;
     nody_fault_t fault;
     size_t read, place;
-    PyObject *made = fed(&after, self->errors, view, is_last, &read, &fault), *all;
+    PyObject *made = fed(&after, &self->errors, view, is_last, &read, &fault), *all;
     if (made == NULL)
         return NULL;
     if (fault.kind == NODY_KIND_NONE) {
@@ -637,7 +738,7 @@ static PyObject *recoder_set_state(PyObject *object, PyObject *args) {
     PyObject *made;
     if (!PyArg_ParseTuple(args, "O&Kn:set_state", take_bytes, &view, &replaced, &total))
         return NULL;
-    made = view.len > 3 ? Py_NewRef(Py_None) : fed(&recoder, self->errors, &view, 0, &read, &fault);
+    made = view.len > 3 ? Py_NewRef(Py_None) : fed(&recoder, &self->errors, &view, 0, &read, &fault);
     if (made != NULL && recoder.count == view.len && total >= view.len) {
         recoder.replaced = replaced;
         self->recoder = recoder;
@@ -837,13 +938,14 @@ static void faults_dealloc(PyObject *object) {
     reader_dealloc(object);
 }
 
-/* Faults(encoding, data, type, errors) */
+/* Faults(encoding, data, type, errors, has_position): each is a piece, or has its position. */
 static PyObject *faults_new(PyTypeObject *type, PyObject *args, PyObject *names) {
     PyObject *data, *pieces, *errors;
     nody_encoding_t encoding;
     Faults *self;
+    int has_position;
     (void)names;
-    if (!PyArg_ParseTuple(args, "O&OOO:Faults", take_encoding, &encoding, &data, &pieces, &errors))
+    if (!PyArg_ParseTuple(args, "O&OOOp:Faults", take_encoding, &encoding, &data, &pieces, &errors, &has_position))
         return NULL;
     self = (Faults *)PyType_GenericAlloc(type, 0);
     if (self == NULL)
@@ -853,6 +955,7 @@ static PyObject *faults_new(PyTypeObject *type, PyObject *args, PyObject *names)
         Py_DECREF(self);
         return NULL;
     }
+    self->search.has_position = (char)has_position;
     return (PyObject *)self;
 }
 
@@ -866,19 +969,31 @@ static PyObject *faults_next(PyObject *object) {
         return NULL;
     }
     piece = next_fault(&self->search, &offset);
-    made = piece.kind == NODY_KIND_NONE ? NULL : make_piece(&self->maker, offset, piece);
+    made = piece.kind == NODY_KIND_NONE        ? NULL
+           : self->search.has_position ? make_located(&self->maker, offset, piece, &self->search.position)
+                                       : make_piece(&self->maker, offset, piece);
     if (made == NULL)
         self->search.at -= piece.len;
     __atomic_store_n(&self->busy, 0, __ATOMIC_RELEASE);
     return made;
 }
 
-/* Faults as arrays: offsets of 64 bits, lengths and kinds of 8. Their memory comes from malloc, which needs no lock. */
+/* Faults as arrays: offsets of 64 bits, lengths and kinds of 8, and where positions are wanted, those. Their memory comes from malloc, which
+ * needs no lock. */
 typedef struct {
     uint64_t *offsets;
     uint8_t *lens, *kinds;
+    uint64_t *places; /* line, column and byte column of each */
     size_t count, room;
+    char has_places;
 } Arrays;
+
+static void free_arrays(const Arrays *arrays) {
+    free(arrays->offsets);
+    free(arrays->lens);
+    free(arrays->kinds);
+    free(arrays->places);
+}
 
 static int grow_arrays(Arrays *arrays) {
     size_t room = arrays->room < 1024 ? 1024 : arrays->room + arrays->room / 2;
@@ -891,6 +1006,12 @@ static int grow_arrays(Arrays *arrays) {
     kinds = realloc(arrays->kinds, room);
     if (kinds != NULL)
         arrays->kinds = kinds;
+    if (arrays->has_places) {
+        void *places = realloc(arrays->places, 3 * room * sizeof *arrays->places);
+        if (places == NULL)
+            return 0;
+        arrays->places = places;
+    }
     if (offsets == NULL || lens == NULL || kinds == NULL)
         return 0;
     arrays->room = room;
@@ -906,39 +1027,90 @@ static int put_faults(Arrays *arrays, Search *search, size_t end, uint64_t base)
             return 1;
         if (arrays->count == arrays->room && !grow_arrays(arrays))
             return 0;
+        if (arrays->has_places) {
+            uint64_t *place = arrays->places + 3 * arrays->count;
+            place[0] = search->position.line, place[1] = search->position.column, place[2] = search->position.byte_column;
+        }
         arrays->offsets[arrays->count] = base + offset;
         arrays->lens[arrays->count] = (uint8_t)piece.len;
         arrays->kinds[arrays->count++] = (uint8_t)piece.kind;
     }
 }
 
-/* fault_arrays(encoding, data, end, base): the faults of data[:end], as three `bytes`; their kinds depend on all of the data. */
+/* fault_arrays(encoding, data, end, base, has_places): the faults of data[:end], as four `bytes`: offsets, lengths, kinds and, if they are
+ * wanted, positions; their kinds depend on all of the data. */
 static PyObject *fault_arrays(PyObject *module, PyObject *args) {
     Py_buffer view;
     nody_encoding_t encoding;
     Search search;
-    Arrays arrays = {NULL, NULL, NULL, 0, 0};
+    Arrays arrays = {NULL, NULL, NULL, NULL, 0, 0, 0};
     Py_ssize_t end;
     unsigned long long base;
+    int has_places;
     PyObject *made = NULL;
     (void)module;
-    if (!PyArg_ParseTuple(args, "O&O&nK:fault_arrays", take_encoding, &encoding, take_bytes, &view, &end, &base))
+    if (!PyArg_ParseTuple(args, "O&O&nKp:fault_arrays", take_encoding, &encoding, take_bytes, &view, &end, &base, &has_places))
         return NULL;
+    arrays.has_places = (char)has_places;
     if (is_place(end, view.len) && open_search(&search, WHOLE, encoding, &view)) {
         PyThreadState *thread = let_lock_go((size_t)end);
+        search.has_position = arrays.has_places;
         int is_made = put_faults(&arrays, &search, (size_t)end, base);
         Py_ssize_t count = (Py_ssize_t)arrays.count;
         take_lock(thread);
-        made = is_made ? Py_BuildValue("y#y#y#", arrays.count ? (char *)arrays.offsets : "", count * 8, arrays.count ? (char *)arrays.lens : "",
-                                       count, arrays.count ? (char *)arrays.kinds : "", count)
+        made = is_made ? Py_BuildValue("y#y#y#y#", arrays.count ? (char *)arrays.offsets : "", count * 8, arrays.count ? (char *)arrays.lens : "",
+                                       count, arrays.count ? (char *)arrays.kinds : "", count, arrays.places ? (char *)arrays.places : "",
+                                       arrays.places ? count * 24 : 0)
                        : PyErr_NoMemory();
-        free(arrays.offsets);
-        free(arrays.lens);
-        free(arrays.kinds);
+        free_arrays(&arrays);
         close_window(&search.window);
     }
     PyBuffer_Release(&view);
     return made;
+}
+
+/* position(encoding, data): the line, the column and the byte column after the data. */
+static PyObject *position(PyObject *module, PyObject *args) {
+    Py_buffer view;
+    nody_encoding_t encoding;
+    nody_position_t at = nody_position();
+    Window window;
+    int is_open;
+    (void)module;
+    if (!PyArg_ParseTuple(args, "O&O&:position", take_encoding, &encoding, take_bytes, &view))
+        return NULL;
+    memset(&window, 0, sizeof window);
+    is_open = open_window(&window, &view);
+    if (is_open) {
+        PyThreadState *thread = let_lock_go((size_t)view.len);
+        window.most = SKIPPED;
+        for (size_t done = 0; done < (size_t)view.len; done += window.len) {
+            next_window(&window, encoding, (const uint8_t *)view.buf + done, (size_t)view.len - done);
+            nody_position_advance(&at, encoding, window.bytes, window.len);
+        }
+        take_lock(thread);
+        close_window(&window);
+    }
+    PyBuffer_Release(&view);
+    return is_open ? Py_BuildValue("KKK", (unsigned long long)at.line, (unsigned long long)at.column, (unsigned long long)at.byte_column) : NULL;
+}
+
+/* shift(places, line, column, byte_column): positions counted from this one, each of three numbers, become positions counted from the front. */
+static PyObject *shift(PyObject *module, PyObject *args) {
+    Py_buffer view;
+    unsigned long long line, column, byte_column;
+    uint64_t *places;
+    (void)module;
+    if (!PyArg_ParseTuple(args, "w*KKK:shift", &view, &line, &column, &byte_column))
+        return NULL;
+    places = view.buf;
+    for (size_t i = 0; i + 3 <= (size_t)view.len / sizeof *places; i += 3) {
+        if (places[i] == 1)
+            places[i + 1] += column - 1, places[i + 2] += byte_column - 1;
+        places[i] += line - 1;
+    }
+    PyBuffer_Release(&view);
+    return Py_NewRef(Py_None);
 }
 
 /* kind_counts(encoding, data, end): how many faults of each kind data[:end] has; their kinds depend on all of the data. */
@@ -1011,6 +1183,9 @@ static PyType_Slot recoder_slots[] = {{Py_tp_new, recoder_new},
                                       {0, NULL}};
 static PyType_Spec recoder_spec = {"noddychest._noddychest.Recoder", sizeof(Recoder), 0, Py_TPFLAGS_DEFAULT, recoder_slots};
 
+#define DECODER(function) ((PyCFunction)(void (*)(void))(function))
+#define SIGNATURE(name) "decode_" name "(input, errors='strict')\n--\n\n"
+
 static PyMethodDef functions[] = {{"supported", supported, METH_NOARGS, NULL},
                                   {"kind_sentence", kind_sentence, METH_O, NULL},
                                   {"fault", fault, METH_VARARGS, NULL},
@@ -1018,6 +1193,10 @@ static PyMethodDef functions[] = {{"supported", supported, METH_NOARGS, NULL},
                                   {"shard_end", shard_end, METH_VARARGS, NULL},
                                   {"undecided_len", undecided_len, METH_VARARGS, NULL},
                                   {"encoding_of_bom", encoding_of_bom, METH_O, NULL},
+                                  {"surveyor", surveyor, METH_NOARGS, NULL},
+                                  {"surveyed", surveyed, METH_VARARGS, NULL},
+                                  {"survey", survey, METH_O, NULL},
+                                  {"guess_text", guess_text, METH_O, NULL},
                                   {"check", check, METH_O, NULL},
                                   {"char_count", char_count, METH_VARARGS, NULL},
                                   {"number_of", number_of, METH_VARARGS, NULL},
@@ -1026,9 +1205,15 @@ static PyMethodDef functions[] = {{"supported", supported, METH_NOARGS, NULL},
                                   {"counts", counts, METH_VARARGS, NULL},
                                   {"fault_arrays", fault_arrays, METH_VARARGS, NULL},
                                   {"kind_counts", kind_counts, METH_VARARGS, NULL},
+                                  {"position", position, METH_VARARGS, NULL},
+                                  {"shift", shift, METH_VARARGS, NULL},
                                   {"index", index_pieces, METH_VARARGS, NULL},
                                   {"recoded_len", recoded_len, METH_VARARGS, NULL},
                                   {"recode", recode, METH_VARARGS, NULL},
+                                  {"use_codecs", use_codecs, METH_VARARGS, NULL},
+                                  {"decode_utf8", DECODER(decode_utf8), METH_FASTCALL | METH_KEYWORDS, SIGNATURE("utf8")},
+                                  {"decode_utf16le", DECODER(decode_utf16le), METH_FASTCALL | METH_KEYWORDS, SIGNATURE("utf16le")},
+                                  {"decode_utf16be", DECODER(decode_utf16be), METH_FASTCALL | METH_KEYWORDS, SIGNATURE("utf16be")},
                                   {"decode", decode, METH_VARARGS, NULL},
                                   {"replaced", replaced, METH_VARARGS, NULL},
                                   {"handled", handled, METH_VARARGS, NULL},
@@ -1047,6 +1232,26 @@ static int begin_module(PyObject *module) {
     return 0;
 }
 
+/* (the state is not there before the module is executed) */
+static int traverse_module(PyObject *module, visitproc visit, void *arg) {
+    Codecs *codecs = PyModule_GetState(module);
+    if (codecs != NULL) {
+        Py_VISIT(codecs->decoders);
+        Py_VISIT(codecs->handlers);
+    }
+    return 0;
+}
+
+static int clear_module(PyObject *module) {
+    if (PyModule_GetState(module) != NULL)
+        clear_codecs(PyModule_GetState(module));
+    return 0;
+}
+
+static void free_module(void *module) {
+    clear_module(module);
+}
+
 /* From 3.12 on a module says that each interpreter may load it, also one with a lock of its own. Older ones reject the slot, which
  * they do not know, so there are two definitions; one wheel serves both. (The numbers are those of the stable ABI, whose headers of
  * 3.11 lack them.) */
@@ -1059,8 +1264,8 @@ static PyModuleDef_Slot old_slots[] = {{Py_mod_exec, begin_module}, {0, NULL}};
 static PyModuleDef_Slot new_slots[] = {{Py_mod_exec, begin_module},
                                        {Py_mod_multiple_interpreters, Py_MOD_PER_INTERPRETER_GIL_SUPPORTED},
                                        {0, NULL}};
-static struct PyModuleDef old_module = {PyModuleDef_HEAD_INIT, "_noddychest", NULL, 0, functions, old_slots, NULL, NULL, NULL};
-static struct PyModuleDef new_module = {PyModuleDef_HEAD_INIT, "_noddychest", NULL, 0, functions, new_slots, NULL, NULL, NULL};
+static struct PyModuleDef old_module = {PyModuleDef_HEAD_INIT, "_noddychest", NULL, sizeof(Codecs), functions, old_slots, traverse_module, clear_module, free_module};
+static struct PyModuleDef new_module = {PyModuleDef_HEAD_INIT, "_noddychest", NULL, sizeof(Codecs), functions, new_slots, traverse_module, clear_module, free_module};
 
 PyMODINIT_FUNC PyInit__noddychest(void) {
     return PyModuleDef_Init(version() < 0x030C0000 ? &old_module : &new_module);

@@ -11,7 +11,10 @@
 #define SHORT 64  /* strings up to this length wait one by one */
 #define CLOSE 4   /* after this many faults with fewer bytes between them a chunk is converted as a whole */
 #define CHUNK 512 /* about how many bytes this has */
+#define STRETCH (16 * 1024) /* about how many bytes are converted in one call if each fault becomes U+FFFD */
 #define WIDEST 16 /* the longest replacement of a fault: \xd8\x00 in UTF-16 */
+#define PAIRS 4096 /* how many bytes are looked at, before it is tested whether a pair was found */
+#define COPIED 1024 /* up to this length bytes are copied before they are decoded */
 
 #if !defined(_WIN32)
 /* wchar_t has to hold any character, and then a string may have lone surrogates too. */
@@ -150,8 +153,7 @@ PyObject *decode(PyObject *module, PyObject *args) {
 
 /* ---- as the interpreter's own handlers ---- */
 
-/* What is put in place of a fault: nothing, U+FFFD, its bytes as \xff, or a lone surrogate for each byte, of UTF-8 only. For the last
- * the interpreter's codec is asked: it puts these for all bytes that are in no character, however it divides them into faults. */
+/* What is put in place of a fault: nothing, U+FFFD, its bytes as \xff, or a lone surrogate for each byte, of UTF-8 only. */
 enum Way { IGNORE, REPLACE, BACKSLASH, ESCAPE };
 
 /* Bytes that grow. Their memory comes from malloc, which needs no lock. */
@@ -199,11 +201,8 @@ static void put_ascii(Mending *it, char character) {
     put_bytes(&it->made, unit, it->encoding == NODY_UTF8 ? 1 : 2);
 }
 
-/* Puts the replacement of a fault: put_valid reserved its memory. */
+/* Puts a fault as \xff, or nothing: put_valid reserved its memory. */
 static void put_fault(Mending *it, const uint8_t *fault, size_t len) {
-    static const char *const fffd[] = {"\xEF\xBF\xBD", "\xFD\xFF", "\xFF\xFD"};
-    if (it->way == REPLACE)
-        put_bytes(&it->made, fffd[it->encoding], it->encoding == NODY_UTF8 ? 3 : 2);
     for (size_t i = 0; i < len && it->way == BACKSLASH; i++) {
         put_ascii(it, '\\');
         put_ascii(it, 'x');
@@ -230,6 +229,18 @@ static size_t same_bytes(const uint8_t *bytes, size_t len, const uint8_t *text, 
     return size;
 }
 
+/* Puts bytes with U+FFFD for each fault, as the library converts an encoding to itself. Returns 0 without memory. */
+static int put_replaced(Mending *it, const uint8_t *bytes, size_t len) {
+    for (size_t part, written; len > 0; bytes += part, len -= part) {
+        part = nody_boundary_before(it->encoding, bytes, len, STRETCH);
+        if (!has_room(&it->made, nody_recoded_len_max(it->encoding, it->encoding, part)))
+            return 0;
+        nody_recode(it->encoding, it->encoding, bytes, part, it->made.bytes + it->made.len, it->made.room - it->made.len, &written);
+        it->made.len += written;
+    }
+    return 1;
+}
+
 /* Puts a chunk of UTF-8; `end` gets its end. */
 static int put_chunk(Mending *it, size_t begin, size_t *end) {
     const uint8_t *bytes = it->bytes + begin;
@@ -237,8 +248,6 @@ static int put_chunk(Mending *it, size_t begin, size_t *end) {
     size_t len = nody_boundary_before(it->encoding, bytes, it->len - begin, CHUNK), size, at = 0;
     nody_recode(it->encoding, it->encoding, bytes, len, text, sizeof text, &size);
     *end = begin + len;
-    if (it->way == REPLACE)
-        return put_valid(it, text, size);
     for (size_t i = 0; i < size; at += 1, i += 3) {
         size_t same = same_bytes(bytes + at, len - at, text + i, size - i);
         if (!put_valid(it, text + i, same))
@@ -253,6 +262,8 @@ static int put_chunk(Mending *it, size_t begin, size_t *end) {
 /* Puts all bytes, of which the first are known to be valid. Returns 0 without memory. */
 static int mend(Mending *it, size_t valid) {
     size_t at = 0, close = 0, fault;
+    if (it->way == REPLACE)
+        return put_valid(it, it->bytes, valid) && put_replaced(it, it->bytes + valid, it->len - valid);
     while (put_valid(it, it->bytes + at, valid)) {
         at += valid;
         if (at == it->len)
@@ -270,12 +281,37 @@ static int mend(Mending *it, size_t valid) {
 
 static PyObject *mended(Mending *it, size_t valid) {
     PyThreadState *thread = let_lock_go(it->len);
-    int is_made = has_room(&it->made, it->len + it->len / 16 + WIDEST) && mend(it, valid);
+    size_t more = it->way == REPLACE ? nody_recoded_len_max(it->encoding, it->encoding, it->len < STRETCH ? it->len : STRETCH) : WIDEST;
+    int is_made = has_room(&it->made, it->len + it->len / 16 + more) && mend(it, valid);
     PyObject *text;
     take_lock(thread);
     text = is_made ? text_of(it->encoding, it->made.bytes, it->made.len) : PyErr_NoMemory();
     free(it->made.bytes);
     return text;
+}
+
+/* Whether a first byte of a character of UTF-8 is followed by a continuation byte. If none is, all faults have one byte in every decoder. */
+static int has_pair(const uint8_t *bytes, size_t len) {
+    uint8_t found = 0;
+    for (size_t at = 0; at + 1 < len && !found; at += PAIRS) {
+        size_t count = len - at - 1 < PAIRS ? len - at - 1 : PAIRS;
+        for (size_t i = 0; i < count; i++) /* (without a test of `found`, so it is done in vectors) */
+            found |= (uint8_t)((bytes[at + i] >= 0xC2) & ((bytes[at + i + 1] & 0xC0) == 0x80));
+    }
+    return found;
+}
+
+/* Whether the interpreter's own codec makes the same text: that takes less time. It drops the same bytes, however it divides them into
+ * faults. */
+static int is_own(const Mending *it, size_t valid) {
+    if (it->encoding != NODY_UTF8 || it->way == BACKSLASH)
+        return 0;
+    return it->way != REPLACE || !has_pair(it->bytes + valid, it->len - valid);
+}
+
+static PyObject *own_text(const Mending *it) {
+    static const char *const names[] = {"ignore", "replace", "backslashreplace", "surrogateescape"};
+    return PyUnicode_DecodeUTF8((const char *)it->bytes, (Py_ssize_t)it->len, names[it->way]);
 }
 
 /* replaced(encoding, source, valid, end, way): the text of source[:end] with each fault put in a way; its first bytes are known to be valid. */
@@ -292,7 +328,139 @@ PyObject *replaced(PyObject *module, PyObject *args) {
         return NULL;
     it.way = (enum Way)way;
     it.bytes = (const uint8_t *)PyBytes_AsString(source), it.len = (size_t)end;
-    return it.way == ESCAPE ? PyUnicode_DecodeUTF8(PyBytes_AsString(source), end, "surrogateescape") : mended(&it, (size_t)valid);
+    return is_own(&it, (size_t)valid) ? own_text(&it) : mended(&it, (size_t)valid);
+}
+
+/* ---- the decoders of the codecs: few calls for short text, and else those of _codecs.py ---- */
+
+/* The way of an error handler; -1 of one that has to be asked, or if it is not there. */
+static int way_of(const Codecs *codecs, PyObject *errors) {
+    const char *name = errors != NULL && PyUnicode_Check(errors) ? PyUnicode_AsUTF8AndSize(errors, NULL) : NULL;
+    PyObject *handler = name == NULL || codecs->handlers == NULL ? NULL : PyCodec_LookupError(name);
+    int way = -1;
+    for (int i = IGNORE; i <= ESCAPE && handler != NULL; i++)
+        if (handler != Py_None && PyTuple_GetItem(codecs->handlers, i) == handler)
+            way = i;
+    Py_XDECREF(handler);
+    PyErr_Clear();
+    return way;
+}
+
+/* The text of bytes whose first ones are valid, unless a handler has to be asked about the others: then NULL without an error. */
+static PyObject *text_unasked(const Codecs *codecs, Mending *it, size_t valid, PyObject *errors) {
+    int way = valid == it->len ? -1 : way_of(codecs, errors);
+    if (valid == it->len)
+        return text_of(it->encoding, it->bytes, it->len);
+    it->way = (enum Way)way;
+    if (way < 0 || (way == ESCAPE && it->encoding != NODY_UTF8))
+        return NULL;
+    return is_own(it, valid) ? own_text(it) : it->len <= COPIED ? mended(it, valid) : NULL;
+}
+
+/* The text of a view. Short bytes are copied first, as somebody may change them meanwhile; of long ones only what is validated. */
+static PyObject *quick_text(const Codecs *codecs, nody_encoding_t encoding, const Py_buffer *view, PyObject *errors) {
+    uint8_t copy[COPIED];
+    size_t len = (size_t)view->len;
+    Mending it = {encoding, IGNORE, view->buf, len, {NULL, 0, 0}};
+    Window window;
+    Fault fault;
+    if (len <= COPIED) {
+        if (len > 0)
+            memcpy(copy, view->buf, len);
+        it.bytes = copy;
+        return text_unasked(codecs, &it, valid_up_to(encoding, copy, len), errors);
+    }
+    if (!open_window(&window, view))
+        return NULL;
+    fault = first_fault(&window, STREAMED, encoding, view);
+    close_window(&window);
+    return text_unasked(codecs, &it, fault.at, errors);
+}
+
+static PyObject *text_and_length(PyObject *text, Py_ssize_t len) {
+    PyObject *made = PyTuple_New(2), *length = made == NULL ? NULL : PyLong_FromSsize_t(len);
+    if (length == NULL) {
+        Py_XDECREF(made);
+        Py_DECREF(text);
+        return NULL;
+    }
+    PyTuple_SetItem(made, 0, text);
+    PyTuple_SetItem(made, 1, length);
+    return made;
+}
+
+/* The decoder of _codecs.py, with the arguments of a call; with `source` in place of its data, if that is given. */
+static PyObject *slow(const Codecs *codecs, nody_encoding_t encoding, PyObject *source, PyObject *const *args, Py_ssize_t count, PyObject *names) {
+    Py_ssize_t named = names == NULL ? 0 : PyTuple_Size(names);
+    PyObject *all = PyTuple_New(count), *others = PyDict_New(), *made = NULL;
+    int is_filled = all != NULL && others != NULL;
+    for (Py_ssize_t i = 0; i < count && is_filled; i++)
+        is_filled = PyTuple_SetItem(all, i, Py_NewRef(i == 0 && source != NULL ? source : args[i])) == 0;
+    for (Py_ssize_t i = 0; i < named && is_filled; i++)
+        is_filled = PyDict_SetItem(others, PyTuple_GetItem(names, i), args[count + i]) == 0;
+    if (is_filled)
+        made = PyObject_Call(PyTuple_GetItem(codecs->decoders, encoding), all, others);
+    Py_XDECREF(all);
+    Py_XDECREF(others);
+    return made;
+}
+
+static PyObject *decode_whole(PyObject *module, nody_encoding_t encoding, PyObject *const *args, Py_ssize_t count, PyObject *names) {
+    const Codecs *codecs = PyModule_GetState(module);
+    PyObject *errors = count == 2 ? args[1] : NULL, *text = NULL, *source = NULL, *made = NULL;
+    Py_buffer view;
+    Py_ssize_t len = 0;
+    int is_plain = names == NULL && (count == 1 || (count == 2 && PyUnicode_Check(errors))) && PyObject_CheckBuffer(args[0]);
+    if (is_plain && PyObject_GetBuffer(args[0], &view, PyBUF_SIMPLE) == 0) {
+        len = view.len;
+        text = quick_text(codecs, encoding, &view, errors);
+        if (text == NULL && !PyErr_Occurred())
+            source = bytes_of(args[0], &view); /* (another view of the object may have other bytes) */
+        PyBuffer_Release(&view);
+    }
+    if (text != NULL)
+        return text_and_length(text, len);
+    if (codecs->decoders == NULL && !PyErr_Occurred())
+        PyErr_SetString(PyExc_RuntimeError, "noddychest._codecs is not imported");
+    if (!PyErr_Occurred())
+        made = slow(codecs, encoding, source, args, count, names);
+    Py_XDECREF(source);
+    return made;
+}
+
+PyObject *decode_utf8(PyObject *module, PyObject *const *args, Py_ssize_t count, PyObject *names) {
+    return decode_whole(module, NODY_UTF8, args, count, names);
+}
+
+PyObject *decode_utf16le(PyObject *module, PyObject *const *args, Py_ssize_t count, PyObject *names) {
+    return decode_whole(module, NODY_UTF16LE, args, count, names);
+}
+
+PyObject *decode_utf16be(PyObject *module, PyObject *const *args, Py_ssize_t count, PyObject *names) {
+    return decode_whole(module, NODY_UTF16BE, args, count, names);
+}
+
+/* use_codecs(decoders, handlers): the decoders of _codecs.py, by encoding, and the interpreter's own error handlers, by their way, None of
+ * one that is not there. */
+PyObject *use_codecs(PyObject *module, PyObject *args) {
+    Codecs *codecs = PyModule_GetState(module);
+    PyObject *decoders, *handlers;
+    if (!PyArg_ParseTuple(args, "O!O!:use_codecs", &PyTuple_Type, &decoders, &PyTuple_Type, &handlers))
+        return NULL;
+    if (PyTuple_Size(decoders) != NODY_UTF16BE + 1 || PyTuple_Size(handlers) != ESCAPE + 1) {
+        PyErr_SetString(PyExc_ValueError, "there are three decoders and four handlers");
+        return NULL;
+    }
+    clear_codecs(codecs);
+    codecs->decoders = Py_NewRef(decoders), codecs->handlers = Py_NewRef(handlers);
+    return Py_NewRef(Py_None);
+}
+
+void clear_codecs(Codecs *codecs) {
+    PyObject *decoders = codecs->decoders, *handlers = codecs->handlers;
+    codecs->decoders = codecs->handlers = NULL;
+    Py_XDECREF(decoders);
+    Py_XDECREF(handlers);
 }
 
 /* ---- handlers that are asked ---- */

@@ -83,6 +83,25 @@ static PyObject *character(Maker *maker, uint32_t scalar) {
     return Py_NewRef(it->string);
 }
 
+/* Puts the length and the error of a piece at an index of a tuple, which may have them still. The tuple may be taken back later. */
+static PyObject *finished(Maker *maker, PyObject *tuple, int at, nody_piece_t piece) {
+    int turn = maker->turn, fresh = tuple != maker->given[turn];
+    if (fresh || piece.len != maker->lens[turn] || piece.kind != maker->kinds[turn]) {
+        PyTuple_SetItem(tuple, at, Py_NewRef(maker->lengths[piece.len]));
+        PyTuple_SetItem(tuple, at + 1, Py_NewRef(PyTuple_GetItem(maker->errors, piece.kind)));
+        maker->lens[turn] = piece.len;
+        maker->kinds[turn] = piece.kind;
+    }
+    if (!fresh)
+        return Py_NewRef(tuple);
+    PyObject_GC_UnTrack(tuple); /* nothing in a piece leads back to it; a list of a million is then no work for the collector */
+    if (takes_back()) {
+        Py_XDECREF(maker->given[turn]);
+        maker->given[turn] = Py_NewRef(tuple);
+    }
+    return tuple;
+}
+
 PyObject *make_piece(Maker *maker, size_t offset, nody_piece_t piece) {
     int turn = maker->turn ^= 1;
     PyObject **given = &maker->given[turn], *place, *it, *tuple;
@@ -98,18 +117,23 @@ PyObject *make_piece(Maker *maker, size_t offset, nody_piece_t piece) {
     }
     PyTuple_SetItem(tuple, 0, place);
     PyTuple_SetItem(tuple, 1, it);
-    if (fresh || piece.len != maker->lens[turn] || piece.kind != maker->kinds[turn]) {
-        PyTuple_SetItem(tuple, 2, Py_NewRef(maker->lengths[piece.len]));
-        PyTuple_SetItem(tuple, 3, Py_NewRef(PyTuple_GetItem(maker->errors, piece.kind)));
-        maker->lens[turn] = piece.len;
-        maker->kinds[turn] = piece.kind;
+    return finished(maker, tuple, 2, piece);
+}
+
+PyObject *make_located(Maker *maker, uint64_t offset, nody_piece_t piece, const nody_position_t *position) {
+    int turn = maker->turn ^= 1;
+    uint64_t values[] = {offset, position->line, position->column, position->byte_column};
+    PyObject *given = maker->given[turn], *numbers[4], *tuple;
+    int fresh = given == NULL || Py_REFCNT(given) != 1, made = 0;
+    /* (the tuple is made last, as above) */
+    while (made < 4 && (numbers[made] = PyLong_FromUnsignedLongLong(values[made])) != NULL)
+        made++;
+    tuple = made < 4 ? NULL : fresh ? PyType_GenericAlloc((PyTypeObject *)maker->type, 6) : given;
+    for (int i = 0; i < made; i++) {
+        if (tuple == NULL)
+            Py_DECREF(numbers[i]);
+        else
+            PyTuple_SetItem(tuple, i, numbers[i]);
     }
-    if (!fresh)
-        return Py_NewRef(tuple);
-    PyObject_GC_UnTrack(tuple); /* nothing in a piece leads back to it; a list of a million is then no work for the collector */
-    if (takes_back()) {
-        Py_XDECREF(*given);
-        *given = Py_NewRef(tuple);
-    }
-    return tuple;
+    return tuple == NULL ? NULL : finished(maker, tuple, 4, piece);
 }

@@ -30,6 +30,9 @@ void maker_end(Maker *maker);
 /* Returns NULL if it fails, before any other code has run: the caller puts the piece back, and nothing is lost. */
 PyObject *make_piece(Maker *maker, size_t offset, nody_piece_t piece);
 
+/* A fault with its position: a tuple of six. All pieces of a maker have their position, or none has. */
+PyObject *make_located(Maker *maker, uint64_t offset, nody_piece_t piece, const nody_position_t *position);
+
 /* ---- iterators over pieces ---- */
 
 /* How each of them begins. */

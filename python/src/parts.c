@@ -13,9 +13,9 @@
 #define HELD 3    /* the bytes that are held, at most */
 #define READ_AT_ONCE (1 << 16) /* the bytes that a file is asked for */
 
-/* What a part is asked for: its pieces, only its faults, or what ends the input; before it is, nothing. The numbers are those of the
- * package. */
-enum Asked { NOTHING, PIECES, FAULTS, LAST };
+/* What a part is asked for: its pieces, only its faults, or what ends the input; before it is, nothing. A stream may also be asked for
+ * faults with their positions. The numbers are those of the package. */
+enum Asked { NOTHING, PIECES, FAULTS, LAST, LOCATED };
 
 /* The pieces of a part. They are put into the block many at a time. */
 typedef struct {
@@ -28,12 +28,16 @@ typedef struct {
     char busy;     /* 1 while a call goes on: it lets the lock go */
     nody_located_t *block;
     size_t room, at, count;
+    nody_position_t *places; /* of the faults in the block; NULL if they are not wanted */
+    nody_position_t position;
+    uint64_t passed; /* the offset up to which the position has passed the input */
 } Part;
 
 static void part_dealloc(PyObject *object) {
     Part *self = (Part *)object;
     close_window(&self->window);
     PyMem_Free(self->block);
+    PyMem_Free(self->places);
     reader_dealloc(object);
 }
 
@@ -105,6 +109,13 @@ static int make_block(Part *self, enum Asked asked, size_t len) {
     return self->block != NULL;
 }
 
+static int make_places(Part *self) {
+    self->places = PyMem_Malloc(self->room * sizeof *self->places);
+    if (self->places == NULL)
+        PyErr_NoMemory();
+    return self->places != NULL;
+}
+
 /* begin(asked, offset, held): begins the part with the state after the parts before. Returns the state after this one: an offset and bytes. */
 static PyObject *part_begin(PyObject *object, PyObject *args) {
     Part *self = (Part *)object;
@@ -131,16 +142,44 @@ static PyObject *part_begin(PyObject *object, PyObject *args) {
     return Py_BuildValue("Ky#", (unsigned long long)left.offset, (const char *)left.held, (Py_ssize_t)left.count);
 }
 
+/* Advances the position to an offset. The bytes up to it are those that the decoder held before, and then those that it was fed. */
+static void pass(Part *self, const nody_decoder_t *before, const uint8_t *fed, uint64_t to) {
+    size_t from = (size_t)(self->passed - before->offset), end = (size_t)(to - before->offset), held = end < before->count ? end : before->count;
+    if (from < held)
+        nody_position_advance(&self->position, before->encoding, before->held + from, held - from);
+    if (from < held)
+        from = held;
+    if (from < end)
+        nody_position_advance(&self->position, before->encoding, fed + (from - before->count), end - from);
+    self->passed = to;
+}
+
+/* Finds the positions of the faults that the decoder gave, and passes all that it holds no more. */
+static void locate(Part *self, const nody_decoder_t *before, const uint8_t *fed, size_t count) {
+    if (self->places == NULL)
+        return;
+    for (size_t i = 0; i < count; i++) {
+        pass(self, before, fed, self->block[i].offset);
+        self->places[i] = self->position;
+    }
+    pass(self, before, fed, self->decoder.offset);
+}
+
 /* Reads on from a copy: the bytes may be changed by others. */
 static size_t next_pieces(Part *self) {
+    nody_decoder_t before = self->decoder;
     uint8_t copy[4 * BLOCK];
     size_t left = (size_t)self->view.len - self->read, len = left < sizeof copy ? left : sizeof copy, read, count;
     if (len > 0)
         memcpy(copy, (const uint8_t *)self->view.buf + self->read, len);
     count = fed(&self->decoder, copy, len, self->block, self->room, &read);
     self->read += read;
-    if (count == 0 && self->asked == LAST)
+    locate(self, &before, copy, count);
+    if (count == 0 && self->asked == LAST) {
+        before = self->decoder;
         nody_decoder_finish(&self->decoder, self->block, self->room, &count);
+        locate(self, &before, copy, count);
+    }
     return count;
 }
 
@@ -149,11 +188,13 @@ static size_t next_faults(Part *self) {
     size_t len = (size_t)self->view.len, read, count = 0;
     PyThreadState *thread = let_lock_go(len - self->read);
     while (count == 0 && self->read < len) {
+        nody_decoder_t before = self->decoder;
         if (self->seen == self->window.len) {
             next_window(&self->window, self->decoder.encoding, (const uint8_t *)self->view.buf + self->read, len - self->read);
             self->seen = 0;
         }
         nody_decoder_feed_faults(&self->decoder, self->window.bytes + self->seen, self->window.len - self->seen, self->block, self->room, &read, &count);
+        locate(self, &before, self->window.bytes + self->seen, count);
         self->seen += read, self->read += read;
     }
     take_lock(thread);
@@ -171,7 +212,8 @@ static PyObject *next_made(Part *self) {
     }
     if (self->at == self->count)
         return NULL;
-    made = make_piece(&self->maker, it->offset, (nody_piece_t){it->len, it->scalar, it->kind});
+    made = self->places != NULL ? make_located(&self->maker, it->offset, (nody_piece_t){it->len, it->scalar, it->kind}, self->places + self->at)
+                                : make_piece(&self->maker, it->offset, (nody_piece_t){it->len, it->scalar, it->kind});
     self->at += made != NULL;
     return made;
 }
@@ -261,9 +303,11 @@ static PyObject *stream_new(PyTypeObject *type, PyObject *args, PyObject *names)
     if (self == NULL)
         return NULL;
     self->part.decoder = nody_decoder(encoding);
-    self->each = asked == FAULTS ? FAULTS : PIECES;
+    self->each = asked == FAULTS || asked == LOCATED ? FAULTS : PIECES;
+    self->part.position = nody_position();
     self->by_mark = number == Py_None;
-    if (!take_parts(self, parts) || !maker_begin(&self->part.maker, pieces, errors) || !make_block(&self->part, self->each, BLOCK)) {
+    if (!take_parts(self, parts) || !maker_begin(&self->part.maker, pieces, errors) || !make_block(&self->part, self->each, BLOCK) ||
+        (asked == LOCATED && !make_places(&self->part))) {
         Py_DECREF(self);
         return NULL;
     }

@@ -4,7 +4,6 @@
 #include <stdlib.h>
 #include <string.h>
 
-#define LARGE (64 * 1024)  /* from here on other threads run */
 #define WINDOW (32 * 1024) /* the bytes of one copy */
 #define AHEAD 4            /* more bytes that are copied, to see what a fault at the end of a window is */
 
@@ -186,12 +185,19 @@ Fault first_fault(Window *window, enum Reader reader, nody_encoding_t encoding, 
 
 int open_search(Search *search, enum Reader reader, nody_encoding_t encoding, const Py_buffer *view) {
     memset(search, 0, sizeof *search);
-    search->encoding = encoding, search->reader = reader;
+    search->encoding = encoding, search->reader = reader, search->position = nody_position();
     search->bytes = view->buf, search->len = (size_t)view->len;
     if (!open_window(&search->window, view))
         return 0;
     search->window.most = SKIPPED;
     return 1;
+}
+
+/* Advances the position, if it is wanted, to a place in the window. */
+static void pass(Search *search, size_t at) {
+    if (search->has_position && search->passed < at)
+        nody_position_advance(&search->position, search->encoding, search->window.bytes + search->passed, at - search->passed);
+    search->passed = at;
 }
 
 nody_piece_t next_in_window(Search *search, size_t *offset) {
@@ -203,6 +209,7 @@ nody_piece_t next_in_window(Search *search, size_t *offset) {
         return piece;
     piece = named(search->reader, search->encoding, window->bytes + search->at, window->seen - search->at);
     *offset = search->begin + search->at;
+    pass(search, search->at);
     search->at += piece.len;
     return piece;
 }
@@ -210,7 +217,8 @@ nody_piece_t next_in_window(Search *search, size_t *offset) {
 nody_piece_t next_found(Search *search, size_t *offset) {
     nody_piece_t piece = next_in_window(search, offset);
     while (piece.kind == NODY_KIND_NONE && search->begin + search->window.len < search->len) {
-        search->begin += search->window.len, search->at = 0;
+        pass(search, search->window.len);
+        search->begin += search->window.len, search->at = search->passed = 0;
         next_window(&search->window, search->encoding, search->bytes + search->begin, search->len - search->begin);
         piece = next_in_window(search, offset);
     }

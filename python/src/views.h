@@ -34,6 +34,7 @@ void plain_dealloc(PyObject *self);
 /* ---- the interpreter's lock ---- */
 
 /* Lets other threads run, if a call over `len` bytes takes long enough. Pass the result to take_lock. */
+#define LARGE (64 * 1024) /* from here on other threads run */
 PyThreadState *let_lock_go(size_t len);
 void take_lock(PyThreadState *thread);
 
@@ -102,6 +103,9 @@ typedef struct {
     Window window;
     size_t begin; /* where the window begins */
     size_t at;    /* how far it was read */
+    char has_position;        /* 1 if the position of each fault is wanted */
+    size_t passed;            /* how many bytes of the window the position has passed */
+    nody_position_t position; /* of the fault that was found last */
 } Search;
 
 /* Returns 0 with a MemoryError if there is no memory for the copies. The window is closed by the caller. */
@@ -122,6 +126,16 @@ static inline uint16_t unit_at(nody_encoding_t encoding, const uint8_t *bytes) {
 
 /* ---- what decoding.c has ---- */
 
+/* What the module keeps for the codecs: see use_codecs. */
+typedef struct {
+    PyObject *decoders, *handlers;
+} Codecs;
+
+void clear_codecs(Codecs *codecs);
+PyObject *use_codecs(PyObject *module, PyObject *args);
+PyObject *decode_utf8(PyObject *module, PyObject *const *args, Py_ssize_t count, PyObject *names);
+PyObject *decode_utf16le(PyObject *module, PyObject *const *args, Py_ssize_t count, PyObject *names);
+PyObject *decode_utf16be(PyObject *module, PyObject *const *args, Py_ssize_t count, PyObject *names);
 PyObject *decode(PyObject *module, PyObject *args);
 PyObject *replaced(PyObject *module, PyObject *args);
 PyObject *handled(PyObject *module, PyObject *args);

@@ -48,6 +48,10 @@ def inputs(count, longest, seed=1):
         yield bytes(data)
 
 
+# About a million bytes each, of which at least half are invalid.
+DENSE = [bytes(range(128, 256)) * 8000, b"\xff" * 1_000_000, b"a\x80" * 500_000, b"\xed\xa0\x80" * 333_333]
+
+
 def damaged(line, every, size):
     """Text of about `size` bytes, of which every `every`th is invalid."""
     text = line * (size // len(line) + 1)

@@ -6,7 +6,7 @@ import tempfile
 import unittest
 
 import noddychest
-from noddychest import (Decoder, Ends, Recoder, boundary_before, changed_range, char_count, encoding_of_bom, faults, first_fault, is_valid,
+from noddychest import (Decoder, Ends, Recoder, Surveyor, boundary_before, changed_range, char_count, decode, encoding_of_bom, faults, first_fault, is_valid,
                         number_of, offset_of, pieces, recode, recoded_len, undecided_len)
 
 CALLS = [
@@ -23,11 +23,15 @@ CALLS = [
     undecided_len,
     lambda data: undecided_len(data, "utf16be"),
     encoding_of_bom,
+    Surveyor().feed,
     lambda data: faults(data, "utf16le"),
     lambda data: pieces(data, "utf16be"),
     lambda data: Ends(data, "utf16be"),
     lambda data: recoded_len(data, "utf8", "utf16be"),
     lambda data: recode(data, "utf8", "utf8", "lossy"),
+    lambda data: recode(data, "utf8", "utf8", "windows-1252"),
+    lambda data: recode(data, "utf8", "utf16be", chr),
+    decode,
     lambda data: recode(data, "utf8", "utf16le"),
     lambda data: recode(data, "utf16le", "utf8", "strict"),
     Recoder("utf8", "utf8").feed,
@@ -57,6 +61,7 @@ class BytesLike(unittest.TestCase):
                     self.assertEqual((offset_of(it, 4), number_of(it, 4), changed_range(it, 7, 8)), (6, 3, (4, 11)))
                     self.assertEqual(recode(it, "utf8", "utf16be"), recode(data, "utf8", "utf16be"))
                     self.assertEqual(Recoder("utf8", "utf8").feed(it), Recoder("utf8", "utf8").feed(data))
+                    self.assertEqual(decode(it, errors="latin-1"), "Größe: 4 €ÿ")
                     self.assertRaises(noddychest.FaultError, recode, it, "utf8", "utf16be", "strict")
             mapped.close()
 

@@ -1,4 +1,5 @@
 """The codecs: decoding with each error handler, encoding, in parts, as streams, and every split."""
+import array
 import codecs
 import copy
 import io
@@ -9,7 +10,6 @@ import random
 import subprocess
 import sys
 import tempfile
-import time
 import unittest
 
 import noddychest
@@ -337,16 +337,13 @@ class Offsets(unittest.TestCase):
 
 
 class OwnHandlers(unittest.TestCase):
-    """The interpreter's own handlers are not asked fault by fault. The text is the same, and it takes at most three times as long as
-    with the interpreter's codec."""
-
-    INVALID = [bytes(range(128, 256)) * 8000, b"\xff" * 1_000_000, b"a\x80" * 500_000, b"\xed\xa0\x80" * 333_333]
+    """The interpreter's own handlers are not asked fault by fault. The text is the same."""
 
     def test_as_asked(self):
         for errors in ("ignore", "replace", "backslashreplace", "surrogateescape"):
             own = codecs.lookup_error(errors)
             codecs.register_error("noddychest.asked", lambda error: own(error))
-            for data in [*outside.inputs(4000, 30, seed=23), *(it[:3001] for it in self.INVALID), *self.mixed()]:
+            for data in [*outside.inputs(4000, 30, seed=23), *(it[:3001] for it in outside.DENSE), *self.mixed()]:
                 for name in outside.CODECS:
                     self.assertEqual(told(data, name, errors), told(data, name, "noddychest.asked"), (data[:50], name, errors))
 
@@ -370,33 +367,36 @@ class OwnHandlers(unittest.TestCase):
         codecs.register_error("noddychest.renamed", own)
         self.assertEqual(b"a\xff\xff".decode("noddychest-utf8", "noddychest.renamed"), "a")
 
-    def test_time(self):
-        for data in self.INVALID:
-            for errors in ("ignore", "replace", "backslashreplace", "surrogateescape", "noddychest.count"):
-                self.check_time(data, errors)
 
-    def test_time_of_sparse_faults(self):
-        for line in ("the quick brown fox ", "съешь же ещё ", "我能吞下玻璃", "Größe 漢字 😀 and words "):
-            for every in (2, 4, 10, 30, 100, 1000, 10_000):
-                data = outside.damaged(line.encode(), every, 300_000)
-                for errors in ("ignore", "replace", "backslashreplace", "surrogateescape"):
-                    self.check_time(data, errors)
+class DecodersOfAll(unittest.TestCase):
+    """What codecs.getdecoder returns, which decodes without a call of Python's where no handler has to be asked."""
 
-    def check_time(self, data, errors):
-        ratios = []
-        while len(ratios) < 8 and (not ratios or min(ratios) > 3):
-            ratios.append(taken(data, "noddychest-utf8", errors) / taken(data, "utf-8", errors))
-        self.assertLessEqual(min(ratios), 3, (data[:20], errors))
+    def test_arguments(self):
+        for name, theirs in outside.CODECS.items():
+            decode, data = codecs.getdecoder(name), "aé€😀".encode(theirs)
+            for given in (data, bytearray(data), memoryview(data), type("Mine", (bytes,), {})(data), array.array("B", data)):
+                for made in (decode(given), decode(given, "strict"), decode(given, None), decode(input=given), decode(given, errors="ignore")):
+                    self.assertEqual(made, ("aé€😀", len(data)))
+            self.assertEqual(decode(b""), ("", 0))
+            self.assertEqual(decode(array.array("H", data * 2)), (2 * "aé€😀", 2 * len(data)))
+            for wrong in ((), (1,), ("a",), (None,), (data, "strict", 1), (memoryview(data)[::2],)):
+                with self.assertRaises((TypeError, BufferError)):
+                    decode(*wrong)
+            with self.assertRaises(LookupError):
+                decode(data + b"\xff", "noddychest.unknown")
+            self.assertEqual(decode(data, "noddychest.unknown")[0], "aé€😀")
 
-
-def taken(data, encoding, errors):
-    """The fewest seconds of CPU time, of three runs, or of one that is long."""
-    times = []
-    while len(times) < 3 and sum(times) < 0.1:
-        begun = time.process_time()
-        data.decode(encoding, errors)
-        times.append(time.process_time() - begun)
-    return min(times)
+    def test_lengths(self):
+        """On both sides of the lengths from which bytes are not copied, and from which other threads run; each at both ends of a text."""
+        for length in (0, 1, 1023, 1024, 1025, 65535, 65536, 65537, 300_000):
+            for name, theirs in outside.CODECS.items():
+                data = ("a" * length).encode(theirs)
+                self.assertEqual(codecs.getdecoder(name)(data), ("a" * length, len(data)))
+                for bad in (b"\xff\xdf" + data, data + b"\xff\xdf"):
+                    bad = bad if name == "noddychest-utf8" or not name.endswith("be") else bad.replace(b"\xff\xdf", b"\xdf\xff")
+                    self.assertRaises(FaultError, bad.decode, name)
+                    self.assertEqual(bad.decode(name, "ignore"), "a" * length)
+                    self.assertEqual(bad.decode(name, "replace").replace("\ufffd", ""), "a" * length)
 
 
 def told(data, encoding, errors):

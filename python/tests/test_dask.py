@@ -75,6 +75,25 @@ class SameAsOne(OnWorkers):
                     made = nody_dask.recode(self.client, self.path, self.out, form, to, errors=errors, size=size)
                     self.assertEqual((self.read(), made.written), (recode(data, form, to, errors), os.path.getsize(self.out)))
 
+    def test_repair(self):
+        """Workers, which did not import this module, get what was read of a table, once."""
+        data, asked = b"caf\xe9 \xc3\xa9 \xff\n" * 1000, []
+        self.write(data)
+
+        def ask(byte):
+            asked.append(byte)
+            return None if byte == 0xFF else chr(byte)
+
+        for errors, text in (("windows-1252", "café é ÿ\n"), ("ignore", "caf é \n"), ({0xE9: "e", 0xFF: ""}, "cafe é \n"), (ask, "café é \n")):
+            for parts in (False, True):
+                out = self.out + ("-parts" if parts else "")
+                made = self.recode(self.path, out, "utf8", "utf8", errors=errors, parts=parts, size=1500)
+                self.assertEqual(b"".join(map(self.read, self.parts(out))) if parts else self.read(out), text.encode() * 1000)
+                self.assertEqual((made.read, made.written, made.replaced), (len(data), len(text.encode()) * 1000, 2000))
+        self.assertEqual(asked, 2 * list(range(0x80, 0x100)))
+        self.assertRaises(ValueError, self.recode, self.path + "-none", self.out + "-none", "utf8", "utf8", errors={0xFF: "ab"})
+        self.assertFalse(os.path.exists(self.out + "-none"))
+
     def test_a_large_file(self):
         data, seen = mixed(30_000_000), []
         self.write(data)
@@ -204,7 +223,9 @@ class Manifests(OnWorkers):
             self.assertTrue(self.is_kept(out, source, "utf8", "utf16le", **options), out)
             self.assertFalse(self.is_kept(out, source, "utf8", "utf16be", **options), out)
             self.assertTrue(self.is_kept(out, source, "utf8", "utf16be", **options), out)
-            self.assertFalse(self.is_kept(out, source, "utf8", "utf16be", **{**options, "errors": "lossy"}), out)
+            for errors in ("lossy", "windows-1252", {0xFF: "a"}, {0xFF: "b"}):
+                self.assertFalse(self.is_kept(out, source, "utf8", "utf16be", **{**options, "errors": errors}), out)
+            self.assertTrue(self.is_kept(out, source, "utf8", "utf16be", **{**options, "errors": lambda byte: "b" if byte == 0xFF else 0xFFFD}), out)
             self.assertFalse(self.is_kept(out, source, "utf8", "utf16be", **options), out)
             self.assertFalse(self.is_kept(out, source, "utf16le", "utf16be", **options), out)
             self.assertFalse(self.is_kept(out, source, "utf16be", "utf16le", **options), out)

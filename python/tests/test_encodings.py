@@ -1,8 +1,7 @@
-"""Pieces, faults and boundaries of UTF-8 and UTF-16, compared with the interpreter's decoders; and faults at the speed of validation."""
+"""Pieces, faults and boundaries of UTF-8 and UTF-16, compared with the interpreter's decoders."""
 import codecs
 import itertools
 import random
-import time
 import tracemalloc
 import unittest
 
@@ -227,35 +226,9 @@ class Faults(unittest.TestCase):
         self.assertLess(tracemalloc.get_traced_memory()[1], 20_000)
         tracemalloc.stop()
 
-    def test_time(self):
-        """At most 1.1 times validation on valid text, and 1.5 times with a fault every 10 kB."""
-        for line, wrong, most in (("é", 0, 1.1), ("漢 a", 0, 1.1), ("é", 10_000, 1.5), ("漢 a", 10_000, 1.5)):
-            size = 16 << 20 if wrong else 4 << 20
-            valid = (line * size)[:size // len(line.encode())].encode()
-            data, ours, theirs = valid, [], []
-            if wrong:
-                data = bytearray(valid)
-                data[::wrong] = b"\xff" * len(data[::wrong])
-                data = bytes(data)
-            # (in turn, and of both the least: other programs only ever add to one of them. Where the bytes are the same they lie in the same
-            # memory, since memory in larger pages is read faster.)
-            while len(ours) < 1000 and (not ours or min(ours) > most * min(theirs)):
-                ours.append(taken(lambda: sum(1 for _ in faults(data))))
-                theirs.append(taken(lambda: is_valid(valid)))
-            self.assertLessEqual(min(ours) / min(theirs), most, (line, wrong))
-
 
 def near(data):
     return [(piece.offset, piece.error) for piece in pieces(data) if piece.error]
-
-
-def taken(work):
-    times = []
-    for _ in range(3):
-        begun = time.process_time()
-        work()
-        times.append(time.process_time() - begun)
-    return min(times)
 
 
 class RecodedLen(unittest.TestCase):
@@ -326,11 +299,6 @@ class Undecided(unittest.TestCase):
                     rest, offset = rest[decided:], offset + decided
                 found += [(it.offset + offset, it.char, it.length) for it in pieces(rest, form)]
                 self.assertEqual(found, outside.cut(data, FORMS[form]), (data, form))
-
-    def test_long_ones_take_no_longer(self):
-        long = b"a" * 50_000_000 + b"\xe2\x82"
-        self.assertEqual(undecided_len(long), 2)
-        self.assertLess(taken(lambda: undecided_len(long)), 0.001)
 
     def test_what_is_refused(self):
         self.assertRaises(LookupError, undecided_len, b"", "latin-1")

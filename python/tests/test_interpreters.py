@@ -14,6 +14,7 @@ for _ in range(30):
     assert [it.char for it in pieces(b"h\\xc3\\xa9\\xff")] == ["h", "é", None]
     assert recode(b"f\\xcfb", "utf8", "utf16le") == b"f\\0\\xfd\\xffb\\0"
     assert b"a\\xff".decode("noddychest-utf8", "backslashreplace") == "a\\\\xff"
+    assert decode(b"\\x80", errors="windows-1252") == decode(b"\\x80", errors=lambda byte: 0x20AC) == b"\\x80".decode("utf-8", "noddychest.windows-1252") == "€"
     assert first_fault(b"a" * 100_000 + b"\\xff").offset == char_count(b"a" * 100_000)
     recoder = Recoder("utf8", "utf8", "strict")
     recoder.feed(b"\\xc3")

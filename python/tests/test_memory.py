@@ -2,14 +2,16 @@
 import codecs
 import copy
 import gc
+import io
+import pickle
 import random
 import sys
 import tracemalloc
 import unittest
 
-from noddychest import (Decoder, Ends, FaultKind, Piece, Recoder, boundary_before, changed_range, char_count, encoding_of_bom, faults,
-                        first_fault, is_valid, number_of, offset_of, pieces, recode, recoded_len, stream_faults, stream_pieces,
-                        undecided_len)
+from noddychest import (Decoder, Ends, FaultKind, Piece, Recoder, Surveyor, boundary_before, changed_range, char_count, encoding_of_bom, faults,
+                        first_fault, guess, is_valid, number_of, offset_of, pieces, recode, recoded_len, stream_faults, stream_pieces,
+                        survey, undecided_len)
 
 FORMS = {"utf8": "utf-8", "utf16le": "utf-16-le", "utf16be": "utf-16-be"}
 SIZE = 1_200_000
@@ -42,7 +44,7 @@ class Peak(unittest.TestCase):
         return len(made), peak
 
     def check(self, data, form, to):
-        for work in (lambda: recode(data, form, to), lambda: recode(data, form, to, "lossy"), lambda: Recoder(form, to).feed(data)):
+        for work in (lambda: recode(data, form, to), lambda: recode(data, form, to, "lossy"), lambda: recode(data, form, to, "windows-1252"), lambda: Recoder(form, to).feed(data)):
             made, peak = self.peak(work)
             self.assertLessEqual(peak, 1.1 * made + SPARE, (data[:12], len(data), form, to))
 
@@ -99,8 +101,15 @@ CALLS = {
     "numbers": lambda: (offset_of(bytearray(70_000), 69_999), number_of(memoryview(b"a\xff"), 10**30), offset_of(b"a", 10**30), changed_range(bytearray(9), 1, 2)),
     "wrong numbers": failing(lambda: (number_of(bytearray(9), -1))),
     "ends and marks": lambda: (undecided_len(bytearray(b"a\xe2")), encoding_of_bom(b"\xff\xfe"), encoding_of_bom(memoryview(b"a"))),
+    "surveys": lambda: (survey(bytearray(70_000)), guess([b"caf\xc3", bytearray(b"\xa9")]), copy.copy(Surveyor()).survey(), survey(io.BytesIO(b"abc"))),
+    "wrong surveys": failing(lambda: guess([b"a", 1])),
+    "states of surveyors": failing(lambda: Surveyor().__setstate__((b"ab", None))),
     "recode": lambda: (recode(b"\xff" * 100, "utf8", "utf16le"), recode(bytearray(70_000), "utf8", "utf8")),
     "recoded_len": lambda: (recoded_len(b"a", "utf8", "utf8"), recoded_len(bytearray(70_000), "utf8", "utf8")),
+    "repair": lambda: [recode(b"a\xff" * 99, "utf8", "utf8", it) for it in ("ignore", "windows-1252", {0xFF: "€"}, chr, lambda byte: None)],
+    "Recoder with a table": lambda: pickle.loads(pickle.dumps(Recoder("utf8", "utf16le", {0xFF: "€"}))).feed(b"\xff\xe2"),
+    "wrong tables": failing(lambda: recode(bytearray(b"\xff"), "utf8", "utf8", {0xFF: "ab"})),
+    "error handlers": lambda: [b"a\xff".decode(it, "noddychest.windows-1252") for it in ("utf-8", "noddychest-utf8")],
     "Recoder": lambda: (Recoder("utf8", "utf8").feed(b"\xe2"), copy.copy(Recoder("utf8", "utf16le")).feed(bytearray(b"a"))),
     "decode": lambda: [b"a\xff\xe2".decode("noddychest-utf8", it) for it in ("ignore", "replace", "noddychest.leak", "noddychest.other")],
     "in parts": lambda: list(codecs.iterdecode([b"\xe2", b"\x82\xac\xff"], "noddychest-utf8", "backslashreplace")),

@@ -164,7 +164,7 @@ class Refused(InFolder):
         self.write(b"abc")
         for words, kinds in ((("latin-1", "utf8"), LookupError), (("utf8", "latin-1"), LookupError), (("utf8", "utf8", 0), ValueError)):
             self.assertRaises(kinds, parallel.recode, self.path, self.out, *words)
-        self.assertRaises(LookupError, parallel.recode, self.path, self.out, "utf8", "utf8", errors="ignore")
+        self.assertRaises(LookupError, parallel.recode, self.path, self.out, "utf8", "utf8", errors="drop")
         self.assertRaises(ValueError, parallel.recode, bytearray(b"abc"), self.out, "utf8", "utf8", resume=True)
         self.assertRaises(OSError, parallel.recode, self.path + "-none", self.out, "utf8", "utf8")
         self.assertRaises(OSError, parallel.recode, self.path, self.folder, "utf8", "utf8")
@@ -223,6 +223,20 @@ class Refused(InFolder):
         with mock.patch.object(os, "pwrite", full), self.assertRaises(OSError) as raised:
             parallel.recode(self.path, self.out, "utf8", "utf16le", 3)
         self.assertEqual((raised.exception.errno, self.left()), (errno.ENOSPC, []))
+
+    def test_folder_that_cannot_be_read(self):
+        """Nor can it be brought to the disk then. The file has its name already, so that is no failure."""
+        had = os.open
+
+        def unreadable(path, flags, *more, **named):
+            if flags & os.O_DIRECTORY:
+                raise PermissionError(errno.EACCES, "Permission denied", path)
+            return had(path, flags, *more, **named)
+
+        self.write(b"a\xff")
+        with mock.patch.object(os, "open", unreadable):
+            self.assertEqual(parallel.recode(self.path, self.out, "utf8", "utf8"), Recoded(2, 4, 1))
+        self.assertEqual((self.read(), self.left()), (b"a\xef\xbf\xbd", ["out"]))
 
     def test_small_file_system(self):
         place = os.path.join(self.folder, "small")
@@ -328,6 +342,17 @@ class Interrupted(InFolder):
                    "p.recode(sys.argv[1], sys.argv[2], 'utf8', 'utf16le', 3, lambda *it: os.kill(os.getpid(), signal.SIGINT))")
         ran = subprocess.run([sys.executable, "-c", program, self.path, self.out], stderr=subprocess.PIPE, text=True, timeout=60)
         self.assertIn("KeyboardInterrupt", ran.stderr)
+        self.assertEqual(self.left(), [])
+
+    def test_by_the_keyboard_while_a_thread_starts(self):
+        """What is raised is not that such a thread cannot be joined."""
+        class Thread(threading.Thread):
+            def start(self):
+                raise KeyboardInterrupt
+
+        self.write(b"a\xff")
+        with mock.patch.object(threading, "Thread", Thread):
+            self.assertRaises(KeyboardInterrupt, parallel.recode, self.path, self.out, "utf8", "utf8", 2)
         self.assertEqual(self.left(), [])
 
 

@@ -44,6 +44,10 @@ class Program(unittest.TestCase):
             file.write(data)
         return path
 
+    def read(self, name):
+        with open(os.path.join(self.folder, name), "rb") as file:
+            return file.read()
+
     def test_pieces(self):
         self.assertEqual(ran("pieces", given=SAMPLE), (1, LISTING.encode(), ""))
         self.assertEqual(ran("pieces", self.file(SAMPLE)), (1, LISTING.encode(), ""))
@@ -133,6 +137,27 @@ class Program(unittest.TestCase):
                 self.assertEqual(lines, 0)
                 self.assertEqual(out.decode().splitlines(), expected)
 
+    def test_repair(self):
+        """What becomes of the bytes that are not UTF-8 is what they are in Python's codecs."""
+        bytes_, units = b"caf\xe9 \x80\xe2\x82", b"a\0\0\xdc\0"
+        for errors, text, told in (("windows-1252", bytes_.decode("cp1252"), "4 invalid bytes read as Windows-1252"),
+                                   ("latin1", bytes_.decode("latin-1"), "4 invalid bytes read as ISO-8859-1"), ("drop", "caf ", "4 invalid bytes dropped")):
+            for words in ([], ["-o", self.folder + "/out"], ["-o", self.folder + "/out", "--jobs", "2"]):
+                path = self.file(bytes_)
+                status, out, err = ran("recode", "--to", "utf-16be", "--errors", errors, *words, path)
+                made = self.read("out") if words else out
+                self.assertEqual((status, made.decode("utf-16-be"), err), (0, text, f"noddychest: {path}: {told}\n"))
+            self.assertEqual(ran("fix", "--dry-run", "--errors", errors, path)[0], 1)
+            self.assertEqual((ran("fix", "--errors", errors, "--backup", ".old", path), self.read("file"), self.read("file.old")),
+                             ((0, b"", f"noddychest: {path}: {told}\n"), text.encode(), bytes_))
+            self.assertEqual(ran("fix", "--errors", errors, path), (0, b"", ""))
+            os.remove(path + ".old")
+            told, text = ("2 invalid units dropped", "a") if errors == "drop" else ("2 invalid units became U+FFFD", "a\ufffd\ufffd")
+            self.assertEqual(ran("recode", "--from", "utf-16le", "--errors", errors, given=units), (0, text.encode(), f"noddychest: -: {told}\n"))
+        for command in ("fix", "recode"):
+            for wrong in ("ignore", "latin-1", "Windows-1252", "", "table"):
+                self.assertEqual(ran(command, "--errors", wrong, path)[0], 2)
+
     def test_recode(self):
         for errors in ("replace", "lossy"):
             expected = recode(SAMPLE, "utf8", "utf16le", errors)
@@ -165,6 +190,16 @@ class Program(unittest.TestCase):
                       ["check", "--jobs", "0"], ["check", "--jobs", "x"], ["recode", "--from", "utf8", "--to", "utf8", "-o", out]):
             self.assertEqual(ran(*words)[0], 2, words)
 
+    @unittest.skipUnless(os.path.exists("/proc/self/environ"), "there is no /proc")
+    def test_jobs_of_a_file_whose_length_is_not_known(self):
+        """Its length is 0, and it has bytes."""
+        path, out, env = "/proc/self/environ", os.path.join(self.folder, "out"), {**os.environ, "NAME": "caf\udce9"}
+        for words in ([], ["-a", "--max", "0"], ["--json"]):
+            one = ran("check", "--jobs", "1", *words, path, env=env)
+            self.assertEqual((one[0], ran("check", "--jobs", "2", *words, path, env=env)), (1, one))
+        told = f"noddychest: {path}: its length is not known, so it has no shards\n"
+        self.assertEqual((ran("recode", path, "-o", out, env=env), os.listdir(self.folder)), ((3, b"", told), []))
+
     def test_wrong_arguments(self):
         for words in ([], ["nonsense"], ["recode", "--to", "auto"], ["recode", "a", "b"], ["check", "--encoding", "latin-1"], ["recode", "--from", "utf8", "--to", "utf8", "-x"]):
             status, out, err = ran(*words)
@@ -189,6 +224,17 @@ class Program(unittest.TestCase):
         for words in (["check", "--jobs", "2"], ["recode", "--from", "utf8", "--to", "utf8", "--output", self.folder + "/out"]):
             status, out, err = ran(*words, "memory://none", env=dict(os.environ, PYTHONPATH=self.without("fsspec")))
             self.assertEqual((status, out, err), (3, b"", "noddychest: there is no fsspec\n"))
+
+    def test_addresses_that_fail(self):
+        """What fsspec raises may be of any type."""
+        for error in ("ValueError", "LookupError", "OSError", "Exception"):
+            os.makedirs(self.folder + "/fsspec", exist_ok=True)
+            open(self.folder + "/fsspec/__init__.py", "w").close()
+            with open(self.folder + "/fsspec/core.py", "w") as file:
+                file.write(f"def url_to_fs(url):\n    raise {error}('no such protocol')\n")
+            for words in (["check", "--jobs", "2"], ["recode", "-o", self.folder + "/out"], ["recode", "--encoding", "auto", "-o", self.folder + "/out"]):
+                status, out, err = ran(*words, "none://none", env=dict(os.environ, PYTHONPATH=os.pathsep.join([self.folder, *sys.path])))
+                self.assertEqual((status, out, err.replace('"', "").replace("'", "")), (3, b"", "noddychest: no such protocol\n"), (error, words))
 
     def without(self, name):
         """A folder in which a module of this name cannot be imported."""
@@ -285,7 +331,10 @@ class Fix(unittest.TestCase):
             file.write(b"a\xffb")
 
     def fixed_while(self, call, act, *words):
-        """Runs fix, and a line of Python after each call of a function of `os`."""
+        return self.ran_while(call, act, "fix", *words, self.path)
+
+    def ran_while(self, call, act, *words):
+        """Runs the program, and a line of Python after each call of a function of `os`."""
         program = f"""
 import os, signal, sys
 path, had = {self.path!r}, os.{call}
@@ -295,7 +344,7 @@ def called(*given, **named):
     return made
 os.{call} = called
 from noddychest.__main__ import main
-sys.argv[1:] = ["fix", *{[*words, self.path]!r}]
+sys.argv[1:] = {[*words]!r}
 sys.exit(main())
 """
         it = subprocess.run([sys.executable, "-c", program], stdout=subprocess.PIPE, stderr=subprocess.PIPE, timeout=60, preexec_fn=heed_interrupts)
@@ -318,6 +367,42 @@ sys.exit(main())
                 self.assertEqual(self.fixed_while("fsync", act, *words), (3, b"", f"noddychest: {self.path}: {self.CHANGED}"), act)
                 self.assertEqual(self.files(), {"file": left}, (act, words))
 
+    def test_a_file_that_is_written_before_it_is_read_again(self):
+        """The encoding is that of the byte order mark that it had: what others wrote is in another one."""
+        other = "né".encode() * 3 + b"\xff\xd8"
+        for words in ([], ["--dry-run"]):
+            with open(self.path, "wb") as file:
+                file.write("\ufeffa\ud800b".encode("utf-16-le", "surrogatepass"))
+            status, out, err = self.fixed_while("lseek", f"given[2] == os.SEEK_SET and open(path, 'wb').write({other!r})", "--encoding", "auto", *words)
+            self.assertEqual(self.files(), {"file": other})
+            if not words:
+                self.assertEqual((status, out, err), (3, b"", f"noddychest: {self.path}: {self.CHANGED}"))
+
+    def test_parts_of_long_lines(self):
+        """Of a long line --dry-run shows a part, which begins and ends between characters."""
+        for front, back in ((b"", "é" * 5000), (b"a" * 9001, "€" * 5000), (b"\xff" * 9000, "")):
+            with open(self.path, "wb") as file:
+                file.write(front + b"\xff" + back.encode() + b"\n")
+            status, out, _ = ran("fix", "--dry-run", self.path)
+            old, new = out.decode().splitlines()[3:]
+            self.assertEqual((status, old[-1], new[-1]), (1, "…", "…"))
+            self.assertEqual(old[1:].replace("\\xFF", "\ufffd"), new[1:])
+            self.assertNotIn("\\x", new)
+
+    def test_a_source_that_is_gone_when_its_output_is_there(self):
+        """What is said of it is known before: it may be removed meanwhile, or the output may have its name."""
+        out = os.path.join(self.folder, "out")
+        status, _, err = self.ran_while("fsync", "os.path.exists(path) and os.remove(path)", "recode", self.path, "-o", out)
+        self.assertEqual((status, err, self.files()), (0, f"noddychest: {self.path}: 1 invalid byte became U+FFFD\n", {"out": b"a\xef\xbf\xbdb"}))
+        with open(self.path, "wb") as file:
+            file.write("\ufeffa\ud800b".encode("utf-16-le", "surrogatepass"))
+        told = f"noddychest: {self.path}: 1 invalid unit became U+FFFD\n"
+        self.assertEqual(ran("recode", "--encoding", "auto", self.path, "-o", self.path), (0, b"", told))
+
+    def test_a_source_that_is_gone_when_its_error_is_told(self):
+        status, out, err = self.ran_while("remove", "os.path.exists(path) and had(path)", "recode", "--errors", "strict", self.path, "-o", self.path + "new")
+        self.assertEqual((status, out, err), (3, b"", f"noddychest: {self.path}: No such file or directory\n"))
+
     def test_a_file_that_is_removed_meanwhile(self):
         status, out, err = self.fixed_while("fsync", "os.remove(path)")
         self.assertEqual((status, out, err, self.files()), (3, b"", f"noddychest: {self.path}: {self.CHANGED}", {}))
@@ -330,6 +415,17 @@ sys.exit(main())
                 act = f"os.kill(os.getpid(), signal.{name}) if {call!r} != 'open' or '.partial' in str(given[0]) else None"
                 status, out, err = self.fixed_while(call, act, "--backup", ".old")
                 self.assertEqual((status, out, err, self.files()), (-getattr(signal, name), b"", "", {"file": b"a\xffb"}), (call, name))
+
+    def test_signals_together(self):
+        """The first one ends it, and the others do not interrupt that."""
+        them = {signal.SIGTERM, signal.SIGHUP, signal.SIGINT}
+        act = "if '.partial' in str(given): them = {1, 2, 15}; signal.pthread_sigmask(signal.SIG_BLOCK, them); [os.kill(os.getpid(), it) for it in them]; " \
+              "signal.pthread_sigmask(signal.SIG_UNBLOCK, them)"
+        for call in ("open", "replace"):
+            self.setUp()
+            status, out, err = self.fixed_while(call, act, "--backup", ".old")
+            left = {"file": b"a\xffb"} if call == "open" else {"file": b"a\xef\xbf\xbdb", "file.old": b"a\xffb"}
+            self.assertEqual((-status in them, out, err, self.files()), (True, b"", "", left), call)
 
     def test_another_run(self):
         with open(self.path, "rb") as file:
@@ -364,33 +460,33 @@ class Command(unittest.TestCase):
 
 
 class Readme(unittest.TestCase):
-    def test_samples(self):
+    def samples(self):
         path = os.path.join(outside.TOP, "python", "README.md")
         if not os.path.exists(path):
             self.skipTest("README.md is in the repository")
         with open(path, encoding="utf-8") as file:
-            samples = [it.partition("```")[0] for it in file.read().split("```python new\n")[1:]]
+            return [it.partition("```")[0] for it in file.read().split("```python new\n")[1:]]
+
+    def test_samples(self):
         printed = []
-        for sample in samples:
+        for sample in self.samples():
             with tempfile.TemporaryDirectory() as folder:
                 open(os.path.join(folder, "log.txt"), "wb").close()
                 it = subprocess.run([sys.executable, "-c", sample], cwd=folder, stdout=subprocess.PIPE, check=True)
             printed.append(it.stdout.decode().splitlines()[:2])
-        self.assertEqual(printed, [["0 1 h", "1 2 é"], ["0 h", "1 é"], []])
+        self.assertEqual(printed, [["0 1 h", "1 2 é"], [], ["0 h", "1 é"], []])
 
     def test_comments(self):
         """The lines of the samples have the results that their comments name."""
-        path = os.path.join(outside.TOP, "python", "README.md")
-        if not os.path.exists(path):
-            self.skipTest("README.md is in the repository")
-        with open(path, encoding="utf-8") as file:
-            sample = file.read().split("```python new\n")[3].partition("```")[0]
-        given = re.findall(r"^(parallel\.\S.*?) +# (.*)$", sample, re.M)
-        before = sample[:sample.index(given[0][0])]
-        program = before + "".join(f"print({call})\n" for call, _ in given)
-        with tempfile.TemporaryDirectory() as folder:
-            it = subprocess.run([sys.executable, "-c", program], cwd=folder, stdout=subprocess.PIPE, check=True)
-        self.assertEqual(it.stdout.decode().splitlines(), [answer for _, answer in given])
+        for about in ("parallel.recode(", "mixed = "):
+            sample = next(it for it in self.samples() if about in it)
+            given = re.findall(r"^((?:parallel|noddychest|mixed)\.\S.*?) +# (.*)$", sample, re.M)
+            before = sample[:sample.index(given[0][0])]
+            program = before + "".join(f"print(ascii({call}))\n" for call, _ in given)
+            with tempfile.TemporaryDirectory() as folder:
+                it = subprocess.run([sys.executable, "-c", program], cwd=folder, stdout=subprocess.PIPE, check=True)
+            self.assertEqual(it.stdout.decode().splitlines(), [answer.encode("ascii", "backslashreplace").decode() for _, answer in given])
+            self.assertEqual(len(given), 4)
 
 
 if __name__ == "__main__":

@@ -97,7 +97,7 @@ class AtOnce(unittest.TestCase):
             self.assertRaises(LookupError, recode, b"", wrong, "utf8")
             self.assertRaises(LookupError, recode, b"", "utf8", wrong)
         self.assertRaises(LookupError, recode, b"", "utf8", "utf8", "nonsense")
-        self.assertRaises(LookupError, Recoder, "utf8", "utf8", errors="ignore")
+        self.assertRaises(LookupError, Recoder, "utf8", "utf8", errors="drop")
 
     def test_in_threads(self):
         text = "aé€😀" * 50000

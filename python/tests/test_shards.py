@@ -174,6 +174,17 @@ class Sources(unittest.TestCase):
         for path in (os.path.dirname(self.path), "/dev/null", self.path + "-none", self.path + "-pipe"):
             self.assertRaises(OSError, shards, path, 5)
 
+    @unittest.skipUnless(os.path.exists("/proc/self/status"), "there is no /proc")
+    def test_a_length_that_is_not_known(self):
+        """A file in /proc has the length 0, and bytes. A file that is empty has no shards."""
+        count = len(os.listdir("/proc/self/fd"))
+        for call in (lambda path: shards(path, 5), parallel.check, parallel.count, lambda path: parallel.recode(path, self.path + "-out", "utf8", "utf8")):
+            with self.assertRaisesRegex(OSError, "its length is not known"):
+                call("/proc/self/status")
+        self.assertEqual((os.path.exists(self.path + "-out"), len(os.listdir("/proc/self/fd"))), (False, count))
+        self.write(b"")
+        self.assertEqual(shards(self.path, 5), [])
+
     def test_buffers(self):
         data = b"a\xffb\xe2\x82" * 20
         mapped = mmap.mmap(-1, len(data))

@@ -331,7 +331,9 @@ class Eraser(Text):
         while self.text(self.before(first)) == "::":
             first = self.before(self.before(first))
         is_bound = self.text(self.before(first)) in (":", "+", "impl", "dyn") and self.text(after) != "for"
-        if is_bound and not any(it.endswith(f":{self.text(i)}") for it in rules.OWN_TRAITS):
+        own = {it for it in rules.OWN_TRAITS if is_bound and it.endswith(f":{self.text(i)}")}
+        self.project.seen |= own
+        if is_bound and not own:
             self.stop(i, f"any code may implement {self.text(i)}, and break what it promises: make the trait pub(crate)")
 
     def describe(self, left):

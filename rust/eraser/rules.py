@@ -1,7 +1,7 @@
 """What the eraser knows of this project and of Rattle's std. What is in none of these lists stops it."""
 
 # The crates that become modules, each after those that it uses.
-CRATES = ["utf_base", "utf_chars", "encode_unicode", "utf_lanes", "recoding", "text_runs", "text_buffers", "text_parts", "cuts", "c_api"]
+CRATES = ["utf_base", "utf_chars", "encode_unicode", "utf_lanes", "recoding", "surveys", "text_runs", "text_buffers", "text_stream", "text_positions", "cuts", "c_api"]
 
 # The modules that are left out: what the programs do, streams that are counted, and what reads and writes by these need Rattle's runtime.
 LEFT_OUT = {"cuts/programs", "cuts/streams", "cuts/counted", "text_buffers/text_streams", "text_runs/streams", "text_runs/counted"}
@@ -15,13 +15,21 @@ DERIVES = {"Clone", "Copy", "Debug", "Default", "Eq", "Hash", "Ord", "PartialEq"
 DERIVED_ERROR = "thiserror::Error"
 # What Rust's users expect of a type too: these derives take the place of `Drop`.
 DERIVED = {
-    ("text_parts/decoder.rt", "Decoder"): "Clone",
+    ("text_stream/decoder.rt", "Decoder"): "Clone",
+    ("text_positions/position.rt", "Position"): "Clone",
     ("recoding/recoder.rt", "Recoder"): "Clone",
+    ("recoding/held.rt", "Held"): "Clone",
+    ("surveys/guesses.rt", "Guess"): "PartialOrd, Ord, Hash",
+    ("surveys/guess_lists.rt", "Guesses"): "Clone, Copy",
+    ("surveys/survey.rt", "Survey"): "Hash",
+    ("surveys/utf8_counts.rt", "Utf8Counts"): "Hash",
+    ("surveys/unit_counts.rt", "UnitCounts"): "Hash",
     ("text_buffers/buffers/counts.rt", "Counts"): "Default, Hash",
     ("text_buffers/buffers/changes.rt", "Change"): "Default, Hash",
 }
 # Types with public fields to which more may come: a pattern of another crate needs `..`, and only this crate writes all fields.
-NON_EXHAUSTIVE = {("text_buffers/buffers/counts.rt", "Counts"), ("text_buffers/buffers/changes.rt", "Change")}
+NON_EXHAUSTIVE = {("text_buffers/buffers/counts.rt", "Counts"), ("text_buffers/buffers/changes.rt", "Change"), ("surveys/guesses.rt", "Guess"),
+                  ("surveys/survey.rt", "Survey"), ("surveys/utf8_counts.rt", "Utf8Counts"), ("surveys/unit_counts.rt", "UnitCounts")}
 # Macros of std that mean in Rust what they mean in Rattle.
 MACROS = {"assert", "assert_eq", "assert_ne", "debug_assert", "macro_rules", "matches", "panic", "unreachable", "write"}
 
@@ -85,17 +93,17 @@ OWN = {
     "utf_chars/utf16_char.rt": {"eq_char", "eq_utf8", "eq_u8", "eq_u16", "cmp_char", "cmp_utf8", "as_units"},
 }
 
-# Public traits whose methods ask something of their callers: only the proved text calls them, and no hand-written file may name them but to
-# implement them.
-OWN_TRAITS = {"text_parts/located.rt:FromPiece", "text_parts/piece_runs.rt:Kept"}
+# Public traits whose methods ask something of their callers, or promise what proofs depend on: only the proved text calls and implements
+# them, and no hand-written file may name them but to implement them.
+OWN_TRAITS = {"text_stream/located.rt:FromPiece", "text_stream/piece_runs.rt:Kept", "utf_lanes/replacements.rt:Mending"}
 
 # Fields that the hand-written text reads: whether a merger holds a unit.
 OPENED = {"encode_unicode/utf16_merger.rt": ("Utf16CharMerger", "held")}
 
 # What C passes but for slices, as support/c.rs takes it: numbers; what C has filled before; what a call writes; what is left of a slice.
 PASSED = {
-    "u8", "u32", "usize", "& NodyDecoder", "& NodyRecoder", "& mut NodyDecoder", "& mut NodyRecoder", "& mut u8", "& mut u64", "& mut usize",
-    "& mut NodyFault", "& mut & 'static NodyName", "& mut & 'static NodySentence", "& mut NodyBytes < '_ >", "& mut NodyUnits < '_ >",
+    "u8", "u32", "usize", "& NodyDecoder", "& NodyRecoder", "& mut NodyDecoder", "& mut NodyPosition", "& mut NodyRecoder", "& mut u8", "& mut u64", "& mut usize",
+    "& mut NodyFault", "& Survey", "& SurveyorState", "& mut Survey", "& mut SurveyorState", "& mut & 'static NodyName", "& mut & 'static NodySentence", "& mut NodyBytes < '_ >", "& mut NodyUnits < '_ >",
 }
 
 # Functions that give a text, or take one, and ask it for only its bytes (windows.py).
@@ -108,12 +116,12 @@ OF_BOTH = {"utf_chars/utf16_char.rt": ("second == 0", "(first as u32 | (second a
 
 # What goes by lanes: of these files there is a copy for CPUs with AVX2 (wide.py), over the types of all other files.
 WIDE = ("utf_lanes/",) + tuple(f"recoding/{it}.rt" for it in (
-    "ascii_to_utf16", "block_output", "codes", "engine", "fills", "form_calls", "kernels", "list", "output", "recoder_runs", "replacing", "room",
+    "ascii_to_utf16", "block_output", "codes", "engine", "fills", "form_calls", "kernels", "list", "output", "recoder_runs", "room",
     "text", "turned", "utf16_to_utf8", "utf8_to_utf16",
-)) + ("text_runs/runs/piece_counts.rt", "text_parts/runs/fault_lists.rt")
+)) + ("text_runs/runs/piece_counts.rt", "text_stream/runs/fault_lists.rt")
 
-# Of these files the one that has only types: it exists once, and the copy re-exports it.
-ONCE = {"utf_lanes/byte_order.rt"}
+# Of these files those that have only types and traits: they exist once, and the copy re-exports them.
+ONCE = {"utf_lanes/byte_order.rt", "utf_lanes/replacements.rt"}
 
 
 def is_wide(name):
@@ -132,7 +140,7 @@ CHOSEN = {
     "utf_lanes/unit_blocks.rt:units_len": ("bytes.len()", "OTHER::<E>(bytes)"),
     "utf_lanes/paired_units.rt:paired_len": ("units.len()", "OTHER(units)"),
     "text_runs/runs/piece_counts.rt:piece_count": ("bytes.len()", "OTHER(bytes)"),
-    "text_parts/runs/fault_lists.rt:window_faults": ("bytes.len()", "OTHER::<P>(bytes, offset, start, room)"),
+    "text_stream/runs/fault_lists.rt:window_faults": ("bytes.len()", "OTHER::<P>(bytes, offset, start, room)"),
     "recoding/recoder_runs.rt:recode_into": ("bytes.len()", "OTHER(way, from, to, bytes, room, place)"),
     "recoding/recoder_runs.rt:recode_whole": (
         "bytes.len()",

@@ -2,9 +2,9 @@
 //!
 //! [`pieces`] splits any bytes into characters and single invalid bytes, each with its offset, its length and the reason why it is
 //! invalid. From the front, from the end, from both ends or in parts, the split is the same. [`Recoder`] converts between UTF-8 and
-//! both byte orders of UTF-16, and either replaces what is invalid by U+FFFD or stops at it. [`faults`] lists only what is invalid, and
-//! [`Decoder`] splits input that comes in parts. [`encode_unicode`] has the whole API of the crate of that name: characters kept as UTF-8 or
-//! UTF-16, and iterators over any source.
+//! both byte orders of UTF-16, and replaces what is invalid, by U+FFFD or by what a table of [`Repair`] has for it, or stops at it.
+//! [`faults`] lists only what is invalid, and [`Decoder`] splits input that comes in parts. [`encode_unicode`] has the whole API of the
+//! crate of that name: characters kept as UTF-8 or UTF-16, and iterators over any source.
 //!
 //! ```
 //! use noddychest::{pieces, FaultKind};
@@ -29,6 +29,11 @@
 //! An invalid byte is a piece of its own. [`String::from_utf8_lossy`] and browsers take up to three bytes of a truncated character
 //! as one error, so they show fewer U+FFFD for the same input; [`recode_lossy`] and [`Recoder::lossy`] write what they do. Which bytes are
 //! valid is the same.
+//!
+//! # Text with bytes of another encoding in it
+//!
+//! Text that is UTF-8 for the most part often has bytes of Windows-1252 in it. [`Recoder::repair`], [`recode_repaired`] and
+//! [`decode_repaired`] write the characters that these bytes were meant to be, by a table of [`Repair`].
 //!
 //! # What is proved
 //!
@@ -77,6 +82,7 @@ pub mod parallel;
 pub mod parts;
 mod piece;
 mod pieces;
+mod position;
 /// What `scripts/erase` made of the proved text. (It keeps laws, which are functions that do nothing, and what only the programs use.)
 #[cfg_attr(not(noddychest_trusted), path = "proved/checked/mod.rs")]
 #[cfg_attr(noddychest_trusted, path = "proved/trusted/mod.rs")]
@@ -88,8 +94,10 @@ mod proved;
 #[cfg(feature = "alloc")]
 mod recode;
 mod recoder;
+mod repair;
 #[allow(dead_code)]
 mod support;
+mod survey;
 #[cfg(feature = "alloc")]
 mod table;
 #[cfg(feature = "alloc")]
@@ -103,14 +111,19 @@ pub use decoder::{undecided_len, Decoder};
 pub use fault::{Fault, FaultKind};
 pub use piece::Piece;
 pub use pieces::{Faults, Pieces};
+pub use position::{positions, Position, Positions};
 #[cfg(feature = "alloc")]
 pub use proved::cuts::{Change, Counts};
 #[cfg(feature = "alloc")]
-pub use recode::{decode, decode_lossy, decode_strict, recode, recode_lossy, recode_strict, try_recode};
+pub use recode::{
+    decode, decode_lossy, decode_repaired, decode_strict, recode, recode_lossy, recode_repaired, recode_strict, try_recode,
+};
 pub use recoder::{
     changed_range, encoding_of_bom, recoded_len, recoded_len_max, shard_end, Encoding, Progress, Recoder, Status, UnknownEncoding,
 };
+pub use repair::{NonBmpChar, Repair};
 pub use support::alloc::AllocError;
+pub use survey::{guess, survey, Guess, Guesses, Survey, Surveyor, UnitCounts, Utf8Counts};
 #[cfg(feature = "alloc")]
 pub use table::{PieceTable, TablePieces};
 #[cfg(feature = "alloc")]
@@ -140,6 +153,24 @@ pub fn is_supported() -> bool {
 /// ```
 /// ```compile_fail,E0639
 /// let did = noddychest::Progress { read: 0, written: 0, status: noddychest::Status::Done };
+/// ```
+/// ```compile_fail,E0638
+/// let noddychest::Survey { len, nul, control, utf8, utf16le, utf16be, front, head, tail } = noddychest::survey(b"");
+/// ```
+/// ```compile_fail,E0639
+/// let survey = noddychest::Survey { len: 1, ..noddychest::survey(b"") };
+/// ```
+/// ```compile_fail,E0638
+/// let noddychest::Utf8Counts { chars, faults, third, signs, undefined, surrogates, twice, twice_chars } = noddychest::survey(b"").utf8;
+/// ```
+/// ```compile_fail,E0639
+/// let counts = noddychest::Utf8Counts { chars: 1, ..noddychest::survey(b"").utf8 };
+/// ```
+/// ```compile_fail,E0638
+/// let noddychest::UnitCounts { plain, stray, unpaired } = noddychest::survey(b"").utf16le;
+/// ```
+/// ```compile_fail,E0639
+/// let counts = noddychest::UnitCounts { plain: 1, ..noddychest::survey(b"").utf16le };
 /// ```
 /// ```compile_fail,E0638
 /// let noddychest::Counts { bytes, pieces, faults, line_feeds } = noddychest::Counts::default();

@@ -13,7 +13,7 @@
 
 use crate::recode::append_recoded;
 use crate::table::granted;
-use crate::{faults, io, recoded_len_max, shard_end, Encoding, Fault};
+use crate::{faults, io, recoded_len_max, shard_end, Encoding, Fault, Recoder, Repair};
 use std::num::NonZeroUsize;
 use std::sync::{Condvar, Mutex, MutexGuard, PoisonError};
 use std::thread;
@@ -38,15 +38,45 @@ const AHEAD: usize = 3;
 /// ```
 #[must_use]
 pub fn recode(from: Encoding, to: Encoding, bytes: &[u8], jobs: Option<NonZeroUsize>) -> Vec<u8> {
-    recode_by(from, to, bytes, jobs, SHARD)
+    recode_by(from, to, bytes, jobs, SHARD, |shard, out| granted(append_recoded(from, to, shard, out)))
 }
 
-fn recode_by(from: Encoding, to: Encoding, bytes: &[u8], jobs: Option<NonZeroUsize>, size: usize) -> Vec<u8> {
+/// [`recode_repaired`](crate::recode_repaired), in several threads.
+///
+/// ```
+/// use noddychest::{parallel, Encoding, Repair};
+/// let made = parallel::recode_repaired(Encoding::Utf8, Encoding::Utf8, b"caf\xE9", Repair::WINDOWS_1252, None);
+/// assert_eq!(made, "café".as_bytes());
+/// ```
+#[must_use]
+pub fn recode_repaired(from: Encoding, to: Encoding, bytes: &[u8], repair: Repair, jobs: Option<NonZeroUsize>) -> Vec<u8> {
+    recode_by(from, to, bytes, jobs, SHARD, repairing(from, to, repair))
+}
+
+/// What appends a shard, repaired.
+fn repairing(from: Encoding, to: Encoding, repair: Repair) -> impl Fn(&[u8], &mut Vec<u8>) + Sync {
+    let fresh = Recoder::repair(from, to, repair);
+    move |shard, out| {
+        let mut recoder = fresh.clone();
+        let _ = recoder.feed_to_vec(shard, out);
+        let _ = recoder.finish_to_vec(out);
+    }
+}
+
+/// `append` appends what a shard becomes.
+fn recode_by(
+    from: Encoding,
+    to: Encoding,
+    bytes: &[u8],
+    jobs: Option<NonZeroUsize>,
+    size: usize,
+    append: impl Fn(&[u8], &mut Vec<u8>) + Sync,
+) -> Vec<u8> {
     // (what a system gives filled with zeros takes no memory before it is written)
     let mut out = vec![0; recoded_len_max(from, to, bytes.len()).expect("there is memory for what comes of it")];
     let most = out.len();
     let line = Line::new(from, bytes, size, &mut out[..]);
-    at_once(some_jobs(jobs, bytes.len(), size), || recode_shards(&line, from, to));
+    at_once(some_jobs(jobs, bytes.len(), size), || recode_shards(&line, &append));
     let left = line.end().len();
     out.truncate(most - left);
     out.shrink_to_fit();
@@ -54,11 +84,11 @@ fn recode_by(from: Encoding, to: Encoding, bytes: &[u8], jobs: Option<NonZeroUsi
 }
 
 /// Transcodes shards until none is left. Each output gets its place in turn, and is copied there in parallel.
-fn recode_shards<'a>(line: &Line<'_, &'a mut [u8]>, from: Encoding, to: Encoding) {
+fn recode_shards<'a>(line: &Line<'_, &'a mut [u8]>, append: impl Fn(&[u8], &mut Vec<u8>)) {
     let mut made = Vec::new();
     while let Some(shard) = line.take() {
         made.clear();
-        granted(append_recoded(from, to, shard.bytes(), &mut made));
+        append(shard.bytes(), &mut made);
         let place = shard.in_turn(|buffer: &mut &'a mut [u8]| {
             let (place, rest) = std::mem::take(buffer).split_at_mut(made.len());
             *buffer = rest;
@@ -154,7 +184,7 @@ impl<'a, T> Line<'a, T> {
         }
         let end = begin + shard_len(self.encoding, &self.bytes[begin..], self.size);
         (state.begin, state.next) = (end, number + 1);
-        Some(Shard { line: self, number, begin, end })
+        Some(Shard { line: self, number, begin, end, is_added: false })
     }
 
     /// What was put together.
@@ -175,6 +205,8 @@ struct Shard<'l, 'a, T> {
     number: usize,
     begin: usize,
     end: usize,
+    /// Its results were added to what is put together.
+    is_added: bool,
 }
 
 impl<'a, T> Shard<'_, 'a, T> {
@@ -183,7 +215,7 @@ impl<'a, T> Shard<'_, 'a, T> {
     }
 
     /// Adds to what is put together, after all shards before this one.
-    fn in_turn<A>(self, add: impl FnOnce(&mut T) -> A) -> A {
+    fn in_turn<A>(mut self, add: impl FnOnce(&mut T) -> A) -> A {
         let state = self.line.lock();
         let mut state = self
             .line
@@ -193,6 +225,7 @@ impl<'a, T> Shard<'_, 'a, T> {
         assert!(!state.is_broken, "another thread ended in the middle");
         let answer = add(&mut state.whole);
         state.turn += 1;
+        self.is_added = true;
         self.line.changed.notify_all();
         answer
     }
@@ -213,10 +246,11 @@ impl<'a, T> Shard<'_, 'a, T> {
     }
 }
 
-/// A thread that ends in the middle lets the others end too.
+/// A thread that ends in the middle lets the others end too. (`thread::panicking()` is also true in a destructor that a panic runs, where a
+/// call has to go on.)
 impl<T> Drop for Shard<'_, '_, T> {
     fn drop(&mut self) {
-        if thread::panicking() {
+        if !self.is_added {
             self.line.lock().is_broken = true;
             self.line.changed.notify_all();
         }

@@ -3,7 +3,7 @@
 use crate::proved::cuts;
 use crate::support::memory;
 use crate::table::granted;
-use crate::{AllocError, Encoding, Fault, Progress, Recoder, Status};
+use crate::{AllocError, Encoding, Fault, Progress, Recoder, Repair, Status};
 use alloc::string::String;
 use alloc::vec::Vec;
 
@@ -52,7 +52,19 @@ pub(crate) fn append_recoded(from: Encoding, to: Encoding, bytes: &[u8], out: &m
 /// ```
 #[must_use]
 pub fn recode_lossy(from: Encoding, to: Encoding, bytes: &[u8]) -> Vec<u8> {
-    recode_by(Recoder::lossy(from, to), bytes).unwrap_or_else(|fault| unreachable!("{fault}: only a strict recoder stops"))
+    all_recoded(Recoder::lossy(from, to), bytes)
+}
+
+/// What the bytes are in another encoding; each invalid byte becomes what a table has for it, as [`Recoder::repair`] says it.
+///
+/// ```
+/// use noddychest::{recode_repaired, Encoding, Repair};
+/// let made = recode_repaired(Encoding::Utf8, Encoding::Utf16Be, b"\xC3\xA9 \x80", Repair::WINDOWS_1252);
+/// assert_eq!(made, b"\0\xE9\0 \x20\xAC");
+/// ```
+#[must_use]
+pub fn recode_repaired(from: Encoding, to: Encoding, bytes: &[u8], repair: Repair) -> Vec<u8> {
+    all_recoded(Recoder::repair(from, to, repair), bytes)
 }
 
 /// What the bytes are in another encoding, or the first of them that is invalid.
@@ -65,6 +77,11 @@ pub fn recode_lossy(from: Encoding, to: Encoding, bytes: &[u8]) -> Vec<u8> {
 /// ```
 pub fn recode_strict(from: Encoding, to: Encoding, bytes: &[u8]) -> Result<Vec<u8>, Fault> {
     recode_by(Recoder::strict(from, to), bytes)
+}
+
+/// What all of the bytes become by a recoder that is not strict.
+fn all_recoded(recoder: Recoder, bytes: &[u8]) -> Vec<u8> {
+    recode_by(recoder, bytes).unwrap_or_else(|fault| unreachable!("{fault}: only a strict recoder stops"))
 }
 
 fn recode_by(mut recoder: Recoder, bytes: &[u8]) -> Result<Vec<u8>, Fault> {
@@ -104,6 +121,19 @@ pub fn decode(encoding: Encoding, bytes: &[u8]) -> String {
 #[must_use]
 pub fn decode_lossy(encoding: Encoding, bytes: &[u8]) -> String {
     text(recode_lossy(encoding, Encoding::Utf8, bytes))
+}
+
+/// The text of the bytes; each invalid byte becomes what a table has for it, as [`Recoder::repair`] says it.
+///
+/// ```
+/// use noddychest::{decode_repaired, Encoding, Repair};
+/// assert_eq!(decode_repaired(Encoding::Utf8, b"caf\xC3\xA9, caf\xE9", Repair::WINDOWS_1252), "café, café");
+/// ```
+#[doc(alias = "decode_utf8")]
+#[doc(alias = "windows-1252")]
+#[must_use]
+pub fn decode_repaired(encoding: Encoding, bytes: &[u8], repair: Repair) -> String {
+    text(recode_repaired(encoding, Encoding::Utf8, bytes, repair))
 }
 
 /// The text of the bytes, or the first of them that is invalid.

@@ -1,7 +1,7 @@
 //! Transcoding in parts, from one encoding of text in bytes to another.
 
 use crate::proved::cuts;
-use crate::Fault;
+use crate::{Fault, Repair};
 use core::ops::Range;
 
 /// How many bytes `recoded_len` converts by one call.
@@ -241,7 +241,8 @@ impl Progress {
 /// three bytes between calls, allocates nothing, and may be cloned.
 ///
 /// [`new`](Recoder::new) replaces each invalid byte (of UTF-16 each unit) by one U+FFFD, and [`lossy`](Recoder::lossy) each maximal
-/// subpart, as browsers do. [`strict`](Recoder::strict) stops at what is invalid.
+/// subpart, as browsers do. [`repair`](Recoder::repair) writes what a table has for it, and [`strict`](Recoder::strict) stops at what is
+/// invalid.
 ///
 /// ```
 /// use noddychest::{Encoding, Recoder, Status};
@@ -269,9 +270,11 @@ pub struct Recoder {
 
 /// What becomes of what is invalid.
 #[derive(Clone, Copy, Debug)]
+#[allow(clippy::large_enum_variant)]
 enum Errors {
     Replace,
     Lossy,
+    Repair(Repair),
     Strict,
 }
 
@@ -306,6 +309,23 @@ impl Recoder {
     #[must_use]
     pub fn lossy(from: Encoding, to: Encoding) -> Recoder {
         Recoder { errors: Errors::Lossy, ..Recoder::new(from, to) }
+    }
+
+    /// A recoder that writes for each invalid byte what a table has for it: the character that it is in an older encoding, or nothing. In
+    /// UTF-16 a lone surrogate, or an odd last byte, becomes U+FFFD, or nothing with [`Repair::DROP`]. So the output is valid, and valid
+    /// input stays as it is.
+    ///
+    /// ```
+    /// use noddychest::{Encoding, Recoder, Repair};
+    /// let mut recoder = Recoder::repair(Encoding::Utf8, Encoding::Utf8, Repair::WINDOWS_1252);
+    /// let mut buffer = [0; 16];
+    /// let did = recoder.feed(b"\x93caf\xC3\xA9\x94", &mut buffer);
+    /// assert_eq!(&buffer[..did.written], "“café”".as_bytes());
+    /// assert_eq!(recoder.replaced(), 2);
+    /// ```
+    #[must_use]
+    pub fn repair(from: Encoding, to: Encoding, repair: Repair) -> Recoder {
+        Recoder { errors: Errors::Repair(repair), ..Recoder::new(from, to) }
     }
 
     /// A recoder that stops at what is invalid, and says where it is and why: at the offsets and with the kinds that
@@ -365,8 +385,8 @@ impl Recoder {
         self.inner.held()
     }
 
-    /// How many invalid bytes (of UTF-16 units) it has replaced by U+FFFD so far. A U+FFFD in the text does not count; a strict recoder
-    /// replaces none, and a lossy one does not count. After [`finish`](Recoder::finish) is done, it is the number for the whole text.
+    /// How many invalid bytes (of UTF-16 units) it has replaced so far: by U+FFFD, or by what a [`Repair`] has for them, also if that is
+    /// nothing. A U+FFFD in the text does not count; a strict recoder replaces none, and a lossy one does not count. After [`finish`](Recoder::finish) is done, it is the number for the whole text.
     ///
     /// ```
     /// use noddychest::{Encoding, Recoder};
@@ -403,9 +423,10 @@ impl Recoder {
     /// assert_eq!(out, "€€".as_bytes());
     /// ```
     pub fn feed(&mut self, part: &[u8], buffer: &mut [u8]) -> Progress {
-        let did = match self.errors {
+        let did = match &self.errors {
             Errors::Replace => relayed(self.inner.feed_into(part, buffer)),
             Errors::Lossy => relayed(self.inner.feed_lossy_into(part, buffer)),
+            Errors::Repair(repair) => relayed(self.inner.feed_repaired_into(part, buffer, repair.proved())),
             Errors::Strict => {
                 let did = self.inner.feed_strict_into(part, buffer);
                 self.told(did)
@@ -429,9 +450,10 @@ impl Recoder {
     /// assert_eq!(&buffer[..did.written], "\u{FFFD}\u{FFFD}".as_bytes());
     /// ```
     pub fn finish(&mut self, buffer: &mut [u8]) -> Progress {
-        match self.errors {
+        match &self.errors {
             Errors::Replace => relayed(self.inner.finish_into(buffer)),
             Errors::Lossy => relayed(self.inner.finish_lossy_into(buffer)),
+            Errors::Repair(repair) => relayed(self.inner.finish_repaired_into(buffer, repair.proved())),
             Errors::Strict => {
                 let did = self.inner.finish_strict_into(buffer);
                 self.told(did)

@@ -1,6 +1,6 @@
 //! The names, numbers, sentences and version of the crate compared with those of the library for C, in the repository.
 
-use noddychest::{Encoding, FaultKind};
+use noddychest::{Encoding, FaultKind, Guess};
 
 /// A file of the repository, or nothing in the package.
 fn read(file: &str) -> String {
@@ -41,6 +41,17 @@ fn numbers_are_those_of_the_header() {
     }
     for &encoding in Encoding::ALL {
         says(&header, &format!("NODY_{}", encoding.name().to_uppercase()), encoding as u8);
+    }
+}
+
+#[test]
+fn guesses_are_those_of_the_header() {
+    let header = header();
+    for (number, guess) in (0..).zip(Guess::ALL) {
+        let name = format!("nodyguess{guess:?}={number}").to_lowercase();
+        let is_there = header.lines().any(|line| line.replace(['_', ' '], "").to_lowercase().starts_with(&name));
+        assert!(header.is_empty() || is_there, "{name}");
+        assert!(header.is_empty() || header.contains(&format!("        \"{}\",\n", guess.text())), "{guess}");
     }
 }
 

@@ -2,9 +2,10 @@
 
 mod common;
 
+use common::repairs::{repaired, some_repair};
 use common::Chance;
 use noddychest::io::{RecodingReader, RecodingWriter};
-use noddychest::{faults, io, recode, recode_strict, Encoding, Fault, Recoder};
+use noddychest::{faults, io, recode, recode_strict, Encoding, Fault, Recoder, Repair};
 use std::cell::RefCell;
 use std::io::{BufRead, BufReader, Cursor, Error, ErrorKind, Read, Result, Seek, SeekFrom, Write};
 use std::panic::{catch_unwind, AssertUnwindSafe};
@@ -112,6 +113,10 @@ fn readers_and_writers_recode() {
         let whole = recode(from, to, &bytes);
         assert_eq!(read_all(Recoder::new(from, to), &bytes, seed), (whole.clone(), None));
         assert_eq!(write_all(Recoder::new(from, to), &bytes, seed), (whole.clone(), None));
+        let (table, repair) = some_repair(&mut chance);
+        let mended = repaired(from, to, &bytes, &table);
+        assert_eq!(read_all(Recoder::repair(from, to, repair), &bytes, seed), (mended.clone(), None), "{repair:?}");
+        assert_eq!(write_all(Recoder::repair(from, to, repair), &bytes, seed), (mended, None), "{repair:?}");
         let want = match recode_strict(from, to, &bytes) {
             Ok(whole) => (whole, None),
             Err(fault) => (recode(from, to, &bytes[..fault.offset()]), Some(fault)),
@@ -133,6 +138,20 @@ fn long_texts_go_through_blocks() {
     writer.write_all(&want).expect("no fault");
     writer.finish().expect("no fault");
     assert!(writer.into_inner() == text.as_bytes());
+}
+
+/// A reader that writes nothing for many blocks has not ended, and all that was left out is counted.
+#[test]
+fn long_runs_of_invalid_bytes_are_left_out() {
+    let bytes = [vec![b'a'], vec![0xFF; 100_000], vec![b'b']].concat();
+    let mut reader = RecodingReader::new(&bytes[..], Recoder::repair(Encoding::Utf8, Encoding::Utf8, Repair::DROP));
+    let mut text = String::new();
+    reader.read_to_string(&mut text).expect("no fault");
+    assert_eq!((&text[..], reader.recoder().replaced()), ("ab", 100_000));
+    let mut writer = RecodingWriter::new(Vec::new(), Recoder::repair(Encoding::Utf8, Encoding::Utf8, Repair::DROP));
+    writer.write_all(&bytes).expect("no fault");
+    writer.finish().expect("no fault");
+    assert_eq!((&writer.get_ref()[..], writer.recoder().replaced()), (&b"ab"[..], 100_000));
 }
 
 #[test]

@@ -2,12 +2,13 @@
 
 mod common;
 
+use common::repairs::{repaired, some_repair, some_repairs};
 use common::{encoded, long_text_of, of_encoding, of_hex, rows, text_of, Chance, End};
 use noddychest::{
-    changed_range, decode, decode_lossy, decode_strict, recode, recode_lossy, recode_strict, recoded_len, recoded_len_max,
-    shard_end,
+    changed_range, decode, decode_lossy, decode_repaired, decode_strict, recode, recode_lossy, recode_repaired, recode_strict,
+    recoded_len, recoded_len_max, shard_end,
 };
-use noddychest::{Encoding, Fault, FaultKind, Recoder, Status};
+use noddychest::{Encoding, Fault, FaultKind, Recoder, Repair, Status};
 
 /// The characters and faults of the text, with how many bytes each has.
 fn decoded(encoding: Encoding, bytes: &[u8]) -> Vec<(usize, Result<char, FaultKind>)> {
@@ -130,6 +131,14 @@ fn hold_text(from: Encoding, to: Encoding, bytes: &[u8], chance: &mut Chance) {
     let (out, told) = recoded_in_parts(Recoder::lossy(from, to), &parts, || rooms(chance));
     assert!(out == lossy && told.is_empty(), "{from} {to} {parts:x?}");
     assert_eq!(appended_in_parts(&Recoder::lossy(from, to), &parts), lossy, "{from} {to} {parts:x?}");
+    let (table, repair) = some_repair(chance);
+    let mended = repaired(from, to, bytes, &table);
+    assert_eq!(recode_repaired(from, to, bytes, repair), mended, "{from} {to} {repair:?} {bytes:x?}");
+    assert!(recoded_len_max(from, to, bytes.len()) >= Some(mended.len()));
+    let recoder = Recoder::repair(from, to, repair);
+    let (out, told) = recoded_in_parts(recoder.clone(), &parts, || rooms(chance));
+    assert!(out == mended && told.is_empty(), "{from} {to} {repair:?} {parts:x?}");
+    assert_eq!(appended_in_parts(&recoder, &parts), mended, "{from} {to} {repair:?} {parts:x?}");
     let (out, told) = recoded_in_parts(Recoder::strict(from, to), &parts, || rooms(chance));
     assert_eq!(out, valid, "{from} {to} {parts:x?}");
     let told: Vec<_> = told.iter().map(|it| (it.offset(), it.range().len(), it.kind())).collect();
@@ -179,6 +188,8 @@ fn long_texts() {
         assert_eq!(recoded_len(from, to, &bytes), replaced(from, to, &bytes).len(), "{from} {to}");
         assert!(recode_lossy(from, to, &bytes) == replaced_lossily(from, to, &bytes), "{from} {to}");
         assert!(appended_in_parts(&Recoder::new(from, to), &[&bytes]) == replaced(from, to, &bytes), "{from} {to}");
+        let (table, repair) = some_repair(&mut chance);
+        assert!(recode_repaired(from, to, &bytes, repair) == repaired(from, to, &bytes, &table), "{from} {to} {repair:?}");
         let text = encoded(from, "aé€😀".repeat(10_000).chars());
         assert!(recode_strict(from, to, &text) == Ok(replaced(from, to, &text)), "{from} {to}");
     }
@@ -192,11 +203,91 @@ fn texts_become_strings() {
             let bytes = text_of(encoding, &mut chance, 16);
             assert_eq!(decode(encoding, &bytes).as_bytes(), replaced(encoding, Encoding::Utf8, &bytes));
             assert_eq!(decode_lossy(encoding, &bytes).as_bytes(), replaced_lossily(encoding, Encoding::Utf8, &bytes));
+            let (table, repair) = some_repair(&mut chance);
+            let text = decode_repaired(encoding, &bytes, repair);
+            assert_eq!(text.as_bytes(), repaired(encoding, Encoding::Utf8, &bytes, &table), "{repair:?}");
+            assert_eq!(decode_repaired(Encoding::Utf8, text.as_bytes(), Repair::DROP), text);
             let fault = faults(encoding, &bytes).first().copied();
             let strict = decode_strict(encoding, &bytes).map_err(|it| (it.offset(), it.range().len(), it.kind()));
             assert_eq!(strict, fault.map_or(Ok(decode(encoding, &bytes)), Err));
         }
     }
+}
+
+/// Each byte from 80 on, alone and between letters, by each table.
+#[test]
+fn each_byte_becomes_what_its_table_has() {
+    let mut chance = Chance(21);
+    for (table, repair) in some_repairs(&mut chance) {
+        for byte in 0x80..=u8::MAX {
+            let want = table.of_byte(byte).map_or(String::new(), String::from);
+            assert_eq!(repair.char_for(byte), table.of_byte(byte));
+            assert_eq!(decode_repaired(Encoding::Utf8, &[byte], repair), want, "{repair:?} {byte:x}");
+            assert_eq!(decode_repaired(Encoding::Utf8, &[b'a', byte, b'z'], repair), format!("a{want}z"), "{repair:?} {byte:x}");
+        }
+        assert!((0..0x80).all(|byte| repair.char_for(byte) == Some(char::from(byte))));
+    }
+}
+
+/// Invalid bytes, lone surrogates and odd last bytes are counted, also those that are left out; U+FFFD in the text is not.
+#[test]
+fn what_was_repaired_is_counted() {
+    let mut chance = Chance(22);
+    for _ in 0..2_000 {
+        for (from, to) in pairs() {
+            let mut bytes = encoded(from, "\u{FFFD}é".chars());
+            bytes.extend(text_of(from, &mut chance, 16));
+            let at = chance.below(bytes.len() + 1);
+            let (_, repair) = some_repair(&mut chance);
+            let (mut recoder, mut out) = (Recoder::repair(from, to, repair), Vec::new());
+            for part in [&bytes[..at], &bytes[at..]] {
+                assert_eq!(recoder.feed_to_vec(part, &mut out).status, Status::Done);
+            }
+            let _ = recoder.finish_to_vec(&mut out);
+            assert_eq!(recoder.replaced(), faults(from, &bytes).len() as u64, "{from} {to} {repair:?} {bytes:x?}");
+        }
+    }
+}
+
+/// A table is asked for each byte once, in order, and one with a character above U+FFFF is none.
+#[test]
+fn tables_are_made() {
+    let mut asked = Vec::new();
+    let made = Repair::from_fn(|byte| {
+        asked.push(byte);
+        Some('\u{FFFF}')
+    });
+    assert!(asked.into_iter().eq(0x80..=u8::MAX));
+    assert_eq!(decode_repaired(Encoding::Utf8, b"\xFF", made.expect("no character is above U+FFFF")), "\u{FFFF}");
+    let mut chars = [None; 128];
+    (chars[5], chars[6]) = (Some('\u{10000}'), Some('\u{10FFFF}'));
+    let error = Repair::from_table(&chars).expect_err("a character is above U+FFFF");
+    assert_eq!((error.byte(), error.char()), (0x85, '\u{10000}'));
+    chars = [None; 128];
+    chars[0x69] = Some('é');
+    let only = Repair::from_table(&chars).expect("no character is above U+FFFF");
+    assert_eq!(decode_repaired(Encoding::Utf8, b"\xE9\xEA", only), "é");
+    // (equal is what writes the same)
+    assert_eq!(Repair::from_fn(|byte| Some(char::from(byte))), Ok(Repair::LATIN_1));
+    assert_ne!(Repair::from_fn(|byte| Some(char::from(byte))), Ok(Repair::WINDOWS_1252));
+    assert_ne!(Repair::from_fn(|_| None), Ok(Repair::DROP));
+    // (a table that has nothing is a table: only DROP leaves surrogates out)
+    let nothing = Repair::from_table(&[None; 128]).expect("no character is above U+FFFF");
+    assert_eq!(decode_repaired(Encoding::Utf16Be, b"\xD8\0\0a\0", nothing), "\u{FFFD}a\u{FFFD}");
+    assert_eq!(
+        format!("{:?} {only:?}", [Repair::DROP, Repair::WINDOWS_1252, Repair::LATIN_1]),
+        "[Repair::DROP, Repair::WINDOWS_1252, Repair::LATIN_1] {233: 'é'}"
+    );
+}
+
+/// Stored rows, whose results are those of Python's codec for the bytes that are not UTF-8.
+#[test]
+fn mixed_encodings() {
+    let bytes = b"\x93Caf\xE9\x94 \xE2\x82\xAC 10, \x80 10, na\xC3\xAFve na\xEFve \x81";
+    let (windows, latin) = ("“Café” € 10, € 10, naïve naïve \u{81}", "\u{93}Café\u{94} € 10, \u{80} 10, naïve naïve \u{81}");
+    assert_eq!(decode_repaired(Encoding::Utf8, bytes, Repair::WINDOWS_1252), windows);
+    assert_eq!(decode_repaired(Encoding::Utf8, bytes, Repair::LATIN_1), latin);
+    assert_eq!(decode_repaired(Encoding::Utf8, bytes, Repair::DROP), "Caf € 10,  10, naïve nave ");
 }
 
 /// A strict recoder that appends stops at each fault, and goes on with what it did not read.
@@ -274,6 +365,9 @@ fn shards_are_recoded_by_themselves() {
             let (front, rest) = bytes.split_at(end);
             let joined = [recode(from, to, front), recode(from, to, rest)].concat();
             assert_eq!(joined, recode(from, to, &bytes), "{from} {to} {bytes:x?} at {at}");
+            let (table, repair) = some_repair(&mut chance);
+            let joined = [recode_repaired(from, to, front, repair), recode_repaired(from, to, rest, repair)].concat();
+            assert_eq!(joined, repaired(from, to, &bytes, &table), "{from} {to} {repair:?} {bytes:x?} at {at}");
         }
     }
 }

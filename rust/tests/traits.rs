@@ -3,8 +3,9 @@
 use noddychest::encode_unicode::{error, iterator, Utf8Char};
 use noddychest::parts::{Span, SplitAscii, SplitLines};
 use noddychest::{
-    io, units, AllocError, BufferBytes, BufferPieces, Change, Counts, Decoder, Encoding, Fault, FaultKind, Faults, Piece,
-    PieceTable, Pieces, Progress, Recoder, Status, TablePieces, TextBuffer, UnknownEncoding,
+    io, units, AllocError, BufferBytes, BufferPieces, Change, Counts, Decoder, Encoding, Fault, FaultKind, Faults, Guess,
+    Guesses, NonBmpChar, Piece, PieceTable, Pieces, Progress, Recoder, Repair, Status, Survey, Surveyor, TablePieces, TextBuffer,
+    UnitCounts, UnknownEncoding, Utf8Counts,
 };
 use std::collections::{BTreeSet, HashSet};
 use std::error::Error;
@@ -42,6 +43,8 @@ fn types_have_their_traits() {
     is_value::<Fault<u64>>();
     is_value::<FaultKind>();
     is_value::<Encoding>();
+    is_value::<Repair>();
+    is_value::<NonBmpChar>();
     is_value::<Status>();
     is_value::<Progress>();
     goes_both_ways::<Pieces<'static>>();
@@ -53,6 +56,13 @@ fn types_have_their_traits() {
     is_ordered::<Piece>();
     is_ordered::<Piece<u64>>();
     is_ordered::<FaultKind>();
+    is_ordered::<Guess>();
+    is_value::<Guess>();
+    is_value::<Survey>();
+    is_value::<Utf8Counts>();
+    is_value::<UnitCounts>();
+    is_shared::<Guesses>();
+    is_shared::<Surveyor>();
     starts_empty::<Counts>();
     starts_empty::<Change>();
     is_compared::<TextBuffer>();
@@ -72,6 +82,7 @@ fn types_have_their_traits() {
     is_error::<Fault<u64>>();
     is_error::<UnknownEncoding>();
     is_error::<AllocError>();
+    is_error::<NonBmpChar>();
     is_error_of_upstream::<error::CodepointError>();
     is_error_of_upstream::<error::EmptyStrError>();
     is_error_of_upstream::<error::FromStrError>();

@@ -4,5 +4,6 @@ pub mod AsciiTold
 pub mod Each
 pub mod Fronts
 pub mod Merged
+pub mod Repaired
 pub mod WholeRuns
 pub mod WholeStrict

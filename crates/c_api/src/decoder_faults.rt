@@ -5,12 +5,12 @@ ghost use Rattle.c_api.specs.Decoders.{IfDecoder, IsDecoder, decoder_of, located
 
 use crate::decoders::{NodyDecoder, NodyLocated, feed_decoder, finish_decoder, is_decoder};
 use crate::recodings::REFUSED;
-use text_parts::piece_runs::FaultsAlone;
+use text_stream::piece_runs::FaultsAlone;
 
 /// Feeds a part, as far as there is capacity for its invalid bytes. Returns 0 if all of it was read; 1 if the array
 /// is full before an invalid byte that is known; 2, with nothing changed, if the struct is not a decoder.
 #[unsafe(no_mangle)]
-#[tactic(auto, using(text_parts::proofs::KeptPieces::fault_where_kept))]
+#[tactic(auto, using(text_stream::proofs::KeptPieces::fault_where_kept))]
 pub extern "C" fn nody_decoder_feed_faults(
     decoder: &mut NodyDecoder,
     part: &[u8],

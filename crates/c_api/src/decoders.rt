@@ -7,7 +7,7 @@ ghost use Rattle.c_api.specs.Decoders.{IfDecoder, IsDecoder, ascii_told_of, char
 use crate::kinds::fault_number_of;
 use crate::recodings::{DONE, FULL, REFUSED, form_of};
 use cuts::{Decoder, FaultKind, FromPiece};
-use text_parts::piece_runs::{AllPieces, Kept};
+use text_stream::piece_runs::{AllPieces, Kept};
 
 /// A decoder, in memory of the caller.
 #[repr(C)]

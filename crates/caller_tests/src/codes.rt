@@ -1,8 +1,8 @@
-//! The callers in `uses` that handle encoded characters and faults.
+//! The callers in `examples` that handle encoded characters and faults.
 use encode_unicode::{Utf8Char, Utf16Char};
+use examples::tokens::{key_and_value, line, words};
+use examples::{chains, codes, merges};
 use std::test::Fail;
-use uses::tokens::{key_and_value, line, words};
-use uses::{chains, codes, merges};
 
 // Six pieces, two of them faults, as the README shows them.
 fn damaged() -> &'static [u8] {

@@ -1,8 +1,8 @@
-//! The callers in `uses` that cut at the offset of a piece, of a character or of a fault, and that make texts of
+//! The callers in `examples` that cut at the offset of a piece, of a character or of a fault, and that make texts of
 //! texts. Expected values as Python's `bytes`, `str` and decoders give them.
+use examples::texts::{joined_units, raised, reversed, shortened};
+use examples::{asked, chains, merges, texts};
 use std::test::Fail;
-use uses::texts::{joined_units, raised, reversed, shortened};
-use uses::{asked, chains, merges, texts};
 
 #[test]
 fn slices_begin_where_the_decoder_stands(rt: HostRuntime) {

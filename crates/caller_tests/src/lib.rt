@@ -1,4 +1,4 @@
-//! Tests of the callers in `uses`: what they return, with expected values from outside.
+//! Tests of the callers in `examples`: what they return, with expected values from outside.
 #![tactic(auto)]
 
 #[cfg(test)]

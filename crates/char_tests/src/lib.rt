@@ -5,15 +5,7 @@
 #[cfg(test)]
 mod cases;
 #[cfg(test)]
-mod edges;
-#[cfg(test)]
-mod edges_and_middle;
-#[cfg(test)]
 mod error_texts;
-#[cfg(test)]
-mod first_elements;
-#[cfg(test)]
-mod forms;
 #[cfg(test)]
 mod front_bytes;
 #[cfg(test)]
@@ -26,7 +18,5 @@ mod orders;
 mod singles;
 #[cfg(test)]
 mod steps;
-#[cfg(test)]
-mod texts;
 #[cfg(test)]
 mod unchecked;

@@ -1,11 +1,19 @@
 //! Equality, order and hashes of the three character types, in each and across them.
-use crate::edges::characters;
 use encode_unicode::{CharExt, Utf8Char, Utf16Char};
 use std::alloc::{AllocError, Global};
 use std::cmp::Ordering;
 use std::collections::{BTreeMap, HashMap};
 use std::hash::{BuildHasher, BuildHasherDefault, FoldHasher, Hash};
 use std::test::Fail;
+
+// Characters on both sides of each change in encoded length, letters of both cases, and some between, in order.
+#[rattlefmt::skip]
+pub(crate) fn characters() -> [char; 21] {
+    [
+        '\0', ';', 'A', 'N', 'Z', 'a', 'm', 'z', '\u{7f}', '\u{80}', '\u{111}', '\u{77b}', '\u{7ff}',
+        '\u{800}', '\u{d7ff}', '\u{e000}', '\u{ffff}', '\u{10000}', '\u{abcde}', '\u{10befb}', '\u{10ffff}',
+    ]
+}
 
 // Returns true if each comparison of two values of one type agrees with the order.
 fn compares<T: Ord>(one: &T, other: &T, order: Ordering) -> bool {
@@ -16,14 +24,14 @@ fn compares<T: Ord>(one: &T, other: &T, order: Ordering) -> bool {
 }
 
 // Returns true if each character type compares by this order.
-pub(crate) fn forms_compare(one: char, other: char, order: Ordering) -> bool {
+fn forms_compare(one: char, other: char, order: Ordering) -> bool {
     compares(&one, &other, order)
         && compares(&one.to_utf8(), &other.to_utf8(), order)
         && compares(&one.to_utf16(), &other.to_utf16(), order)
 }
 
 // Returns true if values of two character types compare by this order.
-pub(crate) fn forms_mix(one: char, other: char, order: Ordering) -> bool {
+fn forms_mix(one: char, other: char, order: Ordering) -> bool {
     let same = order.is_eq();
     let (bytes, other_bytes) = (one.to_utf8(), other.to_utf8());
     let (units, other_units) = (one.to_utf16(), other.to_utf16());
@@ -64,23 +72,16 @@ fn hash_of<T: Hash + Drop>(value: T) -> u64 {
 }
 
 // Returns true if the three character types have equal hashes.
-pub(crate) fn hash_alike(c: char) -> bool {
+fn hash_alike(c: char) -> bool {
     let hash = hash_of(c);
     hash_of(c.to_utf8()) == hash && hash_of(c.to_utf16()) == hash
 }
 
 // Characters that are not in the table.
+#[rattlefmt::skip]
 fn strangers() -> [char; 10] {
     [
-        '\u{1}',
-        '\u{7e}',
-        '\u{81}',
-        '\u{7fe}',
-        '\u{801}',
-        '\u{d7fe}',
-        '\u{e001}',
-        '\u{fffe}',
-        '\u{10001}',
+        '\u{1}', '\u{7e}', '\u{81}', '\u{7fe}', '\u{801}', '\u{d7fe}', '\u{e001}', '\u{fffe}', '\u{10001}',
         '\u{10fffe}',
     ]
 }
@@ -129,5 +130,8 @@ fn maps_find_their_characters(rt: HostRuntime) -> Result<(), Fail> {
     let alloc = rt.alloc();
     assert!(rt; ordered_map_finds::<Utf8Char>(alloc)? && ordered_map_finds::<Utf16Char>(alloc)?);
     assert!(rt; hashed_map_finds::<Utf8Char>(alloc)? && hashed_map_finds::<Utf16Char>(alloc)?);
+    for c in characters() {
+        assert!(rt; hash_alike(c), "at {c:?}");
+    }
     Ok(())
 }

@@ -1,5 +1,5 @@
 //! Single bytes and units as characters, and compared with characters.
-use crate::edges::edges;
+use crate::orders::characters;
 use encode_unicode::error::{NonAsciiError, NonBmpError};
 use encode_unicode::{CharExt, Utf8Char, Utf16Char};
 
@@ -37,6 +37,14 @@ fn equals_units(c: char, units: &[u16], expected: bool) -> bool {
     true
 }
 
+// Returns true if the character equals the low byte and the low unit of the other as its scalar does.
+fn equals_elements(c: char, other: char) -> bool {
+    let (byte, unit) = ((other as u32 & 0xff) as u8, (other as u32 & 0xffff) as u16);
+    c.to_utf8().eq_u8(byte) == (byte < 0x80 && c as u32 == byte as u32)
+        && c.to_utf16().eq_u8(byte) == (c as u32 == byte as u32)
+        && c.to_utf16().eq_u16(unit) == (c as u32 == unit as u32)
+}
+
 // Each row: a character, a byte, and whether they are equal in UTF-8 and in UTF-16.
 #[test]
 fn bytes_and_units_equal_their_scalars(rt: HostRuntime) {
@@ -67,11 +75,11 @@ fn bytes_and_units_equal_their_scalars(rt: HostRuntime) {
             "at {c:?} and {byte:x}"
         );
     }
-    for (c, _, _, units) in edges() {
-        for (other, _, _, other_units) in edges() {
-            let expected = c == other && units.len() == 1;
+    for c in characters() {
+        for other in characters() {
+            let expected = c == other && c.to_utf16().len() == 1;
             assert!(rt;
-                equals_units(*c, other_units, expected),
+                equals_units(c, other.to_utf16().as_units(), expected) && equals_elements(c, other),
                 "at {c:?} and {other:?}"
             );
         }

@@ -1,34 +1,8 @@
-//! The table of classes and states.
+//! The table of states. The rows of `conformance` have the classes of bytes.
 ghost use Rattle.std.specs.Prelude.{◌≡◌, true};
 ghost use Rattle.utf_base.specs.Table.{is_running};
 
 use utf_base::table::{State, class_of, step};
-
-#[test]
-fn each_byte_has_its_class(rt: HostRuntime) {
-    let table: [(u8, u8, u8); 15] = [
-        (0x00, 0x7f, 0),
-        (0x80, 0x8f, 1),
-        (0x90, 0x9f, 2),
-        (0xa0, 0xbf, 3),
-        (0xc0, 0xc1, 4),
-        (0xc2, 0xdf, 5),
-        (0xe0, 0xe0, 6),
-        (0xe1, 0xec, 7),
-        (0xed, 0xed, 8),
-        (0xee, 0xef, 7),
-        (0xf0, 0xf0, 9),
-        (0xf1, 0xf3, 10),
-        (0xf4, 0xf4, 11),
-        (0xf5, 0xf8, 4),
-        (0xf9, 0xff, 4),
-    ];
-    for (lowest, highest, class) in table {
-        for byte in lowest..=highest {
-            assert_eq!(rt; class_of(byte), class, "at {byte:02x}");
-        }
-    }
-}
 
 // Returns true if bytes from 0x80, from 0x90 and from 0xa0 on lead to these states, and a byte of each other
 // class interrupts.

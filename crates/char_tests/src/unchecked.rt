@@ -1,7 +1,7 @@
 //! The calls that have a condition, called with encoded characters that are known to be valid.
 ghost use Rattle.encode_unicode.specs.Decoded.{DecodesWhole};
 
-use crate::edges::Edge;
+use crate::orders::characters;
 use encode_unicode::{CharExt, Utf8Char, Utf16Char};
 
 // Decodes one encoded character by the unchecked call of the trait.
@@ -51,16 +51,36 @@ fn of_own_tuple(c: char) -> [Utf16Char; 2] {
     [padded, Utf16Char::from_tuple_unchecked((first, None))]
 }
 
-// Returns true if each unchecked call gives the character of the row.
-pub(crate) fn answer_unchecked(edge: &Edge) -> bool {
-    let (c, _, bytes, units) = *edge;
+// The characters of the units, decoded through the trait bound, if no lone surrogate begins them.
+fn of_pair<T: CharExt>(units: [u16; 2], tuple: (u16, Option<u16>)) -> Option<[T; 2]> {
+    let (first, second) = tuple;
+    if second.is_none() && first >= 0xd800 && first <= 0xdfff {
+        return None;
+    }
+    let _pair = Utf16Char::from_tuple(tuple).ok()?;
+    Some([
+        T::from_utf16_array_unchecked(units),
+        T::from_utf16_tuple_unchecked(tuple),
+    ])
+}
+
+// Returns true if each unchecked call gives this character for its code.
+fn answer_unchecked(c: char) -> bool {
     let (in_bytes, in_units) = (c.to_utf8(), c.to_utf16());
     of_own_code(c) == c
         && of_own_bytes(c) == in_bytes
         && of_own_units(c) == in_units
         && of_own_tuple(c) == [in_units; 2]
-        && at_front_of_bytes(bytes) == Some((in_bytes, bytes.len()))
-        && at_front_of_units(units) == Some((in_units, units.len()))
+        && of_pair(c.to_utf16_array(), c.to_utf16_tuple()) == Some([c, c])
+        && at_front_of_bytes(in_bytes.as_bytes()) == Some((in_bytes, in_bytes.len()))
+        && at_front_of_units(in_units.as_units()) == Some((in_units, in_units.len()))
+}
+
+#[test]
+fn codes_are_decoded_unchecked(rt: HostRuntime) {
+    for c in characters() {
+        assert!(rt; answer_unchecked(c), "at {c:?}");
+    }
 }
 
 #[test]

@@ -1,8 +1,10 @@
 //! Rows of calls: what they are made on, which calls, and what each has to return.
 
 use crate::answers::Asked;
-use crate::characters::{Number, TextOfOne};
+use crate::characters::{Character, Number, TextOfOne};
 use crate::decoders::{BytesAtEnds, UnitsAtEnds};
+use crate::parts::{Encoded, Parts};
+use crate::recodings::form_of;
 use crate::texts::{BytesOf, CharactersOf, CodeOfOne, UnitsOf};
 use encode_unicode::{
     StrExt, U8IterExt, U8SliceExt, U16IterExt, U16SliceExt, Utf8CharIterExt, Utf16CharIterExt,
@@ -60,6 +62,9 @@ impl<'a> CallRow<'a> {
             "units" | "decoder of units" | "merger of units" => self.units_agree(alloc),
             "bytes of a list" | "units of a list" => self.list_agrees(alloc),
             "number" => self.number_agrees(alloc),
+            "character" => self.character_agrees(alloc),
+            "parts" => Ok(self.holds(alloc, Parts::parse(alloc, self.input)?)?),
+            "utf8" | "utf16le" | "utf16be" => self.encoded_agree(alloc),
             _ => self.text_agrees(alloc),
         }
     }
@@ -72,6 +77,15 @@ impl<'a> CallRow<'a> {
             "decoder" => self.holds(alloc, bytes.utf8char_indices())?,
             _ => self.holds(alloc, bytes.iter().copied().to_utf8chars())?,
         })
+    }
+
+    fn encoded_agree(&self, alloc: Global) -> io::Result<bool> {
+        let bytes = bytes_of(alloc, self.input)?;
+        let encoded = Encoded {
+            form: form_of(self.asked)?,
+            bytes: bytes.as_slice(),
+        };
+        Ok(self.holds(alloc, encoded)?)
     }
 
     fn units_agree(&self, alloc: Global) -> io::Result<bool> {
@@ -93,10 +107,24 @@ impl<'a> CallRow<'a> {
         })
     }
 
+    // A number, or a range of numbers that all have the same results.
     fn number_agrees(&self, alloc: Global) -> io::Result<bool> {
-        match u32::from_str_radix(self.input, 16) {
-            Ok(number) => Ok(self.holds(alloc, Number { number })?),
-            Err(_) => Err(wrong_row()),
+        let (lowest, highest) = match self.input.split_once('-') {
+            Some((lowest, highest)) => (number_of(lowest)?, number_of(highest)?),
+            None => (number_of(self.input)?, number_of(self.input)?),
+        };
+        for number in lowest..=highest {
+            if !self.holds(alloc, Number { number })? {
+                return Ok(false);
+            }
+        }
+        Ok(true)
+    }
+
+    fn character_agrees(&self, alloc: Global) -> io::Result<bool> {
+        match char::from_u32(number_of(self.input)?) {
+            Some(c) => Ok(self.holds(alloc, Character { c })?),
+            None => Err(wrong_row()),
         }
     }
 
@@ -124,4 +152,8 @@ impl<'a> CallRow<'a> {
         }
         Ok(answers.next().is_none())
     }
+}
+
+fn number_of(digits: &str) -> io::Result<u32> {
+    u32::from_str_radix(digits, 16).map_err(|_| wrong_row())
 }

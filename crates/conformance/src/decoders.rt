@@ -1,6 +1,11 @@
 //! The decoders and the mergers, and the calls that decode the ends of a slice.
 
-use crate::answers::{Asked, no_call};
+use crate::answers::{Asked, no_call, numbers_of};
+use crate::parts::{faults_of, unit_faults_of};
+use cuts::{
+    char_count, fault_count, form_of_bom, number_of, offset_of, unit_char_count, unit_number_of,
+    unit_offset_of,
+};
 use encode_unicode::iterator::{
     Utf8CharDecoder, Utf8CharMerger, Utf16CharDecoder, Utf16CharMerger,
 };
@@ -15,6 +20,22 @@ pub(crate) struct BytesAtEnds<'a> {
     pub(crate) bytes: &'a [u8],
 }
 
+impl<'a> BytesAtEnds<'a> {
+    // The calls that count or list pieces.
+    fn counted(&self, alloc: Global, call: &str) -> Result<String, AllocError> {
+        let bytes = self.bytes;
+        let (name, first, second) = numbers_of(call);
+        match name {
+            "offset_of" => format!(in alloc; "{:?}", offset_of(bytes, first)),
+            "number_of" => format!(in alloc; "{}", number_of(bytes, first)),
+            "char_count" => format!(in alloc; "{}", char_count(bytes)),
+            "fault_count" => format!(in alloc; "{}", fault_count(bytes)),
+            "faults_into" => faults_of(alloc, bytes, first, second),
+            _ => no_call(alloc, call),
+        }
+    }
+}
+
 impl<'a> Asked for BytesAtEnds<'a> {
     fn answer(&mut self, alloc: Global, call: &str) -> Result<String, AllocError> {
         let four = self.bytes.first_chunk().copied().unwrap_or([0; 4]);
@@ -26,7 +47,12 @@ impl<'a> Asked for BytesAtEnds<'a> {
             "from_slice_start" => format!(in alloc; "{:?}", Utf8Char::from_slice_start(self.bytes)),
             "from_slice_end" => format!(in alloc; "{:?}", Utf8Char::from_slice_end(self.bytes)),
             "from_array" => format!(in alloc; "{:?}", Utf8Char::from_array(four)),
-            _ => no_call(alloc, call),
+            "kept" => {
+                let kept = Utf8Char::from_array(four).map(|c| c.to_array());
+                format!(in alloc; "{kept:?}")
+            }
+            "form_of_bom" => format!(in alloc; "{:?}", form_of_bom(self.bytes)),
+            _ => self.counted(alloc, call),
         }
     }
 }
@@ -40,6 +66,19 @@ pub(crate) struct UnitsAtEnds<'a> {
 impl<'a> UnitsAtEnds<'a> {
     fn two(&self) -> [u16; 2] {
         self.units.first_chunk().copied().unwrap_or([0; 2])
+    }
+
+    // The calls that count or list pieces.
+    fn counted(&self, alloc: Global, call: &str) -> Result<String, AllocError> {
+        let units = self.units;
+        let (name, first, second) = numbers_of(call);
+        match name {
+            "offset_of" => format!(in alloc; "{:?}", unit_offset_of(units, first)),
+            "number_of" => format!(in alloc; "{}", unit_number_of(units, first)),
+            "char_count" => format!(in alloc; "{}", unit_char_count(units)),
+            "faults_into" => unit_faults_of(alloc, units, first, second),
+            _ => no_call(alloc, call),
+        }
     }
 
     fn tuple(&self) -> (u16, Option<u16>) {
@@ -66,7 +105,11 @@ impl<'a> Asked for UnitsAtEnds<'a> {
             "from_slice_end" => format!(in alloc; "{:?}", Utf16Char::from_slice_end(self.units)),
             "from_array" => format!(in alloc; "{:?}", Utf16Char::from_array(self.two())),
             "from_tuple" => format!(in alloc; "{:?}", Utf16Char::from_tuple(self.tuple())),
-            _ => no_call(alloc, call),
+            "kept" => {
+                let kept = Utf16Char::from_array(self.two()).map(|c| c.to_array());
+                format!(in alloc; "{kept:?}")
+            }
+            _ => self.counted(alloc, call),
         }
     }
 }

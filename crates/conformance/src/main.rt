@@ -7,6 +7,7 @@ mod answers;
 mod asked;
 mod characters;
 mod decoders;
+mod parts;
 mod recodings;
 mod rows;
 mod runs;

@@ -48,7 +48,8 @@ fn parse_row(alloc: Global, line: &str) -> io::Result<RecodedRow<'_>> {
     })
 }
 
-fn form_of(name: &str) -> io::Result<Form> {
+/// The encoding of that name.
+pub(crate) fn form_of(name: &str) -> io::Result<Form> {
     match name {
         "utf8" => Ok(Form::Utf8),
         "utf16le" => Ok(Form::Utf16Le),

@@ -11,7 +11,7 @@ ghost use Rattle.encode_unicode.specs.Pieces.{pieces};
 ghost use Rattle.text_runs.specs.ForwardRuns.{PiecesAreTheRun, TextHasNoFault, faulty_item_count};
 ghost use Rattle.text_runs.specs.EqualRuns.{OneRun, OneMergedRun};
 ghost use Rattle.text_runs.specs.ShardRuns.{ShardCountsAdd, ShardItemsJoin, ShardPiecesJoin, faults, line_feed_count};
-ghost use Rattle.text_parts.specs.LocatedLaws.{LocatedAreMerged, NoPieceComesEarlier, PartsAreLocated};
+ghost use Rattle.text_stream.specs.LocatedLaws.{LocatedAreMerged, NoPieceComesEarlier, PartsAreLocated};
 ghost use Rattle.text_runs.specs.Splits.{OneSplit};
 ghost use Rattle.utf_base.specs.Code.{utf8, utf16};
 ghost use Rattle.utf_base.specs.Kinds.{fault_kind, merger_kind};
@@ -20,7 +20,7 @@ ghost use Rattle.utf_base.specs.Units.{unit_fault_kind};
 pub use recoding::laws::{
     faults_are_counted, held_is_undecided, lossy_joins_faults, lossy_once,
     lossy_parts_are_one_part, nothing_comes_earlier, parts_are_one_part, parts_do_not_matter,
-    recoded_is_bounded, recoded_once, room_is_enough, shards_join, text_is_recoded,
+    recoded_is_bounded, recoded_once, repaired_once, room_is_enough, shards_join, text_is_recoded,
 };
 
 /// Equal bytes or units have equal runs, of decoders and of mergers.

@@ -9,7 +9,9 @@
 //! - Parts: `split_ascii` gives the parts between ASCII separators, `lines` the lines, each with its offset; `fault_count` and
 //!   `char_count` count.
 //! - Input in parts: `Decoder` gives the pieces of all of it, each with its offset; `undecided_len` says how many bytes at the end of
-//!   a block later ones decide, and `form_of_bom` the encoding that a byte order mark indicates.
+//!   a block later ones decide, `Position` the line and the columns, and `form_of_bom` the encoding that a byte order mark indicates.
+//! - Unknown input: `survey_of` and `Surveyor` count what bytes have, `guess_of` says by these counts what they most likely are, and
+//!   `guesses_of` what else they may be.
 //! - Tables: `PieceTable` keeps the pieces of bytes that are edited, and `TextBuffer` a long text, which a `TextCursor` iterates over.
 //! - Transcoding: `Recoder` takes text in parts, `recode` from a reader to a writer, and `recode_strict` to the first fault;
 //!   `room_for` returns an upper bound of the output size, `shard_end` an offset where a large input may be cut; `front_of_text`
@@ -37,6 +39,7 @@ pub use recoding::boundaries::{
 pub use recoding::faults::{Fault, FaultKind, Outcome, StrictProgress};
 pub use recoding::form::Form;
 pub use recoding::recoder::{Recoder, Unfinished};
+pub use recoding::repair::Repair;
 pub use recoding::rooms::{Progress, room_for};
 pub use recoding::shards::shard_end;
 pub use runs::collected::{forward_utf16, merge_utf8, merge_utf16};
@@ -48,20 +51,26 @@ pub use runs::numbers::{number_of, offset_of, unit_number_of, unit_offset_of};
 pub use runs::unit_bytes::unit_bytes_valid_up_to;
 pub use runs::walks::{walk_utf8, walk_utf16};
 pub use runs::well_formed::{units_valid_up_to, valid_up_to};
+pub use surveys::{
+    Guess, Guesses, Survey, Surveyor, SurveyorState, UnitCounts, UnitState, Utf8Counts, guess_of,
+    guesses_of, survey_of,
+};
 pub use text_buffers::buffers::changes::Change;
 pub use text_buffers::buffers::counts::Counts;
 pub use text_buffers::buffers::cursor::TextCursor;
 pub use text_buffers::buffers::text_buffer::TextBuffer;
 pub use text_buffers::piece_table::PieceTable;
 pub use text_buffers::{buffers, piece_table};
-pub use text_parts::changes::{ChangedRange, changed_range};
-pub use text_parts::decoder::{Decoder, Fed};
-pub use text_parts::located::{FromPiece, LocatedPiece};
-pub use text_parts::undecided::undecided_len;
-pub use text_parts::{changes, decoder, located, undecided};
+pub use text_positions::position::Position;
+pub use text_positions::{line_feeds, position};
 pub use text_runs::byte_lines::{SplitLines, lines};
 pub use text_runs::byte_order_mark::form_of_bom;
 pub use text_runs::splits::{Span, SplitAscii, split_ascii};
 pub use text_runs::{boundaries, byte_lines, byte_order_mark, splits};
+pub use text_stream::changes::{ChangedRange, changed_range};
+pub use text_stream::decoder::{Decoder, Fed};
+pub use text_stream::located::{FromPiece, LocatedPiece};
+pub use text_stream::undecided::undecided_len;
+pub use text_stream::{changes, decoder, located, undecided};
 pub use utf_lanes::byte_order::{BigEndian, ByteOrder, LittleEndian};
 pub use utf_lanes::text_front::front_of_text;

@@ -1,8 +1,8 @@
 -- Texts of only ASCII: their scalars, and their units.
-use Rattle.std.proofs.Common.{◌≡◌, ℕ, zero, suc, ◌+◌, ◌*◌, ◌/◌, ◌%◌, ◌<◌, ◌≤◌, Bool, true, false, List, [], ◌∷◌, ◌++◌, length, get_or, take, drop, flat_map, arith, refl, sym, ap, ap₂, ◌∙◌, drop-cons, take-add, take-append-drop, length-append, length-take}
+use Rattle.std.proofs.Common.{◌≡◌, ℕ, zero, suc, ◌+◌, ◌-◌, ◌*◌, ◌/◌, ◌%◌, ◌<◌, ◌≤◌, Bool, true, false, List, [], ◌∷◌, ◌++◌, length, get_or, take, drop, flat_map, arith, refl, sym, ap, ap₂, ◌∙◌, drop-cons, take-add, take-append-drop, length-append, length-take}
 use Rattle.std.proofs.lemmas.Grind.{flat_map-append}
-use Rattle.std.proofs.lemmas.List.{append-nil, get_or-take, take_all}
-use Rattle.std.specs.Prelude.{All}
+use Rattle.std.proofs.lemmas.List.{append-nil, get_or-take, take-take, take_all}
+use Rattle.std.specs.Prelude.{All, IsUtf8, slice_range}
 use Rattle.utf_base.specs.Code.{utf8}
 use Rattle.utf_base.specs.Scalar.{IsScalar}
 use Rattle.utf_base.proofs.Utf8Code.{utf8-1, ascii_is_scalar}
@@ -11,11 +11,12 @@ use Rattle.recoding.specs.declared.form.Form.{Form}
 use Rattle.recoding.specs.declared.form.Form.TheVariants.{Utf8}
 use Rattle.recoding.specs.Recoded.{written}
 use Rattle.recoding.specs.NextScalars.{HasByteOrder}
-use Rattle.utf_lanes.specs.Utf8ToUtf16.{concat_range, halves}
+use Rattle.utf_lanes.specs.Utf8ToUtf16.{concat_range, halves, utf16_bytes}
 use Rattle.recoding.specs.Strict.{PutsText}
 use Rattle.utf_lanes.specs.AsciiTexts.{AreAscii}
 use Rattle.recoding.specs.UnitRuns.{widened}
 use Rattle.utf_lanes.proofs.Joined.{joined_add}
+use Rattle.utf_lanes.proofs.AsciiTexts.{ascii_text, ascii_units_given}
 use Rattle.utf_lanes.specs.BytePairs.{bytes_of}
 use Rattle.recoding.proofs.CopiedUnits.{as_written}
 
@@ -66,6 +67,13 @@ block_widened high v first second n long e f =
     let at : 0 + n ≡ n = omega arith in
     ap₂ (λ xs ys. xs ++ ys) e f ∙ sym (rw at at whole) ∙ joined_widened high v 0 (n + n) (omega (arith, long)) ∙ ap (widened high) all
 
+-- the units of a text of ASCII
+pub widened_ascii : (high : Bool) (xs : List ℕ) → AreAscii xs 0 (length xs) → widened high xs ≡ utf16_bytes high xs 0 (length xs)
+widened_ascii high xs low =
+    let all : take (length xs) xs ≡ xs = take_all (length xs) xs (omega arith) in
+    let joined = joined_widened high xs 0 (length xs) (omega arith) ∙ ap (widened high) all in
+    sym joined ∙ ascii_units_given high xs (λ k lt. low k (omega arith) lt)
+
 -- The codes of ASCII bytes.
 
 unit_bytes : (high : Bool) (b : ℕ) → b < 0x80 → flat_map (bytes_of high) (b ∷ []) ≡ halves high b 0
@@ -93,6 +101,25 @@ ascii_scalars (x ∷ xs) low (suc k) d lt = ascii_scalars xs (λ j ge le. low (s
 -- the first of some bytes, as far as they are ASCII
 pub ascii_front : (xs : List ℕ) (n : ℕ) → AreAscii xs 0 n → AreAscii (take n xs) 0 (length (take n xs))
 ascii_front xs n low k ge lt = let less : k < n = omega (arith, length-take n xs) in rw (get_or-take n xs k 0 less) (low k ge less)
+
+-- The first n bytes of a part from an offset on are ASCII.
+module _ (bytes : List ℕ) (p m n : ℕ) (within : n ≤ length (slice_range bytes p (p + m))) (low : AreAscii (slice_range bytes p (p + m)) 0 n) where
+  -- these bytes
+  part_front : slice_range bytes p (p + n) ≡ take n (slice_range bytes p (p + m))
+  part_front =
+      let few : n ≤ p + m - p = omega (arith, length-take (p + m - p) (drop p bytes)) in
+      let width : p + n - p ≡ n = omega arith in
+      rw width (sym (take-take n (p + m - p) (drop p bytes) few))
+
+  pub part_text : IsUtf8 (slice_range bytes p (p + n))
+  part_text = rw part_front (ascii_text (take n (slice_range bytes p (p + m))) (ascii_front (slice_range bytes p (p + m)) n low))
+
+  pub part_units : (high : Bool) → widened high (take n (slice_range bytes p (p + m))) ≡ utf16_bytes high (slice_range bytes p (p + n)) 0 (length (slice_range bytes p (p + n)))
+  part_units high = rw part_front (widened_ascii high (take n (slice_range bytes p (p + m))) (ascii_front (slice_range bytes p (p + m)) n low))
+
+-- no text
+pub none_at : (bytes : List ℕ) (p : ℕ) → slice_range bytes p p ≡ []
+none_at bytes p = let width : p - p ≡ 0 = omega arith in rw width refl
 
 -- A text of ASCII is transcoded to its units.
 pub PutsText-widened : {O : Type 0} {appends : O → List ℕ → O → Type 0} {old new : O} {to : Form} {bytes : List ℕ} {n : ℕ} (high : Bool) → HasByteOrder high to → n ≤ length bytes

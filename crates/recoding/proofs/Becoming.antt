@@ -1,52 +1,124 @@
--- The output for some bytes, step by step, in either way of replacing.
-use Rattle.std.proofs.Common.{◌≡◌, ℕ, ◌+◌, ◌-◌, ◌<◌, ◌≤◌, List, [], ◌∷◌, ◌++◌, length, take, drop, arith, refl, ap, ap₂, sym, ◌∙◌, subst, append_assoc, length-take}
+-- The output for some bytes, step by step, in each way of replacing.
+use Rattle.std.proofs.Common.{◌≡◌, ℕ, ◌+◌, ◌-◌, ◌*◌, ◌<◌, ◌≤◌, List, [], ◌∷◌, ◌++◌, Option, Some, None, length, take, drop, flat_map, arith, refl, ap, ap₂, sym, ◌∙◌, subst, append_assoc, length-take}
+use Rattle.std.specs.Prelude.{All}
 use Rattle.std.proofs.lemmas.List.{append-nil, drop-drop}
+use Rattle.std.proofs.lemmas.List.Concat.{flat_map-append}
+use Rattle.utf_base.specs.Scalar.{IsScalar}
 use Rattle.recoding.specs.declared.form.Form.{Form}
 use Rattle.recoding.specs.declared.way.Way.{Way}
-use Rattle.recoding.specs.declared.way.Way.TheVariants.{Faults, Subparts}
-use Rattle.recoding.specs.NextScalars.{Decides, Ends}
+use Rattle.recoding.specs.declared.way.Way.TheVariants.{Faults, Subparts, Table}
+use Rattle.recoding.specs.NextScalars.{Leads, LeadsLast, ShowsEach}
 use Rattle.recoding.specs.Recoded.{Continues, IsRecoded, written}
 use Rattle.recoding.specs.RecodedBytes.{recoded}
-use Rattle.recoding.specs.Replacing.{Becomes, BeginsBy, BeginsLast, NextIsLonger, list_by, reads_by}
+use Rattle.recoding.specs.Replacing.{Becomes, BeginsBy, BeginsLast, CodeIsLonger, NextIsLonger, code_of, list_by, reads_by}
 use Rattle.recoding.specs.Rooms.{Leaves}
 use Rattle.recoding.specs.Strict.{Transcodes}
 use Rattle.recoding.proofs.FrontBytes.{Ends-from_decides}
-use Rattle.recoding.proofs.LossyLists.{lossy_first, lossy_last, text_is_lossy}
+use Rattle.recoding.proofs.Growing.{length_written}
+use Rattle.recoding.proofs.LossyLists.{lossy_is, same_lossy, text_shows_parts}
 use Rattle.recoding.proofs.RecodedLists.{recoded_is, same_list}
 use Rattle.recoding.proofs.RoomLemmas.{Decides-more, cut_part, take_more}
-use Rattle.recoding.proofs.TextLaws.{text_counts, text_is_recoded}
+use Rattle.recoding.proofs.Repairing.{repaired_is, same_repaired, text_repaired}
+use Rattle.recoding.proofs.TextLaws.{text_counts, text_shows}
 
 -- The list, from its front.
 
-list_first : (way : Way) (from to : Form) (w : List ℕ) (s n : ℕ) → Decides (reads_by way from) w s n → (later : List ℕ)
-    → list_by way from to (w ++ later) ≡ written to s ++ list_by way from to (drop n w ++ later)
-list_first Faults from to w s n d later =
-    let r = recoded_is from to (drop n w ++ later) in
-    sym (same_list from to (w ++ later) (written to s ++ recoded from to (drop n w ++ later)) (s ∷ r.0, d.first later r.0 r.1, ap (λ xs. written to s ++ xs) r.2))
-list_first Subparts from to w s n d later = lossy_first from to w s n d later
+-- it is the codes of scalars that the bytes show
+list_is : (way : Way) (from to : Form) (bytes : List ℕ) → (ss : List ℕ) × reads_by way from bytes ss × (list_by way from to bytes ≡ flat_map (written to) ss)
+list_is Faults from to bytes = recoded_is from to bytes
+list_is Subparts from to bytes = lossy_is from to bytes
+list_is (Table t) from to bytes = repaired_is t.chars.now from to bytes
 
-pub list_last : (way : Way) (from to : Form) (w : List ℕ) (s n : ℕ) → Ends (reads_by way from) w s n → list_by way from to w ≡ written to s ++ list_by way from to (drop n w)
-list_last Faults from to w s n d =
-    let r = recoded_is from to (drop n w) in
-    sym (same_list from to w (written to s ++ recoded from to (drop n w)) (s ∷ r.0, d.first r.0 r.1, ap (λ xs. written to s ++ xs) r.2))
-list_last Subparts from to w s n d = lossy_last from to w s n d
+same_by : (way : Way) (from to : Form) (bytes out ss : List ℕ) → reads_by way from bytes ss → out ≡ flat_map (written to) ss → out ≡ list_by way from to bytes
+same_by Faults from to bytes out ss r e = same_list from to bytes out (ss, r, e)
+same_by Subparts from to bytes out ss r e = same_lossy from to bytes out (ss, r, e)
+same_by (Table t) from to bytes out ss r e = same_repaired t.chars.now from to bytes out (ss, r, e)
+
+list_first : (way : Way) (from to : Form) (w : List ℕ) (c : Option ℕ) (n : ℕ) → Leads (reads_by way from) w c n → (later : List ℕ)
+    → list_by way from to (w ++ later) ≡ code_of to c ++ list_by way from to (drop n w ++ later)
+list_first way from to w None n d later = let r = list_is way from to (drop n w ++ later) in sym (same_by way from to (w ++ later) (list_by way from to (drop n w ++ later)) r.0 (d.first later r.0 r.1) r.2)
+list_first way from to w (Some s) n d later =
+    let r = list_is way from to (drop n w ++ later) in
+    sym (same_by way from to (w ++ later) (written to s ++ list_by way from to (drop n w ++ later)) (s ∷ r.0) (d.first later r.0 r.1) (ap (λ xs. written to s ++ xs) r.2))
+
+pub list_last : (way : Way) (from to : Form) (w : List ℕ) (c : Option ℕ) (n : ℕ) → LeadsLast (reads_by way from) w c n → list_by way from to w ≡ code_of to c ++ list_by way from to (drop n w)
+list_last way from to w None n d = let r = list_is way from to (drop n w) in sym (same_by way from to w (list_by way from to (drop n w)) r.0 (d.first r.0 r.1) r.2)
+list_last way from to w (Some s) n d =
+    let r = list_is way from to (drop n w) in
+    sym (same_by way from to w (written to s ++ list_by way from to (drop n w)) (s ∷ r.0) (d.first r.0 r.1) (ap (λ xs. written to s ++ xs) r.2))
+
+pub text_reads : (way : Way) (from : Form) (cs : List ℕ) → All IsScalar cs → ShowsEach (reads_by way from) (flat_map (written from) cs) cs
+text_reads Faults from cs all = text_shows from cs all
+text_reads Subparts from cs all = text_shows_parts from cs all
+text_reads (Table t) from cs all = text_repaired from t.chars.now cs all
 
 list_text : (way : Way) (from to : Form) (text out later : List ℕ) → Transcodes from to text out → list_by way from to (text ++ later) ≡ out ++ list_by way from to later
-list_text Faults from to text out later t =
-    sym (same_list from to (text ++ later) (out ++ recoded from to later) (text_is_recoded from to text out later (recoded from to later) t (recoded_is from to later)))
-list_text Subparts from to text out later t = text_is_lossy from to text out later t
+list_text way from to text out later t =
+    let r = list_is way from to later in
+    sym (same_by way from to (text ++ later) (out ++ list_by way from to later) (t.scalars ++ r.0) (rw t.codes (text_reads way from t.scalars t.all later r.0 r.1))
+    (ap₂ (λ xs ys. xs ++ ys) t.made r.2 ∙ sym (flat_map-append (written to) t.scalars r.0)))
+
+-- The bytes that show a scalar, or nothing.
+
+leads_some : (reads : List ℕ → List ℕ → Type 0) (w : List ℕ) (n : ℕ) (c : Option ℕ) → Leads reads w c n → 0 < n
+leads_some reads w n None d = d.some
+leads_some reads w n (Some s) d = d.some
+
+leads_within : (reads : List ℕ → List ℕ → Type 0) (w : List ℕ) (n : ℕ) (c : Option ℕ) → Leads reads w c n → n ≤ length w
+leads_within reads w n None d = d.within
+leads_within reads w n (Some s) d = d.within
+
+leads_short : (to : Form) (reads : List ℕ → List ℕ → Type 0) (w : List ℕ) (n : ℕ) (c : Option ℕ) → Leads reads w c n → length (code_of to c) ≤ 3 * n
+leads_short to reads w n None d = omega arith
+leads_short to reads w n (Some s) d = length_written to s n d.some d.wide
+
+last_some : (reads : List ℕ → List ℕ → Type 0) (w : List ℕ) (n : ℕ) (c : Option ℕ) → LeadsLast reads w c n → 0 < n
+last_some reads w n None d = d.some
+last_some reads w n (Some s) d = d.some
+
+last_within : (reads : List ℕ → List ℕ → Type 0) (w : List ℕ) (n : ℕ) (c : Option ℕ) → LeadsLast reads w c n → n ≤ length w
+last_within reads w n None d = d.within
+last_within reads w n (Some s) d = d.within
+
+last_short : (to : Form) (reads : List ℕ → List ℕ → Type 0) (w : List ℕ) (n : ℕ) (c : Option ℕ) → LeadsLast reads w c n → length (code_of to c) ≤ 3 * n
+last_short to reads w n None d = omega arith
+last_short to reads w n (Some s) d = length_written to s n d.some d.wide
+
+module _ {way : Way} {from : Form} {w : List ℕ} {c : Option ℕ} {n k : ℕ} where
+  pub begins_some : BeginsBy way from w c n k → 0 < n
+  begins_some b = leads_some (reads_by way from) w n c b.leads
+
+  pub begins_within : BeginsBy way from w c n k → n ≤ length w
+  begins_within b = leads_within (reads_by way from) w n c b.leads
+
+  pub begins_short : (to : Form) → BeginsBy way from w c n k → length (code_of to c) ≤ 3 * n
+  begins_short to b = leads_short to (reads_by way from) w n c b.leads
+
+  pub ends_some : BeginsLast way from w c n k → 0 < n
+  ends_some b = last_some (reads_by way from) w n c b.leads
+
+  pub ends_within : BeginsLast way from w c n k → n ≤ length w
+  ends_within b = last_within (reads_by way from) w n c b.leads
+
+  pub ends_short : (to : Form) → BeginsLast way from w c n k → length (code_of to c) ≤ 3 * n
+  ends_short to b = last_short to (reads_by way from) w n c b.leads
+
+last_of_leads : (reads : List ℕ → List ℕ → Type 0) (w : List ℕ) (n : ℕ) (c : Option ℕ) → Leads reads w c n → LeadsLast reads w c n
+last_of_leads reads w n None d = record { some = d.some; within = d.within; first = λ ss r. rw (append-nil w) at (d.first [] ss (rw (append-nil (drop n w)) r)) }
+last_of_leads reads w n (Some s) d = Ends-from_decides d
 
 -- a piece that begins the bytes whatever follows begins them if nothing does
-pub BeginsLast-of : {way : Way} {from : Form} {w : List ℕ} {s n k : ℕ} → BeginsBy way from w s n k → BeginsLast way from w s n k
-BeginsLast-of {w = w} {n = n} begins = record {
-  ends = Ends-from_decides begins.decides;
+pub BeginsLast-of : {way : Way} {from : Form} {w : List ℕ} {c : Option ℕ} {n k : ℕ} → BeginsBy way from w c n k → BeginsLast way from w c n k
+BeginsLast-of {way} {from} {w} {c} {n} begins = record {
+  leads = last_of_leads (reads_by way from) w n c begins.leads;
   few = begins.few;
   counts = λ on. rw (append-nil w, append-nil (drop n w)) at (begins.counts on []);
 }
 
 -- the piece that begins them is longer than the buffer
-pub NextIsLonger-of : (way : Way) {from to : Form} (w x : List ℕ) {c n k room : ℕ} → BeginsBy way from w c n k → room < length (written to c) → NextIsLonger way from to (w ++ x) room
-NextIsLonger-of way {from} w x {c} {n} begins long = record { scalar = c; len = n; begins = Decides-more (reads_by way from) w x c n begins.decides; longer = long }
+pub NextIsLonger-of : (way : Way) {from to : Form} (w x : List ℕ) (c : Option ℕ) {n k room : ℕ} → BeginsBy way from w c n k → CodeIsLonger to c room → NextIsLonger way from to (w ++ x) room
+NextIsLonger-of way w x None begins long = absurd long
+NextIsLonger-of way {from} w x (Some s) {n} begins long = record { scalar = s; len = n; begins = Decides-more (reads_by way from) w x s n begins.leads; longer = long }
 
 -- The output for some bytes, whatever follows them.
 
@@ -69,8 +141,8 @@ Becomes-more {way} {from} {to} {a} {g} {b} x h = record {
   counts = λ on later. rw (append_assoc a x later, append_assoc b x later) (h.counts on (x ++ later));
 }
 
-pub Becomes-front : {way : Way} {from : Form} {to : Form} {w : List ℕ} {s n k : ℕ} → BeginsBy way from w s n k → Becomes way from to w (written to s) k (drop n w)
-Becomes-front {way} {from} {to} {w} {s} {n} d = record { same = list_first way from to w s n d.decides; counts = d.counts }
+pub Becomes-front : {way : Way} {from : Form} {to : Form} {w : List ℕ} {c : Option ℕ} {n k : ℕ} → BeginsBy way from w c n k → Becomes way from to w (code_of to c) k (drop n w)
+Becomes-front {way} {from} {to} {w} {c} {n} d = record { same = list_first way from to w c n d.leads; counts = d.counts }
 
 Becomes-text : {way : Way} {from to : Form} {text out : List ℕ} → Transcodes from to text out → Becomes way from to text out 0 []
 Becomes-text {way} {from} {to} {text} {out} t = record {
@@ -89,12 +161,11 @@ pub next_text : {way : Way} {from to : Form} {grown : List ℕ} (bytes : List �
 next_text bytes n t = Becomes-where (take (n + 3) bytes) (take 3 (drop n bytes)) (take_more n 3 bytes) refl (Becomes-more (take 3 (drop n bytes)) (Becomes-text t))
 
 -- a piece that four bytes decide
-pub next_piece : {way : Way} {from to : Form} (xs : List ℕ) (s n : ℕ) {k : ℕ} → BeginsBy way from (take 4 xs) s n k
-    → Becomes way from to (take (n + 3) xs) (written to s) k (take 3 (drop n xs))
-next_piece {way} {from} {to} xs s n begins =
-    let d = begins.decides in
-    let some = d.some in
-    let le : n ≤ 4 = omega (arith, d.within, length-take 4 xs) in
+pub next_piece : {way : Way} {from to : Form} (xs : List ℕ) (c : Option ℕ) (n : ℕ) {k : ℕ} → BeginsBy way from (take 4 xs) c n k
+    → Becomes way from to (take (n + 3) xs) (code_of to c) k (take 3 (drop n xs))
+next_piece {way} {from} {to} xs c n begins =
+    let some = begins_some begins in
+    let le : n ≤ 4 = omega (arith, begins_within begins, length-take 4 xs) in
     let count : 4 + (n - 1) ≡ n + 3 = omega arith in
     let four : n + (4 - n) ≡ 4 = omega arith in
     let three : 4 - n + (n - 1) ≡ 3 = omega arith in

@@ -8,6 +8,8 @@ pub mod EnoughRoom
 pub mod FedParts
 pub mod FirstFaults
 pub mod NextPieces
+pub mod Repairing
+pub mod RepairLaws
 pub mod OddParts
 pub mod FirstPieces
 pub mod Forms
@@ -19,6 +21,7 @@ pub mod GoodCodes
 pub mod Growing
 pub mod JoinedShards
 pub mod Listed
+pub mod MendedRuns
 pub mod LastBoundaries
 pub mod LossyLists
 pub mod LossyShards

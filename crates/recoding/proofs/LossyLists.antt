@@ -101,16 +101,6 @@ nothing_is_lossy from to = sym (same_lossy from to [] [] ([], parts_none from, r
 
 -- A part at the front.
 
-pub lossy_first : (from to : Form) (w : List ℕ) (s n : ℕ) → Decides (ReadsParts from) w s n → (later : List ℕ) → lossy from to (w ++ later) ≡ written to s ++ lossy from to (drop n w ++ later)
-lossy_first from to w s n d later =
-    let r = lossy_is from to (drop n w ++ later) in
-    sym (same_lossy from to (w ++ later) (written to s ++ lossy from to (drop n w ++ later)) (s ∷ r.0, d.first later r.0 r.1, ap (λ xs. written to s ++ xs) r.2))
-
-pub lossy_last : (from to : Form) (w : List ℕ) (s n : ℕ) → Ends (ReadsParts from) w s n → lossy from to w ≡ written to s ++ lossy from to (drop n w)
-lossy_last from to w s n d =
-    let r = lossy_is from to (drop n w) in
-    sym (same_lossy from to w (written to s ++ lossy from to (drop n w)) (s ∷ r.0, d.first r.0 r.1, ap (λ xs. written to s ++ xs) r.2))
-
 pub Decides-subpart : (w : List ℕ) (n : ℕ) → n ≤ length w → BeginsSubpart w n → Decides (ReadsParts Utf8) w 0xFFFD n
 Decides-subpart w n le h = record {
   some = (h []).some;

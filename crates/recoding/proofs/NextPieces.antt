@@ -1,9 +1,9 @@
--- The piece that begins some bytes in both ways of replacing, derived from the piece that a decoder gives.
-use Rattle.std.proofs.Common.{◌≡◌, ℕ, ◌+◌, ◌-◌, ◌<◌, ◌≤◌, ⊎_elim, inl, inr, Bool, true, Some, None, Option, List, [], ◌∷◌, ◌++◌, length, min, take, drop, flat_map, arith, refl, ap, sym, ◌∙◌, subst, append_assoc, take-append-drop, length-take, lit<}
+-- The piece that begins some bytes in each way of replacing, derived from the piece that a decoder gives.
+use Rattle.std.proofs.Common.{◌≡◌, ℕ, ◌+◌, ◌-◌, ◌<◌, ◌≤◌, ⊎_elim, inl, inr, Bool, true, Some, None, Option, List, [], ◌∷◌, ◌++◌, get_or, length, min, take, drop, flat_map, arith, refl, ap, sym, ◌∙◌, subst, append_assoc, take-append-drop, length-take, lit<}
 use Rattle.std.specs.Prelude.{All}
 use Rattle.std.specs.Option.{option_map}
 use Rattle.std.proofs.lemmas.Bool.{cases_lt}
-use Rattle.std.proofs.lemmas.List.{append-nil, drop_all, take-append-le}
+use Rattle.std.proofs.lemmas.List.{append-nil, drop_all, get_or-take, take-append-le, take_rest}
 use Rattle.std.proofs.lemmas.List.Elements.{All-cons, All-nil}
 use Rattle.utf_base.specs.Code.{utf8, utf16}
 use Rattle.utf_base.specs.Front.{NoneBegins}
@@ -27,16 +27,19 @@ use Rattle.recoding.proofs.Forms.{by_form, is_units}
 use Rattle.recoding.specs.Lossy.{BeginsNoCode, BeginsSubpart, ReadsParts, ShowsUnitParts}
 use Rattle.recoding.specs.Faults.{fault_count}
 use Rattle.recoding.specs.Recoded.{IsProperFront, Lacks, Reads, ShowsUnits, written}
-use Rattle.recoding.specs.NextScalars.{Decides, Ends, ShowsEach, fault_len, utf16_form}
-use Rattle.recoding.specs.Replacing.{BeginsBy, BeginsLast, len_at_end, reads_by}
+use Rattle.recoding.specs.NextScalars.{Ends, Leads, fault_len, utf16_form}
+use Rattle.recoding.specs.TextForms.{text_form}
+use Rattle.recoding.specs.RepairTables.{char_for, unit_for}
+use Rattle.recoding.specs.declared.repair.Repair.{Repair}
+use Rattle.recoding.specs.Replacing.{BeginsBy, BeginsLast, len_at_end, reads_by, replaced_by}
 use Rattle.recoding.specs.declared.way.Way.{Way}
-use Rattle.recoding.specs.declared.way.Way.TheVariants.{Faults, Subparts}
+use Rattle.recoding.specs.declared.way.Way.TheVariants.{Faults, Subparts, Table}
 use Rattle.recoding.specs.Strict.{AwaitsKind, BeginsChar, BeginsFault, kind_of}
 use Rattle.recoding.proofs.FaultCounts.{counts_more, fault_counts, units_count_more}
 use Rattle.recoding.proofs.FrontBytes.{byte_counts, byte_shows, fault_is_some, fault_shows_units, first_unit, lacks_second, leading_counts, leading_shows, odd_two, replacement, units_two}
 use Rattle.utf_base.proofs.LaterLemmas.{no_code_at_last}
 use Rattle.recoding.proofs.HeldFronts.{leading_by_itself, no_code_in_front, two_do_not_lack}
-use Rattle.recoding.proofs.LossyLists.{Decides-subpart, Ends-front, text_shows_parts, units_in_parts, units_show}
+use Rattle.recoding.proofs.LossyLists.{Decides-subpart, Ends-front, units_in_parts, units_show}
 use Rattle.recoding.proofs.OddParts.{odd_part_two}
 use Rattle.recoding.proofs.SubpartLengths.{some_where_no_code}
 use Rattle.utf_base.proofs.PartLists.{parts_show_none, parts_show_one}
@@ -44,23 +47,21 @@ use Rattle.utf_base.proofs.Rests.{fault_shows_first}
 use Rattle.utf_base.proofs.Utf8Code.{length_utf8, utf8_is_code}
 use Rattle.utf_base.proofs.Utf16Code.{utf16_is_code}
 use Rattle.utf_base.specs.Subparts.{ShowsParts}
-use Rattle.recoding.proofs.TextLaws.{text_counts, text_shows}
+use Rattle.recoding.proofs.Becoming.{text_reads}
+use Rattle.recoding.proofs.Repairing.{Leads-byte, Leads-few, Leads-unit}
+use Rattle.recoding.proofs.TextLaws.{text_counts}
 use Rattle.recoding.proofs.TextRuns.{wide_written}
 
 -- A character.
 
-text_reads : (way : Way) (from : Form) (cs : List ℕ) → All IsScalar cs → ShowsEach (reads_by way from) (flat_map (written from) cs) cs
-text_reads Faults from cs all = text_shows from cs all
-text_reads Subparts from cs all = text_shows_parts from cs all
-
-pub Begins-char : (way : Way) {from : Form} {w : List ℕ} {s n : ℕ} → BeginsChar from w s n → BeginsBy way from w s n 0
+pub Begins-char : (way : Way) {from : Form} {w : List ℕ} {s n : ℕ} → BeginsChar from w s n → BeginsBy way from w (Some s) n 0
 Begins-char way {from} {w} {s} {n} b =
     let one : All IsScalar (s ∷ []) = All-cons IsScalar s [] b.scalar (All-nil IsScalar) in
     let within = b.within in
     let whole : (later : List ℕ) → flat_map (written from) (s ∷ []) ++ (drop n w ++ later) ≡ w ++ later = λ later.
     ap (λ xs. xs ++ (drop n w ++ later)) (append-nil (written from s) ∙ sym b.code) ∙ sym (append_assoc (take n w) (drop n w) later) ∙ ap (λ xs. xs ++ later) (take-append-drop n w) in
     record {
-      decides = record {
+      leads = record {
         some = b.some;
         within = b.within;
         scalar = b.scalar;
@@ -98,11 +99,11 @@ no_code_of_four w four none later s h =
     })
 
 -- if no code begins the bytes, one byte is a fault, and a maximal subpart is one part
-pub Begins-byte : {w : List ℕ} → BeginsNoCode w → BeginsBy Faults Utf8 w 0xFFFD 1 1
+pub Begins-byte : {w : List ℕ} → BeginsNoCode w → BeginsBy Faults Utf8 w (Some 0xFFFD) 1 1
 Begins-byte {w} none =
     let some = some_where_no_code w none in
     record {
-      decides = record {
+      leads = record {
         some = omega arith;
         within = omega arith;
         scalar = replacement;
@@ -113,8 +114,12 @@ Begins-byte {w} none =
       counts = λ on later. counts_more (w ++ later) (drop 1 w ++ later) 1 (λ m r. fault_counts utf8 utf8_is_code w later m some (none later) r);
     }
 
-pub Begins-subpart : {w : List ℕ} {n : ℕ} → n ≤ length w → BeginsSubpart w n → BeginsBy Subparts Utf8 w 0xFFFD n 1
-Begins-subpart {w} {n} le h = record { decides = Decides-subpart w n le h; few = omega arith; counts = λ on. absurd on }
+-- what a table has for the byte
+pub Begins-repaired : (repair : Repair) {w : List ℕ} → BeginsNoCode w → BeginsBy (Table repair) Utf8 w (char_for repair.chars.now (get_or w 0 0)) 1 1
+Begins-repaired repair none = record { leads = Leads-byte repair.chars.now _ none; few = omega arith; counts = (Begins-byte none).counts }
+
+pub Begins-subpart : {w : List ℕ} {n : ℕ} → n ≤ length w → BeginsSubpart w n → BeginsBy Subparts Utf8 w (Some 0xFFFD) n 1
+Begins-subpart {w} {n} le h = record { leads = Decides-subpart w n le h; few = omega arith; counts = λ on. absurd on }
 
 -- A fault of UTF-16 is one unit, and a subpart too.
 
@@ -150,8 +155,11 @@ no_code_of_units : (high : Bool) (w : List ℕ) (k : FaultKind) → 2 ≤ length
 no_code_of_units high w k two kinds later s h =
     no_unit_kind k (unit_fault_kind (units_of high (w ++ later))) (units_code_or_one_kind.fault (units_of high (w ++ later)) s (rw (units_two high w later two) h)) (kinds later)
 
+repaired_unit : (high : Bool) (table w : List ℕ) → (text_form (utf16_form high)).repaired_fault table w ≡ unit_for table
+repaired_unit high table w = rw (is_units high) refl
+
 unit_decides : (way : Way) (high : Bool) (w : List ℕ) (k : FaultKind) → 2 ≤ length w → ((later : List ℕ) → option_map kind.Utf16 (unit_fault_kind (units_of high (w ++ later))) ≡ Some k)
-    → Decides (reads_by way (utf16_form high)) w 0xFFFD 2
+    → Leads (reads_by way (utf16_form high)) w (replaced_by way (utf16_form high) w) 2
 unit_decides Faults high w k two kinds = rw (is_units high, Reads) (fault_shows_units high w two (no_code_of_units high w k two kinds))
 unit_decides Subparts high w k two kinds = rw (is_units high, ReadsParts) (record {
   some = omega arith;
@@ -166,11 +174,12 @@ unit_decides Subparts high w k two kinds = rw (is_units high, ReadsParts) (recor
         ap (λ xs. 0xFFFD ∷ xs) (f ∙ ap (λ o. ts ++ o) (sym (odd_part_two high w later two (unit_follows high w k two kinds)))),
       );
 })
+unit_decides (Table t) high w k two kinds = rw (repaired_unit high t.chars.now w) (Leads-unit t.chars.now high w two (no_code_of_units high w k two kinds))
 
 unit_begins : (way : Way) (high : Bool) (w : List ℕ) (k : FaultKind) → 2 ≤ length w → ((later : List ℕ) → option_map kind.Utf16 (unit_fault_kind (units_of high (w ++ later))) ≡ Some k)
-    → BeginsBy way (utf16_form high) w 0xFFFD 2 1
+    → BeginsBy way (utf16_form high) w (replaced_by way (utf16_form high) w) 2 1
 unit_begins way high w k two kinds = record {
-  decides = unit_decides way high w k two kinds;
+  leads = unit_decides way high w k two kinds;
   few = omega arith;
   counts = λ on later.
       units_count_more high (utf16_form high) (w ++ later) (drop 2 w ++ later) 1 0 refl
@@ -178,7 +187,7 @@ unit_begins way high w k two kinds = record {
       (ap length (odd_two w later two) ∙ omega arith);
 }
 
-pub Begins-unit : (way : Way) (high : Bool) {w : List ℕ} {k : FaultKind} {n : ℕ} → BeginsFault (utf16_form high) w k n → BeginsBy way (utf16_form high) w 0xFFFD n 1
+pub Begins-unit : (way : Way) (high : Bool) {w : List ℕ} {k : FaultKind} {n : ℕ} → BeginsFault (utf16_form high) w k n → BeginsBy way (utf16_form high) w (replaced_by way (utf16_form high) w) n 1
 Begins-unit way high {w} {k} {n} f =
     let two : n ≡ 2 = rw (is_units high, fault_len) at f.len in
     let within = f.within in
@@ -256,12 +265,12 @@ after_fault from w =
     (λ (ge : fault_len from ≤ length w). let same : min (fault_len from) (length w) ≡ fault_len from = omega arith in ap (λ k. drop k w) same)
     (cases_lt (length w) (fault_len from))
 
-pub BeginsLast-few : (way : Way) (from : Form) (w : List ℕ) → 0 < length w → Lacks from w → BeginsLast way from w 0xFFFD (len_at_end way from (length w)) 1
+pub BeginsLast-few : (way : Way) (from : Form) (w : List ℕ) → 0 < length w → Lacks from w → BeginsLast way from w (replaced_by way from w) (len_at_end way from (length w)) 1
 BeginsLast-few Faults from w some lacks =
     let e = ends_by_fault from w some lacks in
     let least = fault_is_some from in
     record {
-      ends = record {
+      leads = record {
         some = omega arith;
         within = omega arith;
         scalar = replacement;
@@ -271,4 +280,28 @@ BeginsLast-few Faults from w some lacks =
       few = omega arith;
       counts = λ on. rw (after_fault from w) e.counts;
     }
-BeginsLast-few Subparts from w some lacks = record { ends = Ends-few from w some lacks; few = omega arith; counts = λ on. absurd on }
+BeginsLast-few Subparts from w some lacks = record { leads = Ends-few from w some lacks; few = omega arith; counts = λ on. absurd on }
+BeginsLast-few (Table t) from w some lacks =
+    let e = ends_by_fault from w some lacks in
+    let least = fault_is_some from in
+    record {
+      leads = Leads-few from t.chars.now w (min (fault_len from) (length w)) (omega arith) (omega arith) (after_fault from w) lacks;
+      few = omega arith;
+      counts = λ on. rw (after_fault from w) e.counts;
+    }
+
+-- What replaces a fault is decided by its front.
+
+repaired_front : (from : Form) (table w : List ℕ) (n : ℕ) → 0 < n → (text_form from).repaired_fault table (take n w) ≡ (text_form from).repaired_fault table w
+repaired_front = by_form _ (λ table w n some. ap (char_for table) (get_or-take n w 0 0 some)) (λ high. rw (is_units high) (λ table w n some. refl))
+
+pub replaced_by_front : (way : Way) (from : Form) (w : List ℕ) (n : ℕ) → 0 < n → replaced_by way from (take n w) ≡ replaced_by way from w
+replaced_by_front Faults from w n some = refl
+replaced_by_front Subparts from w n some = refl
+replaced_by_front (Table t) from w n some = repaired_front from t.chars.now w n some
+
+pub begins_replaced : (way : Way) (from : Form) (bytes : List ℕ) (read n : ℕ) (c : Option ℕ) → c ≡ replaced_by way from (take (length bytes - read) (drop read bytes))
+    → BeginsBy way from (take 4 (drop read bytes)) (replaced_by way from (take 4 (drop read bytes))) n 1 → BeginsBy way from (take 4 (drop read bytes)) c n 1
+begins_replaced way from bytes read n c e begins =
+    let same : replaced_by way from (take 4 (drop read bytes)) ≡ c = replaced_by_front way from (drop read bytes) 4 (lit< tt) ∙ ap (replaced_by way from) (sym (take_rest bytes read)) ∙ sym e in
+    subst (λ a. BeginsBy way from (take 4 (drop read bytes)) a n 1) same begins

@@ -1,19 +1,18 @@
 -- Transcoding to the end of an output, step by step, and the results for its callers.
-use Rattle.std.proofs.Common.{◌≡◌, ℕ, ◌+◌, ◌-◌, ◌*◌, ◌<◌, ◌≤◌, Bool, true, false, List, [], ◌++◌, length, take, drop, arith, rules, ap, ap₂, sym, subst, ◌∙◌, length-append, length-drop, length-take, take-append-drop}
+use Rattle.std.proofs.Common.{◌≡◌, ℕ, ◌+◌, ◌-◌, ◌*◌, ◌<◌, ◌≤◌, Bool, true, false, Option, Some, List, [], ◌++◌, length, take, drop, arith, rules, ap, ap₂, sym, subst, ◌∙◌, length-append, length-drop, length-take, take-append-drop}
 use Rattle.std.proofs.lemmas.List.{take_rest, drop-drop, drop_all}
 use Rattle.std.specs.Prelude.{IsTrue, IsFalse, Vec, vec_len, vec_capacity}
 use Rattle.recoding.specs.declared.form.Form.{Form}
 use Rattle.recoding.specs.declared.room.Room.{Room}
 use Rattle.recoding.specs.declared.way.Way.{Way}
 use Rattle.recoding.specs.Recoded.{written, Lacks}
-use Rattle.recoding.specs.Replacing.{BeginsBy, FillsPlace, NextIsLonger, Reaches, Recodes, at_place, reads_by}
+use Rattle.recoding.specs.Replacing.{BeginsBy, CodeIsLonger, FillsPlace, NextIsLonger, Reaches, Recodes, at_place, code_of}
 use Rattle.recoding.specs.declared.engine.Reached.{Reached}
 use Rattle.recoding.specs.Outputs.{Extends}
 use Rattle.recoding.specs.FilledRooms.{FillsRoom}
 use Rattle.recoding.specs.Rooms.{HasRoomFor}
-use Rattle.recoding.specs.NextScalars.{Decides}
 use Rattle.recoding.specs.Strict.{PutsText}
-use Rattle.recoding.proofs.Becoming.{Becomes-none, NextIsLonger-of, next_piece, next_text, run_after}
+use Rattle.recoding.proofs.Becoming.{Becomes-none, NextIsLonger-of, begins_short, begins_some, begins_within, next_piece, next_text, run_after}
 use Rattle.recoding.proofs.FrontBytes.{lacks_all}
 use Rattle.recoding.proofs.Growing.{length_written}
 use Rattle.recoding.proofs.TextRuns.{text_room}
@@ -61,32 +60,31 @@ module _ {O : Type 0} {appends : O → List ℕ → O → Type 0} {way : Way} {f
       subst (λ m. Recodes appends way from to bytes old new (p + n) m) same (Recodes-then more f run)
 
   -- one piece, decided by four bytes
-  pub Recodes-code : ((a b c : O) (xs ys : List ℕ) → appends a xs b → appends b ys c → appends a (xs ++ ys) c) → {old mid new : O} {p s n j k : ℕ}
-      → Recodes appends way from to bytes old mid p j → BeginsBy way from (take 4 (drop p bytes)) s n k → appends mid (written to s) new → Recodes appends way from to bytes old new (p + n) (j + k)
-  Recodes-code more {old} {mid} {new} {p} {s} {n} f begins put =
-      let d = begins.decides in
-      let few = length_written to s n d.some d.wide in
+  pub Recodes-code : ((a b c : O) (xs ys : List ℕ) → appends a xs b → appends b ys c → appends a (xs ++ ys) c) → {old mid new : O} {p n j k : ℕ} (c : Option ℕ)
+      → Recodes appends way from to bytes old mid p j → BeginsBy way from (take 4 (drop p bytes)) c n k → appends mid (code_of to c) new → Recodes appends way from to bytes old new (p + n) (j + k)
+  Recodes-code more {old} {mid} {new} {p} {n} c f begins put =
+      let few = begins_short to begins in
       record {
-        grown = f.grown ++ written to s;
-        appended = more old mid new f.grown (written to s) f.appended put;
-        within = omega (arith, f.within, d.within, length-drop p bytes, length-take 4 (drop p bytes));
-        short = omega (arith, f.short, few, length-append f.grown (written to s));
-        few = omega (arith, f.few, begins.few, d.some);
-        becomes = run_after bytes p n f.becomes (next_piece (drop p bytes) s n begins);
+        grown = f.grown ++ code_of to c;
+        appended = more old mid new f.grown (code_of to c) f.appended put;
+        within = omega (arith, f.within, begins_within begins, length-drop p bytes, length-take 4 (drop p bytes));
+        short = omega (arith, f.short, few, length-append f.grown (code_of to c));
+        few = omega (arith, f.few, begins.few, begins_some begins);
+        becomes = run_after bytes p n f.becomes (next_piece (drop p bytes) c n begins);
       }
 
   -- a character, which is no fault
   pub Recodes-char : ((a b c : O) (xs ys : List ℕ) → appends a xs b → appends b ys c → appends a (xs ++ ys) c) → {old mid new : O} {p s n j : ℕ}
-      → Recodes appends way from to bytes old mid p j → BeginsBy way from (take 4 (drop p bytes)) s n 0 → appends mid (written to s) new → Recodes appends way from to bytes old new (p + n) j
+      → Recodes appends way from to bytes old mid p j → BeginsBy way from (take 4 (drop p bytes)) (Some s) n 0 → appends mid (written to s) new → Recodes appends way from to bytes old new (p + n) j
   Recodes-char more {old} {mid} {new} {p} {s} {n} {j} f begins put =
       let same : j + 0 ≡ j = omega arith in
-      subst (λ m. Recodes appends way from to bytes old new (p + n) m) same (Recodes-code more f begins put)
+      subst (λ m. Recodes appends way from to bytes old new (p + n) m) same (Recodes-code more (Some s) f begins put)
 
   -- capacity for all bytes is capacity for a code that begins the ones left
-  pub room_for_next : {room : O → ℕ} → ((a b : O) (xs : List ℕ) → appends a xs b → room a ≤ room b + length xs) → {old mid : O} {p s n k : ℕ}
-      → Recodes appends way from to bytes old mid p k → Decides (reads_by way from) (take 4 (drop p bytes)) s n → 3 * length bytes ≤ room old → length (written to s) ≤ room mid
-  room_for_next law {old} {mid} {p} {s} {n} f d all =
-      omega (arith, all, law old mid f.grown f.appended, f.short, f.within, length_written to s n d.some d.wide, d.within, length-drop p bytes, length-take 4 (drop p bytes))
+  pub room_for_next : {room : O → ℕ} → ((a b : O) (xs : List ℕ) → appends a xs b → room a ≤ room b + length xs) → {old mid : O} {p n j k : ℕ} (c : Option ℕ)
+      → Recodes appends way from to bytes old mid p k → BeginsBy way from (take 4 (drop p bytes)) c n j → 3 * length bytes ≤ room old → length (code_of to c) ≤ room mid
+  room_for_next law {old} {mid} {p} {n} c f begins all =
+      omega (arith, all, law old mid f.grown f.appended, f.short, f.within, begins_short to begins, begins_within begins, length-drop p bytes, length-take 4 (drop p bytes))
 
   -- capacity for all bytes is capacity for the ones left
   pub room_for_rest : {room : O → ℕ} → ((a b : O) (xs : List ℕ) → appends a xs b → room a ≤ room b + length xs) → {old mid : O} {p k : ℕ}
@@ -111,11 +109,11 @@ module _ {O : Type 0} {appends : O → List ℕ → O → Type 0} {room : O → 
   Reaches-end {n} f e = Reaches-waiting f (omega arith) (rw (drop_all n bytes (omega arith)) (lacks_all from))
 
   -- there is no capacity for the code that begins the bytes left, and nothing more was written
-  pub Reaches-full : {mid : O} {n k s len faults : ℕ} → Recodes appends way from to bytes old mid n k → new ≡ mid → BeginsBy way from (take 4 (drop n bytes)) s len faults → room mid < length (written to s)
+  pub Reaches-full : {mid : O} {n k len faults : ℕ} (c : Option ℕ) → Recodes appends way from to bytes old mid n k → new ≡ mid → BeginsBy way from (take 4 (drop n bytes)) c len faults → CodeIsLonger to c (room mid)
       → room mid < 4 → Reaches appends room way from to bytes old new (record { read = n; replaced = k; is_full = true; is_waiting = false })
-  Reaches-full {mid} {n} {k} {s} {len} f kept begins longer short =
+  Reaches-full {mid} {n} {k} {len} c f kept begins longer short =
       let xs = drop n bytes in
-      let full : NextIsLonger way from to xs (room mid) = rw (take-append-drop 4 xs) at (NextIsLonger-of way (take 4 xs) (drop 4 xs) begins longer) in
+      let full : NextIsLonger way from to xs (room mid) = rw (take-append-drop 4 xs) at (NextIsLonger-of way (take 4 xs) (drop 4 xs) c begins longer) in
       rw kept (record { runs = f; full = λ is. full; short = λ is. short; waits = λ is. absurd (no_truth is); lacks = λ is. absurd (no_truth is) })
 
   -- the run ends for neither reason

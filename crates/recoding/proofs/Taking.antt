@@ -1,31 +1,38 @@
 -- Parts that a recoder takes together with its carried-over bytes, step by step, and the results for its
 -- callers.
-use Rattle.std.proofs.Common.{◌≡◌, ℕ, ◌+◌, ◌-◌, ◌<◌, ◌≤◌, ⊎_elim, Bool, true, false, rules, List, [], ◌++◌, length, min, take, drop, arith, refl, ap, ap₂, sym, ◌∙◌, subst, append_assoc, length-append, length-drop, length-take, take-append-drop}
+use Rattle.std.proofs.Common.{◌≡◌, ℕ, ◌+◌, ◌-◌, ◌<◌, ◌≤◌, ⊎_elim, Bool, true, false, rules, List, [], ◌++◌, Option, length, min, take, drop, arith, refl, ap, ap₂, sym, ◌∙◌, subst, append_assoc, length-append, length-drop, length-take, take-append-drop}
 use Rattle.std.proofs.lemmas.Bool.{cases_lt}
 use Rattle.std.proofs.lemmas.List.{append-nil, drop_all, drop-drop, take_all}
 use Rattle.std.specs.Prelude.{IsTrue, IsFalse, Vec, vec_capacity}
 use Rattle.recoding.specs.declared.form.Form.{Form}
 use Rattle.recoding.specs.declared.way.Way.{Way}
-use Rattle.recoding.specs.declared.way.Way.TheVariants.{Faults, Subparts}
+use Rattle.recoding.specs.declared.repair.Repair.{Repair}
+use Rattle.recoding.specs.declared.way.Way.TheVariants.{Faults, Subparts, Table}
 use Rattle.recoding.specs.Faults.{AddsUp, CountsFed, Replaces, ReplacesLast, fault_count, saturated}
 use Rattle.recoding.specs.LossyBytes.{AddsAllLossy, AddsLastLossy, AddsLossy, FeedsLossy, FinishesLossy, lossy, lossy_outcome}
 use Rattle.recoding.specs.Outputs.{Extends}
-use Rattle.recoding.specs.Recoded.{Feeds, Finishes, IsRecoded, Lacks, Recoding, written}
-use Rattle.recoding.specs.Replacing.{Becomes, BeginsBy, BeginsLast, FillsPlace, IsFullBy, IsLastFullBy, NextIsLonger, Recodes, Takes, TakesAll, TakesLast, at_place, list_by}
+use Rattle.recoding.specs.Recoded.{Feeds, Finishes, IsRecoded, Lacks, Recoding}
+use Rattle.recoding.specs.Repaired.{AddsAllRepaired, AddsLastRepaired, AddsRepaired, FeedsRepaired, FinishesRepaired, repaired, repaired_outcome}
+use Rattle.recoding.specs.Replacing.{Becomes, BeginsBy, BeginsLast, CodeIsLonger, FillsPlace, IsCounting, IsFullBy, IsLastFullBy, NextIsLonger, Recodes, Takes, TakesAll, TakesLast, at_place, code_of, list_by}
 use Rattle.recoding.specs.Rooms.{ComesNearer, FeedsInto, FinishesInto, HasRoomFor, IsAmple}
 use Rattle.recoding.proofs.Advancing.{Replaces-of}
-use Rattle.recoding.proofs.Becoming.{NextIsLonger-of, Becomes-front, Becomes-more, Becomes-none, Becomes-then, Becomes-where, continues_of, leaves_of, list_last}
+use Rattle.recoding.proofs.Becoming.{NextIsLonger-of, Becomes-front, Becomes-more, Becomes-none, Becomes-then, Becomes-where, begins_short, begins_some, begins_within, continues_of, ends_short, ends_some, ends_within, leaves_of, list_last}
 use Rattle.recoding.proofs.Growing.{length_written, recoded_nothing}
 use Rattle.recoding.proofs.LossyLists.{nothing_is_lossy}
+use Rattle.recoding.proofs.Repairing.{nothing_is_repaired}
 use Rattle.recoding.proofs.RoomLemmas.{take_more}
 
+-- a recoder whose carried-over bytes were replaced
+pub held_as : {r s : Recoding} {xs ys : List ℕ} → s ≡ r → xs ≡ ys → record (s) { held = xs } ≡ record (r) { held = ys }
+held_as {r} {s} {xs} {ys} e f = ap₂ (λ (x : Recoding) zs. record (x) { held = zs }) e f
+
 -- Bytes that begin with a piece whose code is longer than the buffer, followed by the rest of the part.
-pub IsFullBy-of : (way : Way) (s : Recoding) (part : List ℕ) {c n k room : ℕ} (taken : ℕ) (from to : Form) → from ≡ s.from → to ≡ s.to → BeginsBy way from (s.held ++ take taken part) c n k → room < length (written to c)
+pub IsFullBy-of : (way : Way) (s : Recoding) (part : List ℕ) (c : Option ℕ) {n k room : ℕ} (taken : ℕ) (from to : Form) → from ≡ s.from → to ≡ s.to → BeginsBy way from (s.held ++ take taken part) c n k → CodeIsLonger to c room
     → NextIsLonger way s.from s.to (s.held ++ part) room
-IsFullBy-of way s part {c} {n} {k} {room} taken from to e i begins longer =
+IsFullBy-of way s part c {n} {k} {room} taken from to e i begins longer =
     let whole : (s.held ++ take taken part) ++ drop taken part ≡ s.held ++ part = append_assoc s.held (take taken part) (drop taken part) ∙ ap (λ xs. s.held ++ xs) (take-append-drop taken part) in
     subst (λ xs. NextIsLonger way s.from s.to xs room) whole
-    (NextIsLonger-of way (s.held ++ take taken part) (drop taken part) (subst (λ y. BeginsBy way y (s.held ++ take taken part) c n k) e begins) (subst (λ y. room < length (written y c)) i longer))
+    (NextIsLonger-of way (s.held ++ take taken part) (drop taken part) c (subst (λ y. BeginsBy way y (s.held ++ take taken part) c n k) e begins) (subst (λ y. CodeIsLonger y c room) i longer))
 
 -- a run left such bytes, some of which are carried over
 pub IsFullBy-run : (way : Way) (s v : Recoding) (part : List ℕ) (n end room : ℕ) (from to : Form) → from ≡ s.from → to ≡ s.to → n ≤ end → v ≡ record (s) { held = take (end - n) (drop n part) }
@@ -82,21 +89,21 @@ module _ {O : Type 0} {appends : O → List ℕ → O → Type 0} {way : Way} wh
       }
 
   -- a piece that they begin with
-  pub Takes-piece : {s v : Recoding} {part : List ℕ} {old new : O} {c n k : ℕ} (taken : ℕ) (from to : Form) → from ≡ s.from → to ≡ s.to → taken ≤ length part → length s.held + taken ≤ 4
-      → BeginsBy way from (s.held ++ take taken part) c n k → appends old (written to c) new → v ≡ record (s) { held = drop n (s.held ++ take taken part) } → Takes appends way s part old new taken k v
-  Takes-piece {s} {v} {part} {old} {new} {c} {n} {k} taken from to e i within four begins put same =
+  pub Takes-piece : {s v : Recoding} {part : List ℕ} {old new : O} {n k : ℕ} (c : Option ℕ) (taken : ℕ) (from to : Form) → from ≡ s.from → to ≡ s.to → taken ≤ length part → length s.held + taken ≤ 4
+      → BeginsBy way from (s.held ++ take taken part) c n k → appends old (code_of to c) new → v ≡ record (s) { held = drop n (s.held ++ take taken part) } → Takes appends way s part old new taken k v
+  Takes-piece {s} {v} {part} {old} {new} {n} {k} c taken from to e i within four begins put same =
       let w : List ℕ = s.held ++ take taken part in
-      let d = begins.decides in
-      let some = d.some in
+      let some = begins_some begins in
+      let inside = begins_within begins in
       let at : v.held ≡ drop n w = ap (λ x. x.held) same in
       let len : length w ≡ length s.held + taken = omega (arith, length-append s.held (take taken part), length-take taken part) in
       let here : BeginsBy way s.from w c n k = subst (λ y. BeginsBy way y w c n k) e begins in
       record {
-        grown = written s.to c;
-        appended = subst (λ y. appends old (written y c) new) i put;
+        grown = code_of s.to c;
+        appended = subst (λ y. appends old (code_of y c) new) i put;
         within = within;
-        short = omega (arith, length_written s.to c n d.some d.wide, ap length at, length-drop n w, d.within);
-        fewer = omega (arith, begins.few, ap length at, length-drop n w, d.within);
+        short = omega (arith, begins_short s.to begins, ap length at, length-drop n w);
+        fewer = omega (arith, begins.few, ap length at, length-drop n w);
         becomes = Becomes-where w v.held refl (sym at) (Becomes-front here);
         from = ap (λ x. x.from) same;
         to = ap (λ x. x.to) same;
@@ -182,23 +189,23 @@ module _ {O : Type 0} {appends : O → List ℕ → O → Type 0} {way : Way} wh
   pub TakesLast-none : ((a : O) → appends a [] a) → (r : Recoding) {out : O} → TakesLast appends way r out out 0 r
   TakesLast-none none r {out} = record { grown = []; appended = none out; short = omega arith; fewer = omega arith; same = refl; counts = λ on. omega arith; from = refl; to = refl; replaced = refl }
 
-  pub TakesLast-piece : ((a b c : O) (xs ys : List ℕ) → appends a xs b → appends b ys c → appends a (xs ++ ys) c) → {r s v : Recoding} {old mid new : O} {c n j k : ℕ} (from to : Form)
-      → from ≡ r.from → to ≡ r.to → TakesLast appends way r old mid j s → BeginsLast way from s.held c n k → appends mid (written to c) new
+  pub TakesLast-piece : ((a b c : O) (xs ys : List ℕ) → appends a xs b → appends b ys c → appends a (xs ++ ys) c) → {r s v : Recoding} {old mid new : O} {n j k : ℕ} (c : Option ℕ) (from to : Form)
+      → from ≡ r.from → to ≡ r.to → TakesLast appends way r old mid j s → BeginsLast way from s.held c n k → appends mid (code_of to c) new
       → v ≡ record (s) { held = drop n s.held } → TakesLast appends way r old new (j + k) v
-  TakesLast-piece law {r} {s} {v} {old} {mid} {new} {c} {n} {j} {k} from to e i f begins put same =
-      let d = begins.ends in
-      let some = d.some in
+  TakesLast-piece law {r} {s} {v} {old} {mid} {new} {n} {j} {k} c from to e i f begins put same =
+      let some = ends_some begins in
+      let inside = ends_within begins in
       let at : v.held ≡ drop n s.held = ap (λ x. x.held) same in
-      let put_here : appends mid (written r.to c) new = subst (λ y. appends mid (written y c) new) i put in
+      let put_here : appends mid (code_of r.to c) new = subst (λ y. appends mid (code_of y c) new) i put in
       let here : BeginsLast way r.from s.held c n k = subst (λ y. BeginsLast way y s.held c n k) e begins in
       record {
-        grown = f.grown ++ written r.to c;
-        appended = law old mid new f.grown (written r.to c) f.appended put_here;
-        short = omega (arith, f.short, length_written r.to c n d.some d.wide, length-append f.grown (written r.to c), ap length at, length-drop n s.held, d.within);
-        fewer = omega (arith, f.fewer, begins.few, ap length at, length-drop n s.held, d.within);
+        grown = f.grown ++ code_of r.to c;
+        appended = law old mid new f.grown (code_of r.to c) f.appended put_here;
+        short = omega (arith, f.short, ends_short r.to begins, length-append f.grown (code_of r.to c), ap length at, length-drop n s.held);
+        fewer = omega (arith, f.fewer, begins.few, ap length at, length-drop n s.held);
         same =
-            f.same ∙ ap (λ xs. f.grown ++ xs) (list_last way r.from r.to s.held c n here.ends ∙ ap (λ xs. written r.to c ++ list_by way r.from r.to xs) (sym at))
-            ∙ sym (append_assoc f.grown (written r.to c) (list_by way r.from r.to v.held));
+            f.same ∙ ap (λ xs. f.grown ++ xs) (list_last way r.from r.to s.held c n here.leads ∙ ap (λ xs. code_of r.to c ++ list_by way r.from r.to xs) (sym at))
+            ∙ sym (append_assoc f.grown (code_of r.to c) (list_by way r.from r.to v.held));
         counts = λ on. omega (arith, f.counts on, here.counts on, ap (fault_count r.from) at);
         from = ap (λ x. x.from) same ∙ f.from;
         to = ap (λ x. x.to) same ∙ f.to;
@@ -264,14 +271,14 @@ all_feeds r part old new s (n, t, f, lacks, e) =
     rw e (record { grows = record { grown = f.grown; appended = put.items; continues = rw whole at (continues_of f.becomes) }; from = f.from; to = f.to; few = f.few })
 
 -- the number of faults that were replaced
-replaces : {O : Type 0} {appends : O → List ℕ → O → Type 0} {r s t : Recoding} {part : List ℕ} {old new : O} {read n m : ℕ} → Takes appends Faults r part old new read n s → t ≡ record (s) { replaced = m }
-    → Replaces r (take read part) n t
-replaces {r = r} {t = t} {part = part} {read = read} {n = n} f e = Replaces-of r t r.from (take read part) _ _ n refl (ap (λ x. x.from) e ∙ f.from) refl (ap (λ x. x.held) e) (f.becomes.counts tt)
+replaces : {O : Type 0} {appends : O → List ℕ → O → Type 0} {way : Way} {r s t : Recoding} {part : List ℕ} {old new : O} {read n m : ℕ} → IsCounting way → Takes appends way r part old new read n s
+    → t ≡ record (s) { replaced = m } → Replaces r (take read part) n t
+replaces {r = r} {t = t} {part = part} {read = read} {n = n} on f e = Replaces-of r t r.from (take read part) _ _ n refl (ap (λ x. x.from) e ∙ f.from) refl (ap (λ x. x.held) e) (f.becomes.counts on)
 
 pub all_counted : {Z : Type 0} (r : Recoding) (part : List ℕ) (old new : Vec ℕ Z) (s : Recoding) → TakesAll r part old new s → CountsFed r part s
 all_counted r part old new s (n, t, f, lacks, e) =
     let whole : take (length part) part ≡ part = take_all (length part) part (omega arith) in
-    (n, rw whole at (replaces f e), ap (λ x. x.replaced) e ∙ ap (λ m. saturated (m + n)) f.replaced)
+    (n, rw whole at (replaces tt f e), ap (λ x. x.replaced) e ∙ ap (λ m. saturated (m + n)) f.replaced)
 
 pub all_lacks : {Z : Type 0} (r : Recoding) (part : List ℕ) (old new : Vec ℕ Z) (s : Recoding) → TakesAll r part old new s → Lacks r.from s.held
 all_lacks r part old new s (n, t, f, lacks, e) = rw e lacks
@@ -333,9 +340,9 @@ fed_into f e =
       fits = fits_old f;
     })
 
-pub replaces_into : {r s t : Recoding} {part old new : List ℕ} {read wrote n m : ℕ} → Takes FillsPlace Faults r part (at_place old 0) (at_place new wrote) read n s → t ≡ record (s) { replaced = m }
+pub replaces_into : {way : Way} {r s t : Recoding} {part old new : List ℕ} {read wrote n m : ℕ} → IsCounting way → Takes FillsPlace way r part (at_place old 0) (at_place new wrote) read n s → t ≡ record (s) { replaced = m }
     → Replaces r (take read part) n t
-replaces_into f e = replaces f e
+replaces_into on f e = replaces on f e
 
 pub counted : {O : Type 0} {appends : O → List ℕ → O → Type 0} {way : Way} {r s t : Recoding} {part : List ℕ} {old new : O} {read n : ℕ} → Takes appends way r part old new read n s
     → t ≡ record (s) { replaced = saturated (s.replaced + n) } → AddsUp r n t
@@ -347,6 +354,29 @@ outcome_taken r s bytes grown e f h out later =
     let rest : List ℕ = lossy r.from r.to (s.held ++ later) in
     let same : lossy s.from s.to (s.held ++ later) ≡ rest = ap (λ x. lossy x s.to (s.held ++ later)) e ∙ ap (λ x. lossy r.from x (s.held ++ later)) f in
     ap (λ xs. (out ++ grown) ++ xs) same ∙ append_assoc out grown rest ∙ ap (λ xs. out ++ xs) (sym (h.same later) ∙ ap (lossy r.from r.to) (append_assoc r.held bytes later))
+
+outcome_repaired : (repair : Repair) (r s : Recoding) (bytes grown : List ℕ) → s.from ≡ r.from → s.to ≡ r.to → {n : ℕ} → Becomes (Table repair) r.from r.to (r.held ++ bytes) grown n s.held
+    → AddsRepaired repair.chars.now r bytes grown s
+unfolding repaired_outcome
+outcome_repaired repair r s bytes grown e f h out later =
+    let table : List ℕ = repair.chars.now in
+    let rest : List ℕ = repaired table r.from r.to (s.held ++ later) in
+    let same : repaired table s.from s.to (s.held ++ later) ≡ rest = ap (λ x. repaired table x s.to (s.held ++ later)) e ∙ ap (λ x. repaired table r.from x (s.held ++ later)) f in
+    ap (λ xs. (out ++ grown) ++ xs) same ∙ append_assoc out grown rest ∙ ap (λ xs. out ++ xs) (sym (h.same later) ∙ ap (repaired table r.from r.to) (append_assoc r.held bytes later))
+
+pub fed_repaired : (repair : Repair) {r s t : Recoding} {part old new : List ℕ} {read wrote n m : ℕ} → Takes FillsPlace (Table repair) r part (at_place old 0) (at_place new wrote) read n s → t ≡ record (s) { replaced = m }
+    → FeedsRepaired repair.chars.now r part old new read wrote t
+unfolding repaired_outcome
+fed_repaired repair {r} {s} {part = part} {read = read} f e =
+    let fills = f.appended in
+    rw e (record {
+      within = f.within;
+      adds = rw fills.front (outcome_repaired repair r s (take read part) f.grown f.from f.to f.becomes);
+      from = f.from;
+      to = f.to;
+      few = f.few;
+      fits = fits_old f;
+    })
 
 pub fed_lossily : {r s : Recoding} {part old new : List ℕ} {read wrote n : ℕ} → Takes FillsPlace Subparts r part (at_place old 0) (at_place new wrote) read n s → FeedsLossy r part old new read wrote s
 fed_lossily {r} {s} {part} {read = read} f =
@@ -378,10 +408,10 @@ finished_into {r} {s} f e =
     let short = f.short in
     rw e (record { leaves = rw fills.front (leaves_of r.from r.to r.held f.grown s.held f.same); from = f.from; to = f.to; few = omega (arith, f.fewer); fits = omega (arith, fills.fits, fills.whole) })
 
-pub replaces_last : {r s t : Recoding} {old new : List ℕ × ℕ} {n m : ℕ} → TakesLast FillsPlace Faults r old new n s → t ≡ record (s) { replaced = m } → ReplacesLast r n t
-replaces_last {r = r} {t = t} {n = n} f e = f.counts tt ∙ ap (λ k. n + k) (ap₂ (λ x xs. fault_count x xs) (sym (ap (λ x. x.from) e ∙ f.from)) (sym (ap (λ x. x.held) e)))
+pub replaces_last : {way : Way} {r s t : Recoding} {old new : List ℕ × ℕ} {n m : ℕ} → IsCounting way → TakesLast FillsPlace way r old new n s → t ≡ record (s) { replaced = m } → ReplacesLast r n t
+replaces_last {r = r} {t = t} {n = n} on f e = f.counts on ∙ ap (λ k. n + k) (ap₂ (λ x xs. fault_count x xs) (sym (ap (λ x. x.from) e ∙ f.from)) (sym (ap (λ x. x.held) e)))
 
-pub counted_last : {r s t : Recoding} {old new : List ℕ × ℕ} {n : ℕ} → TakesLast FillsPlace Faults r old new n s → t ≡ record (s) { replaced = saturated (s.replaced + n) } → AddsUp r n t
+pub counted_last : {way : Way} {r s t : Recoding} {old new : List ℕ × ℕ} {n : ℕ} → TakesLast FillsPlace way r old new n s → t ≡ record (s) { replaced = saturated (s.replaced + n) } → AddsUp r n t
 counted_last {n = n} f e = ap (λ x. x.replaced) e ∙ ap (λ m. saturated (m + n)) f.replaced
 
 -- all carried-over bytes were written
@@ -416,4 +446,31 @@ pub lossy_done : (r s : Recoding) (grown : List ℕ) → s.held ≡ [] → AddsL
 unfolding lossy_outcome
 lossy_done r s grown none h out =
     let nothing : lossy s.from s.to (s.held ++ []) ≡ [] = ap (λ xs. lossy s.from s.to (xs ++ [])) none ∙ nothing_is_lossy s.from s.to in
+    sym (append-nil (out ++ grown)) ∙ ap (λ xs. (out ++ grown) ++ xs) (sym nothing) ∙ h out
+
+outcome_repaired_last : (table : List ℕ) (r s : Recoding) (grown : List ℕ) → s.from ≡ r.from → s.to ≡ r.to → repaired table r.from r.to r.held ≡ grown ++ repaired table r.from r.to s.held → AddsLastRepaired table r grown s
+unfolding repaired_outcome
+outcome_repaired_last table r s grown e f h out =
+    let rest : List ℕ = repaired table r.from r.to s.held in
+    let same : repaired table s.from s.to (s.held ++ []) ≡ rest = ap (repaired table s.from s.to) (append-nil s.held) ∙ ap (λ x. repaired table x s.to s.held) e ∙ ap (λ x. repaired table r.from x s.held) f in
+    ap (λ xs. (out ++ grown) ++ xs) same ∙ append_assoc out grown rest ∙ ap (λ xs. out ++ xs) (sym h ∙ ap (repaired table r.from r.to) (sym (append-nil r.held)))
+
+pub finished_repaired : (repair : Repair) {r s t : Recoding} {old new : List ℕ} {wrote n m : ℕ} → TakesLast FillsPlace (Table repair) r (at_place old 0) (at_place new wrote) n s → t ≡ record (s) { replaced = m }
+    → FinishesRepaired repair.chars.now r old new wrote t
+unfolding repaired_outcome
+finished_repaired repair {r} {s} f e =
+    let fills = f.appended in
+    let short = f.short in
+    rw e (record {
+      adds = rw fills.front (outcome_repaired_last repair.chars.now r s f.grown f.from f.to f.same);
+      from = f.from;
+      to = f.to;
+      few = omega (arith, f.fewer);
+      fits = omega (arith, fills.fits, fills.whole);
+    })
+
+pub repaired_done : (table : List ℕ) (r s : Recoding) (grown : List ℕ) → s.held ≡ [] → AddsLastRepaired table r grown s → AddsAllRepaired table r grown
+unfolding repaired_outcome
+repaired_done table r s grown none h out =
+    let nothing : repaired table s.from s.to (s.held ++ []) ≡ [] = ap (λ xs. repaired table s.from s.to (xs ++ [])) none ∙ nothing_is_repaired table s.from s.to in
     sym (append-nil (out ++ grown)) ∙ ap (λ xs. (out ++ grown) ++ xs) (sym nothing) ∙ h out

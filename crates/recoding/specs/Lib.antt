@@ -1,3 +1,4 @@
+pub mod RepairTables
 pub mod TextForms
 pub mod Recoded
 pub mod RecodedBytes
@@ -17,4 +18,5 @@ pub mod Strict
 pub mod FirstFaults
 pub mod Lossy
 pub mod LossyBytes
+pub mod Repaired
 pub mod Replacing

@@ -1,12 +1,9 @@
 -- The scalar at the front of some bytes.
-use Rattle.std.specs.Prelude.{◌≡◌, ℕ, ◌<◌, ◌≤◌, ◌++◌, ◌∷◌, List, length, drop, Bool}
+use Rattle.std.specs.Prelude.{◌≡◌, ℕ, ◌<◌, ◌≤◌, ◌++◌, ◌∷◌, List, length, drop, Bool, Option, Some, None}
 use Rattle.utf_base.specs.Scalar.{IsScalar}
 use Rattle.recoding.specs.declared.form.Form.{Form}
 use Rattle.recoding.specs.TextForms.{text_form}
 pub use Rattle.recoding.specs.TextForms.{utf16_form}
-use Rattle.recoding.specs.declared.next_scalar.NextScalar.{NextScalar}
-use Rattle.recoding.specs.declared.next_scalar.ShownPiece.{ShownPiece}
-use Rattle.recoding.specs.declared.next_scalar.ShownPiece.TheVariants as piece
 
 -- The bytes begin with n bytes that show the scalar s, whatever follows.
 pub record Decides (reads : List ℕ → List ℕ → Type 0) (w : List ℕ) (s n : ℕ) : Type 0 where
@@ -24,10 +21,27 @@ pub record Ends (reads : List ℕ → List ℕ → Type 0) (w : List ℕ) (s n :
   pub wide : 0x1_0000 ≤ s → 2 ≤ n
   pub first : (ss : List ℕ) → reads (drop n w) ss → reads w (s ∷ ss)
 
--- the scalar of a piece, or U+FFFD for a fault
-abbrev pub front_of : ShownPiece → NextScalar
-front_of (piece.Char s n) = record { c = s; len = n; faults = 0 }
-front_of (piece.Fault n) = record { c = 0xFFFD; len = n; faults = 1 }
+-- The bytes begin with n bytes that show nothing, whatever follows.
+pub record Passes (reads : List ℕ → List ℕ → Type 0) (w : List ℕ) (n : ℕ) : Type 0 where
+  pub some : 0 < n
+  pub within : n ≤ length w
+  pub first : (later ss : List ℕ) → reads (drop n w ++ later) ss → reads (w ++ later) ss
+
+-- The bytes begin with n bytes that show nothing, if nothing follows.
+pub record PassesLast (reads : List ℕ → List ℕ → Type 0) (w : List ℕ) (n : ℕ) : Type 0 where
+  pub some : 0 < n
+  pub within : n ≤ length w
+  pub first : (ss : List ℕ) → reads (drop n w) ss → reads w ss
+
+-- The bytes begin with n bytes that show this scalar, or nothing, whatever follows.
+abbrev pub Leads : (List ℕ → List ℕ → Type 0) → List ℕ → Option ℕ → ℕ → Type 0
+Leads reads w (Some s) n = Decides reads w s n
+Leads reads w None n = Passes reads w n
+
+-- The bytes begin with n bytes that show this scalar, or nothing, if nothing follows.
+abbrev pub LeadsLast : (List ℕ → List ℕ → Type 0) → List ℕ → Option ℕ → ℕ → Type 0
+LeadsLast reads w (Some s) n = Ends reads w s n
+LeadsLast reads w None n = PassesLast reads w n
 
 -- the length of a fault in bytes, if there are as many
 abbrev pub fault_len : Form → ℕ

@@ -1,36 +1,69 @@
--- The output for bytes if one U+FFFD replaces each fault, or each maximal subpart, and the piece that begins
--- them.
-use Rattle.std.specs.Prelude.{◌≡◌, ℕ, ◌+◌, ◌*◌, ◌<◌, ◌≤◌, List, ◌++◌, length, min, take, drop, IsTrue, Vec}
+-- The output for bytes in each way of replacing, and the piece that begins them.
+use Rattle.std.specs.Prelude.{◌≡◌, ℕ, ◌+◌, ◌*◌, ◌<◌, ◌≤◌, Bool, false, true, List, ◌++◌, length, min, take, drop, IsTrue, Option, Some, None, [], Vec}
 use Rattle.recoding.specs.declared.form.Form.{Form}
 use Rattle.recoding.specs.declared.next_scalar.ShownPiece.{ShownPiece}
 use Rattle.recoding.specs.declared.next_scalar.ShownPiece.TheVariants as piece
 use Rattle.recoding.specs.declared.way.Way.{Way}
-use Rattle.recoding.specs.declared.way.Way.TheVariants.{Faults, Subparts}
+use Rattle.recoding.specs.declared.way.Way.TheVariants.{Faults, Subparts, Table}
 use Rattle.recoding.specs.Faults.{CountsTo, fault_count, saturated}
 use Rattle.recoding.specs.Lossy.{ReadsParts}
 use Rattle.recoding.specs.LossyBytes.{lossy}
-use Rattle.recoding.specs.NextScalars.{Decides, Ends, fault_len}
+use Rattle.recoding.specs.NextScalars.{Decides, Ends, Leads, LeadsLast, fault_len}
 use Rattle.recoding.specs.Outputs.{Extends}
 use Rattle.recoding.specs.declared.engine.Reached.{Reached}
 use Rattle.recoding.specs.declared.form.TheConstants.{WIDEST}
-use Rattle.recoding.specs.Recoded.{Lacks, Reads, Recoding, most_held}
+use Rattle.recoding.specs.Recoded.{Lacks, Reads, Recoding, most_held, written}
 use Rattle.recoding.specs.RecodedBytes.{recoded}
+use Rattle.recoding.specs.Repaired.{ReadsBy, repaired}
 use Rattle.recoding.specs.Rooms.{BeginsLonger}
+use Rattle.recoding.specs.RepairTables.{char_for}
+use Rattle.recoding.specs.TextForms.{text_form}
 
 -- the scalars of the bytes in this way of replacing
 abbrev pub reads_by : Way → Form → List ℕ → List ℕ → Type 0
 reads_by Faults = Reads
 reads_by Subparts = ReadsParts
+reads_by (Table t) = ReadsBy t.chars.now
 
 -- the transcoded bytes in this way of replacing, as one list
 abbrev pub list_by : Way → Form → Form → List ℕ → List ℕ
 list_by Faults = recoded
 list_by Subparts = lossy
+list_by (Table t) = repaired t.chars.now
+
+-- each maximal subpart is replaced, and not each fault
+abbrev pub joins : Way → Bool
+joins Faults = false
+joins Subparts = true
+joins (Table t) = false
+
+-- what replaces an invalid byte of UTF-8
+abbrev pub byte_shown : Way → ℕ → Option ℕ
+byte_shown Faults byte = Some 0xFFFD
+byte_shown Subparts byte = Some 0xFFFD
+byte_shown (Table t) byte = char_for t.chars.now byte
+
+-- what replaces the fault that begins the bytes
+abbrev pub replaced_by : Way → Form → List ℕ → Option ℕ
+replaced_by Faults from bytes = Some 0xFFFD
+replaced_by Subparts from bytes = Some 0xFFFD
+replaced_by (Table t) from bytes = (text_form from).repaired_fault t.chars.now bytes
+
+-- the code of a character, or nothing
+abbrev pub code_of : Form → Option ℕ → List ℕ
+code_of to None = []
+code_of to (Some s) = written to s
+
+-- there is a character, and its code is longer than the buffer
+abbrev pub CodeIsLonger : Form → Option ℕ → ℕ → Type 0
+CodeIsLonger to None room = ⊥
+CodeIsLonger to (Some s) room = room < length (written to s)
 
 -- faults are counted
 abbrev pub IsCounting : Way → Type 0
 IsCounting Faults = Unit {0}
 IsCounting Subparts = ⊥
+IsCounting (Table t) = Unit {0}
 
 -- Whatever follows the bytes, they become `grown`, followed by what the carried-over ones become before what follows.
 -- The number of faults that were replaced is given.
@@ -38,28 +71,29 @@ pub record Becomes (way : Way) (from to : Form) (bytes grown : List ℕ) (faults
   pub same : (later : List ℕ) → list_by way from to (bytes ++ later) ≡ grown ++ list_by way from to (held ++ later)
   pub counts : IsCounting way → CountsTo from bytes faults held
 
--- The bytes begin with n bytes that show the scalar s and are k faults, whatever follows.
-pub record BeginsBy (way : Way) (from : Form) (w : List ℕ) (s n faults : ℕ) : Type 0 where
-  pub decides : Decides (reads_by way from) w s n
+-- The bytes begin with n bytes that show this scalar, or nothing, and are k faults, whatever follows.
+pub record BeginsBy (way : Way) (from : Form) (w : List ℕ) (c : Option ℕ) (n faults : ℕ) : Type 0 where
+  pub leads : Leads (reads_by way from) w c n
   pub few : faults ≤ 1
   pub counts : IsCounting way → CountsTo from w faults (drop n w)
 
--- The bytes begin with n bytes that show the scalar s and are k faults, if nothing follows.
-pub record BeginsLast (way : Way) (from : Form) (w : List ℕ) (s n faults : ℕ) : Type 0 where
-  pub ends : Ends (reads_by way from) w s n
+-- The bytes begin with n bytes that show this scalar, or nothing, and are k faults, if nothing follows.
+pub record BeginsLast (way : Way) (from : Form) (w : List ℕ) (c : Option ℕ) (n faults : ℕ) : Type 0 where
+  pub leads : LeadsLast (reads_by way from) w c n
   pub few : faults ≤ 1
   pub counts : IsCounting way → fault_count from w ≡ faults + fault_count from (drop n w)
 
 -- a piece that begins the bytes, whatever follows
 abbrev pub IsNext : Way → Form → List ℕ → ShownPiece → Type 0
-IsNext way from w (piece.Char s n) = BeginsBy way from w s n 0
-IsNext way from w (piece.Fault n) = BeginsBy way from w 0xFFFD n 1
+IsNext way from w (piece.Char s n) = BeginsBy way from w (Some s) n 0
+IsNext way from w (piece.Fault n) = BeginsBy way from w (replaced_by way from w) n 1
 
--- the number of bytes that become one U+FFFD if they are too few and nothing follows: those of a fault, or
+-- the number of bytes that are replaced together if they are too few and nothing follows: those of a fault, or
 -- all of them, which are one subpart
 abbrev pub len_at_end : Way → Form → ℕ → ℕ
 len_at_end Faults from count = min (fault_len from) count
 len_at_end Subparts from count = count
+len_at_end (Table t) from count = min (fault_len from) count
 
 -- The bytes that are left begin with this piece, whatever follows them, and the code of its scalar is longer
 -- than the buffer.

@@ -19,6 +19,8 @@ use Rattle.utf_base.proofs.UnitLemmas.{utf16_finds}
 use Rattle.utf_base.proofs.Utf8Code.{utf8_is_code}
 use Rattle.utf_base.proofs.Utf16Code.{utf16_is_code}
 use Rattle.utf_lanes.specs.BytePairs.{bytes_of, unit_of, units_of}
+use Rattle.utf_lanes.specs.Mending.{all_shown}
+use Rattle.recoding.specs.RepairTables.{ShowsBy, ShowsUnitsBy, char_for, odd_end_by, unit_for}
 use Rattle.recoding.specs.declared.faults.FaultKind.{FaultKind}
 use Rattle.recoding.specs.declared.faults.FaultKind.TheVariants as kind
 use Rattle.recoding.specs.declared.form.Form.{Form}
@@ -119,6 +121,10 @@ pub record TextForm : Type 1 where
   pub reads_some : (bytes : List ℕ) → (ss : List ℕ) × reads bytes ss
   pub reads_parts : List ℕ → List ℕ → Type 0
   pub parts_some : (bytes : List ℕ) → (ss : List ℕ) × reads_parts bytes ss
+  -- the scalars of bytes piece by piece if a table has what a fault becomes, and what the fault that begins bytes becomes
+  pub repairs : List ℕ → List ℕ → List ℕ → Type 0
+  pub repairs_some : (table bytes : List ℕ) → (ss : List ℕ) × repairs table bytes ss
+  pub repaired_fault : List ℕ → List ℕ → Option ℕ
   pub faults : List ℕ → ℕ → Type 0
   pub faults_some : (bytes : List ℕ) → (n : ℕ) × faults bytes n
   -- the length of a fault in bytes, its kind, and the offset of the first
@@ -141,6 +147,9 @@ utf8_form = record {
   reads_some = shows_some utf8 utf8_is_code utf8_finds;
   reads_parts = ShowsParts utf8;
   parts_some = parts_show_some utf8 utf8_is_code utf8_finds;
+  repairs = λ table. ShowsBy (char_for table) utf8;
+  repairs_some = λ table bytes. let cut = cut_exists utf8 utf8_is_code utf8_finds bytes in (all_shown (char_for table) bytes cut.0, (cut.0, cut.1, refl));
+  repaired_fault = λ table bytes. char_for table (get_or bytes 0 0);
   faults = HasFaults utf8;
   faults_some = λ bytes. let cut = cut_exists utf8 utf8_is_code utf8_finds bytes in (faults_in cut.0, (cut.0, cut.1, refl));
   fault_len = 1;
@@ -162,6 +171,12 @@ units_form high_first = record {
   reads_some = λ bytes. let shown = shows_some utf16 utf16_is_code utf16_finds (units_of high_first bytes) in (shown.0 ++ odd_end bytes, (shown.0, shown.1, refl));
   reads_parts = ShowsUnitParts high_first;
   parts_some = λ bytes. let shown = parts_show_some utf16 utf16_is_code utf16_finds (units_of high_first bytes) in (shown.0 ++ odd_part high_first bytes, (shown.0, shown.1, refl));
+  repairs = λ table. ShowsUnitsBy (unit_for table) high_first;
+  repairs_some = λ table bytes.
+      let cut = cut_exists utf16 utf16_is_code utf16_finds (units_of high_first bytes) in
+      let ts = all_shown (λ u. unit_for table) (units_of high_first bytes) cut.0 in
+      (ts ++ odd_end_by (unit_for table) bytes, (ts, (cut.0, cut.1, refl), refl));
+  repaired_fault = λ table bytes. unit_for table;
   faults = HasUnitFaults high_first;
   faults_some = λ bytes.
       let cut = cut_exists utf16 utf16_is_code utf16_finds (units_of high_first bytes) in

@@ -2,17 +2,19 @@
 ghost use Rattle.std.specs.Prelude.{◌≡◌, ◌+◌, ◌<◌, ◌≤◌, length, take, drop, IfSome, IfNone, IsTrue, IsFalse};
 ghost use Rattle.recoding.specs.Recoded.{Lacks};
 ghost use Rattle.recoding.specs.Recodes.{FitsAll};
-ghost use Rattle.recoding.specs.Replacing.{IsNext, Reaches};
+ghost use Rattle.recoding.specs.Replacing.{IsNext, Reaches, Recodes};
 ghost use Rattle.recoding.specs.Strict.{PutsText};
 
 use crate::block_output::BlockOutput;
 use crate::form::{Form, WIDEST};
-use crate::kernels::{Copied, Kernel, Narrowed, PART, Turned, Widened, by_forms};
+use crate::kernels::{Copied, Damaged, Kernel, MANY, NOTHING, Narrowed, Turned, Widened, by_forms};
 use crate::next_scalar::{ShownPiece, first_four};
 use crate::output::Output;
+use crate::repair::Repair;
 use crate::text::{Text, Utf8, Utf16};
-use crate::way::{Each, Replacing, Subparts, Way};
+use crate::way::{Replacing, Way};
 use utf_lanes::byte_order::{BigEndian, LittleEndian};
+use utf_lanes::replacements::{Each, Subparts};
 
 // The number of bytes that are transcoded by the careful path before a run tries the fast path again, if they
 // have no fault.
@@ -24,16 +26,15 @@ pub(crate) const AFTER_FAULT: usize = 8;
 // The number of bytes of text that are transcoded character by character before a run tries blocks again.
 const STRETCH: usize = 128;
 
-// The number of bytes that the last blocks must have for a run to try blocks directly after them: all of a part but
-// its last code.
-const MANY: usize = PART - 4;
+// A fault is near the last one if blocks have fewer bytes between them.
+const NEAR: usize = 256;
 
 // The progress of a run.
 #[derive(Clone, Copy, Drop)]
 pub(crate) struct Reached {
     // The number of bytes that were transcoded.
     pub(crate) read: usize,
-    // The number of their faults that became U+FFFD.
+    // The number of their faults that were replaced.
     pub(crate) replaced: usize,
     // Whether it ended because the next code does not fit.
     pub(crate) is_full: bool,
@@ -47,17 +48,18 @@ pub(crate) struct Reached {
 // encodings, so that the compiler knows them.
 #[inline(always)]
 pub(crate) fn run<S: Text, T: Text, K: Kernel<S, T>, O: BlockOutput>(
-    way: Way,
+    way: Way<'_>,
     is_ample: bool,
     bytes: &[u8],
     out: &mut O,
 ) -> Reached
     requires { IsTrue is_ample → FitsAll bytes.now (O.room out.old) }
-    ensures reaches { Reaches O.appends O.room way S.form T.form bytes.now out.old out.new result }
+    ensures reaches { Reaches O.appends O.room way.entry S.form T.form bytes.now out.old out.new result }
     ensures ends { IsFalse result.is_full → IsTrue result.is_waiting }
 {
     let mut read = 0;
     let mut replaced = 0;
+    let mut is_near = false;
     'parts: loop {
         let blocks = K::put_text(is_ample, &bytes[read..], out);
         read += blocks;
@@ -66,6 +68,13 @@ pub(crate) fn run<S: Text, T: Text, K: Kernel<S, T>, O: BlockOutput>(
         }
         if read == bytes.len() {
             return ended(read, replaced, false, true);
+        }
+        let is_damaged = is_near && blocks < NEAR;
+        let damaged = put_near::<S, T, K, O>(way, is_damaged, is_ample, &bytes[read..], out);
+        read += damaged.read;
+        replaced += damaged.replaced;
+        if 0 < damaged.read {
+            continue;
         }
         let count = recode_stretch::<S, T, K, O>(is_ample, &bytes[read..], out);
         read += count;
@@ -77,11 +86,30 @@ pub(crate) fn run<S: Text, T: Text, K: Kernel<S, T>, O: BlockOutput>(
             let few = recode_carefully::<S, T, O>(way, is_ample, &bytes[read..], out);
             read += few.read;
             replaced += few.replaced;
+            is_near = K::CROWD <= few.replaced;
             if few.is_full || few.is_waiting {
                 return ended(read, replaced, few.is_full, few.is_waiting);
             }
         }
     }
+}
+
+// Transcodes damaged bytes in windows, if faults are near.
+#[inline(always)]
+fn put_near<S: Text, T: Text, K: Kernel<S, T>, O: BlockOutput>(
+    way: Way<'_>,
+    is_near: bool,
+    is_ample: bool,
+    bytes: &[u8],
+    out: &mut O,
+) -> Damaged
+    requires { IsTrue is_ample → FitsAll bytes.now (O.room out.old) }
+    ensures { Recodes O.appends way.entry S.form T.form bytes.now out.old out.new result.read result.replaced }
+{
+    if is_near {
+        return K::put_damaged(way, is_ample, bytes, out);
+    }
+    NOTHING
 }
 
 #[inline(always)]
@@ -206,27 +234,28 @@ fn put_all_text<S: Text, T: Text, K: Kernel<S, T>, O: BlockOutput>(
 // replacing differ, each has loops of its own.
 #[inline(always)]
 fn recode_carefully<S: Text, T: Text, O: Output>(
-    way: Way,
+    way: Way<'_>,
     is_ample: bool,
     bytes: &[u8],
     out: &mut O,
 ) -> Reached
     requires { IsTrue is_ample → FitsAll bytes.now (O.room out.old) }
-    ensures reaches { Reaches O.appends O.room way S.form T.form bytes.now out.old out.new result }
+    ensures reaches { Reaches O.appends O.room way.entry S.form T.form bytes.now out.old out.new result }
     ensures moves { IsFalse result.is_full → IsFalse result.is_waiting → 0 < result.read }
 {
     if S::IS_ONE_WAY {
-        return recode_by::<S, T, Way, O>(way, is_ample, bytes, out);
+        return recode_by::<S, T, Way<'_>, O>(way, is_ample, bytes, out);
     }
     match way {
         Way::Faults => recode_by::<S, T, Each, O>(Each, is_ample, bytes, out),
         Way::Subparts => recode_by::<S, T, Subparts, O>(Subparts, is_ample, bytes, out),
+        Way::Table(repair) => recode_by::<S, T, Repair<'_>, O>(repair, is_ample, bytes, out),
     }
 }
 
 // `recode_carefully`, monomorphised for the way of replacing.
 #[inline(always)]
-fn recode_by<S: Text, T: Text, F: Replacing, O: Output>(
+fn recode_by<'a, S: Text, T: Text, F: Replacing<'a>, O: Output>(
     by: F,
     is_ample: bool,
     bytes: &[u8],
@@ -244,7 +273,7 @@ fn recode_by<S: Text, T: Text, F: Replacing, O: Output>(
 
 // The careful path if the output fits. Outlined, since the loop rarely calls it.
 #[inline(never)]
-fn recode_faults<S: Text, T: Text, F: Replacing, O: Output>(
+fn recode_faults<'a, S: Text, T: Text, F: Replacing<'a>, O: Output>(
     by: F,
     bytes: &[u8],
     out: &mut O,
@@ -268,7 +297,7 @@ fn recode_faults<S: Text, T: Text, F: Replacing, O: Output>(
             }
             ShownPiece::Fault(len) => {
                 stop = read + AFTER_FAULT;
-                T::put_code(char::REPLACEMENT_CHARACTER, out);
+                T::put_any(S::replacement(by.way(), &bytes[read..]), out);
                 read += len;
                 replaced += 1;
             }
@@ -279,7 +308,7 @@ fn recode_faults<S: Text, T: Text, F: Replacing, O: Output>(
 
 // The careful path as far as there is capacity.
 #[inline(never)]
-fn recode_faults_within<S: Text, T: Text, F: Replacing, O: Output>(
+fn recode_faults_within<'a, S: Text, T: Text, F: Replacing<'a>, O: Output>(
     by: F,
     bytes: &[u8],
     out: &mut O,
@@ -301,7 +330,8 @@ fn recode_faults_within<S: Text, T: Text, F: Replacing, O: Output>(
                 read += len;
             }
             ShownPiece::Fault(len) => {
-                if !T::put_fitting(char::REPLACEMENT_CHARACTER, out) {
+                let c = S::replacement(by.way(), &bytes[read..]);
+                if !T::put_shown(c, out) {
                     return ended(read, replaced, true, false);
                 }
                 read += len;
@@ -315,9 +345,9 @@ fn recode_faults_within<S: Text, T: Text, F: Replacing, O: Output>(
 // The piece at an offset of the bytes, decided by at most four of them; `None` if it depends on what follows
 // all of them.
 #[inline(always)]
-fn next_at<S: Text>(way: Way, bytes: &[u8], place: usize) -> Option<ShownPiece>
+fn next_at<S: Text>(way: Way<'_>, bytes: &[u8], place: usize) -> Option<ShownPiece>
     requires { place ≤ length bytes.now }
-    ensures some { IfSome result (λ x. IsNext way S.form (take 4 (drop place bytes.now)) x) }
+    ensures some { IfSome result (λ x. IsNext way.entry S.form (take 4 (drop place bytes.now)) x) }
     ensures few { IfNone result (length bytes.now ≤ place + 3) }
     ensures lacks { IfNone result (Lacks S.form (drop place bytes.now)) }
 {

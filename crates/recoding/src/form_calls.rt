@@ -2,13 +2,13 @@
 ghost use Rattle.std.specs.Prelude.{◌≡◌, ◌<◌, ◌≤◌, length, min, IfSome, IfNone, IsTrue, IsFalse};
 ghost use Rattle.recoding.specs.Recoded.{Lacks, written};
 ghost use Rattle.recoding.specs.NextScalars.{fault_len};
-ghost use Rattle.recoding.specs.Replacing.{BeginsBy, BeginsLast, len_at_end};
+ghost use Rattle.recoding.specs.Replacing.{BeginsBy, BeginsLast, CodeIsLonger, code_of, len_at_end, replaced_by};
 ghost use Rattle.recoding.specs.Strict.{IsFirstPiece, lacking};
 
 use crate::faults::FaultKind;
 use crate::first_pieces::FirstPiece;
 use crate::form::Form;
-use crate::next_scalar::{NextScalar, ShownPiece, shown};
+use crate::next_scalar::{NextScalar, ShownPiece};
 use crate::output::Output;
 use crate::text::{Text, Utf8, Utf16};
 use crate::way::Way;
@@ -27,37 +27,57 @@ macro_rules! by_form {
 
 // The piece that begins the bytes; `None` if that depends on what follows them.
 #[inline(always)]
-pub(crate) fn next_of(way: Way, from: Form, bytes: &[u8]) -> Option<NextScalar>
-    ensures some { IfSome result (λ x. BeginsBy way from bytes.now x.c x.len x.faults) }
+pub(crate) fn next_of(way: Way<'_>, from: Form, bytes: &[u8]) -> Option<NextScalar>
+    ensures some { IfSome result (λ x. BeginsBy way.entry from bytes.now x.c x.len x.faults) }
     ensures few { IfNone result (length bytes.now ≤ 3) }
     ensures lacks { IfNone result (Lacks from bytes.now) }
 {
     match by_form!(from, next_piece(way, bytes)) {
-        Some(piece) => Some(shown(piece)),
+        Some(ShownPiece::Char(c, len)) => Some(NextScalar {
+            c: Some(c),
+            len,
+            faults: 0,
+        }),
+        Some(ShownPiece::Fault(len)) => Some(fault_of(way, from, bytes, len)),
         None => None,
+    }
+}
+
+// The fault that begins the bytes, of this length, and what replaces it.
+#[inline(always)]
+fn fault_of(way: Way<'_>, from: Form, bytes: &[u8], len: usize) -> NextScalar
+    requires { 0 < length bytes.now }
+    ensures c { result.c ≡ replaced_by way.entry from bytes.now }
+    ensures len { result.len ≡ len }
+    ensures one { result.faults ≡ 1 }
+{
+    NextScalar {
+        c: by_form!(from, replacement(way, bytes)),
+        len,
+        faults: 1,
     }
 }
 
 // The piece that begins the bytes, if nothing follows them.
 #[inline(always)]
-pub(crate) fn last_of(way: Way, from: Form, bytes: &[u8]) -> NextScalar
+pub(crate) fn last_of(way: Way<'_>, from: Form, bytes: &[u8]) -> NextScalar
     requires { 0 < length bytes.now }
-    ensures { BeginsLast way from bytes.now result.c result.len result.faults }
+    ensures { BeginsLast way.entry from bytes.now result.c result.len result.faults }
 {
     match next_of(way, from, bytes) {
         Some(first) => first,
-        None => shown(ShownPiece::Fault(last_len(way, from, bytes.len()))),
+        None => fault_of(way, from, bytes, last_len(way, from, bytes.len())),
     }
 }
 
-// The number of bytes that one U+FFFD replaces if `count` are too few: a fault, or all of them, which are one
+// The number of bytes that are replaced together if `count` are too few: a fault, or all of them, which are one
 // subpart.
 #[inline(always)]
-fn last_len(way: Way, from: Form, count: usize) -> usize
-    ensures { result ≡ len_at_end way from count }
+fn last_len(way: Way<'_>, from: Form, count: usize) -> usize
+    ensures { result ≡ len_at_end way.entry from count }
 {
     match way {
-        Way::Faults => fault_bytes(from).min(count),
+        Way::Faults | Way::Table(_) => fault_bytes(from).min(count),
         Way::Subparts => count,
     }
 }
@@ -88,6 +108,17 @@ pub(crate) fn put_fitting<O: Output>(to: Form, c: char, out: &mut O) -> bool
     ensures kept { IsFalse result → out.new ≡ out.old }
 {
     by_form!(to, put_fitting(c, out))
+}
+
+// Appends the code of the character, if there is one and it fits, and returns whether all is written.
+#[inline(always)]
+pub(crate) fn put_shown<O: Output>(to: Form, c: Option<char>, out: &mut O) -> bool
+    ensures put { IsTrue result → O.appends out.old (code_of to c) out.new }
+    ensures full { IsFalse result → CodeIsLonger to c (O.room out.old) }
+    ensures short { IsFalse result → O.room out.old < 4 }
+    ensures kept { IsFalse result → out.new ≡ out.old }
+{
+    by_form!(to, put_shown(c, out))
 }
 
 // The piece that begins the bytes, whatever follows them.

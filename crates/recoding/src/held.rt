@@ -1,132 +1,171 @@
-//! Transcoding of the carried-over bytes, together with the part that follows, and at the end.
-ghost use Rattle.std.specs.Prelude.{◌≡◌, [], ◌+◌, ◌-◌, ◌<◌, ◌≤◌, length, take, drop, ◌++◌, IfSome, IfNone, IsTrue, IsFalse};
-ghost use Rattle.recoding.specs.Recoded.{Lacks, most_held};
-ghost use Rattle.recoding.specs.Replacing.{BeginsBy, FillsPlace, IsFullBy, IsLastFullBy, Takes, TakesLast, at_place};
+//! The bytes that are carried over from one part to the next.
+ghost use Rattle.std.specs.Prelude.{◌≡◌, ◌<◌, ◌≤◌, ◌+◌, ◌-◌, [], ◌++◌, length, take, drop, get_or, min, IsTrue};
 
-use crate::engine::{Reached, ended};
-use crate::form::Form;
-use crate::form_calls::{last_of, next_of, put_fitting};
-use crate::next_scalar::{NextScalar, join};
-use crate::output::Output;
-use crate::recoder::Recoder;
-use crate::room::Room;
-use crate::way::Way;
+use std::marker::Model;
 
-impl Recoder {
-    // Transcodes the carried-over bytes, with as many bytes of the part as they need, until nothing is carried over,
-    // or all of the part is, or the output is full. Faults are not counted yet.
-    pub(crate) fn take_held<O: Output>(&mut self, way: Way, part: &[u8], out: &mut O) -> Reached
-        ensures takes { Takes O.appends way self.old part.now out.old out.new
-            result.read result.replaced self.new }
-        ensures full { IsTrue result.is_full → IsFullBy way self.new part.now result.read (O.room out.new) }
-        ensures short { IsTrue result.is_full → O.room out.new < 4 }
-        ensures read { IsTrue result.is_waiting → result.read ≡ length part.now }
-        ensures waits { IsTrue result.is_waiting → Lacks self.old.from self.new.held }
-        ensures none { IsFalse result.is_full → IsFalse result.is_waiting → self.new.held ≡ [] }
+/// The bytes that were read and are not decided yet, at most three: the beginning of a character.
+#[derive(Debug, Drop)]
+pub struct Held {
+    count: usize,
+    bytes: [u8; 3],
+}
+
+impl Model for Held {
+    ghost use Rattle.std.specs.Prelude.{◌≤◌, ℕ, List, take};
+
+    ghost Value = { List ℕ };
+
+    ghost view = { λ h. take h.count h.bytes };
+
+    ghost invariant = { λ h. h.count ≤ 3 };
+}
+
+impl Held {
+    /// Nothing.
+    #[inline(always)]
+    pub fn new() -> Held
+        ensures { result ≡ [] }
     {
-        let (from, to) = self.forms();
-        let mut read = 0;
-        let mut replaced = 0;
-        while !self.held().is_empty() {
-            let rest = &part[read..];
-            let Some((first, taken)) = next_of_both(way, from, self.held(), rest) else {
-                self.take_more(rest, 0);
-                return ended(part.len(), replaced, false, true);
-            };
-            let is_put = put_fitting(to, first.c, out);
-            if !is_put {
-                return ended(read, replaced, true, false);
-            }
-            self.take_more(&rest[..taken], first.len);
-            read += taken;
-            replaced += first.faults;
+        Held {
+            count: 0,
+            bytes: [0; 3],
         }
-        ended(read, replaced, false, false)
     }
 
-    // `take_held` into a slice; also returns the bytes written.
-    pub(crate) fn take_held_into(
-        &mut self,
-        way: Way,
-        part: &[u8],
-        room: &mut [u8],
-    ) -> (Reached, usize)
-        ensures takes { Takes FillsPlace way self.old part.now (at_place room.old 0)
-            (at_place room.new result.1) result.0.read result.0.replaced self.new }
-        ensures full { IsTrue result.0.is_full →
-            IsFullBy way self.new part.now result.0.read (length room.old - result.1) }
-        ensures short { IsTrue result.0.is_full → length room.old < result.1 + 4 }
-        ensures read { IsTrue result.0.is_waiting → result.0.read ≡ length part.now }
-        ensures waits { IsTrue result.0.is_waiting → Lacks self.old.from self.new.held }
-        ensures none { IsFalse result.0.is_full → IsFalse result.0.is_waiting → self.new.held ≡ [] }
+    /// These bytes.
+    ///
+    /// Condition: there are at most three.
+    #[inline(always)]
+    pub fn of(bytes: &[u8]) -> Held
+        requires { length bytes.now ≤ 3 }
+        ensures { result ≡ bytes.now }
     {
-        let mut out = Room::new(room, 0);
-        let first = self.take_held::<Room<'_>>(way, part, &mut out);
-        (first, out.len)
+        let mut held = Held::new();
+        held.hold(bytes);
+        held
     }
 
-    // Transcodes the carried-over bytes that nothing follows, until nothing is carried over, or the output is
-    // full.
-    pub(crate) fn take_last<O: Output>(&mut self, way: Way, out: &mut O) -> Reached
-        ensures takes { TakesLast O.appends way self.old out.old out.new result.replaced self.new }
-        ensures full { IsTrue result.is_full → IsLastFullBy way self.new (O.room out.new) }
-        ensures short { IsTrue result.is_full → O.room out.new < 4 }
-        ensures all { IsFalse result.is_full → self.new.held ≡ [] }
+    /// The bytes.
+    #[inline(always)]
+    pub fn as_slice(&self) -> &[u8]
+        ensures bytes { result.now ≡ self.now }
+        ensures few { length result.now ≤ 3 }
     {
-        let (from, to) = self.forms();
-        let mut replaced = 0;
-        while !self.held().is_empty() {
-            let first = last_of(way, from, self.held());
-            let is_put = put_fitting(to, first.c, out);
-            if !is_put {
-                return ended(0, replaced, true, false);
-            }
-            let _more = self.pass(first.len);
-            replaced += first.faults;
+        &self.bytes[..self.count]
+    }
+
+    /// The number of bytes.
+    #[inline(always)]
+    pub fn len(&self) -> usize
+        ensures len { result ≡ length self.now }
+        ensures few { length self.now ≤ 3 }
+    {
+        self.as_slice().len()
+    }
+
+    /// Replaces the bytes.
+    ///
+    /// Condition: there are at most three.
+    #[inline(always)]
+    pub fn hold(&mut self, bytes: &[u8])
+        requires { length bytes.now ≤ 3 }
+        ensures { self.new ≡ bytes.now }
+    {
+        self.count = bytes.len();
+        if !bytes.is_empty() {
+            self.bytes = padded_to_three(bytes);
         }
-        ended(0, replaced, false, false)
     }
 
-    // Carries over the previous bytes and these, without the first `gone`.
-    pub(crate) fn take_more(&mut self, bytes: &[u8], gone: usize)
+    /// Drops up to `len` bytes from the front. Returns how many of `len` were beyond them.
+    #[inline(always)]
+    pub fn drop_front(&mut self, len: usize) -> usize
+        ensures held { self.new ≡ drop len self.old }
+        ensures more { result ≡ len - length self.old }
+    {
+        let count = self.len();
+        if count <= len {
+            self.hold(&[]);
+            return len - count;
+        }
+        self.shift_joined(&[], len);
+        0
+    }
+
+    /// Appends up to three bytes, and drops the first `gone` of all.
+    ///
+    /// Conditions: at most three are appended, and at most three are left.
+    #[inline(always)]
+    pub fn shift(&mut self, bytes: &[u8], gone: usize)
         requires more { length bytes.now ≤ 3 }
-        requires gone { gone ≤ length self.old.held + length bytes.now }
-        requires few { length self.old.held + length bytes.now ≤ gone + 3 }
-        ensures { self.new ≡ record (self.old) { held = drop gone (self.old.held ++ bytes.now) } }
+        requires gone { gone ≤ length self.old + length bytes.now }
+        requires few { length self.old + length bytes.now ≤ gone + 3 }
+        ensures { self.new ≡ drop gone (self.old ++ bytes.now) }
     {
-        let held = self.held();
-        if held.is_empty() {
+        if self.len() == 0 {
             return self.hold(&bytes[gone..]);
         }
-        if bytes.is_empty() && gone == 0 {
-            return;
-        }
-        let (joined, len) = join(held, bytes);
+        self.shift_joined(bytes, gone);
+    }
+
+    // `shift` if some bytes are held: outlined, so that the test is inlined.
+    #[inline(never)]
+    fn shift_joined(&mut self, bytes: &[u8], gone: usize)
+        requires more { length bytes.now ≤ 3 }
+        requires gone { gone ≤ length self.old + length bytes.now }
+        requires few { length self.old + length bytes.now ≤ gone + 3 }
+        ensures { self.new ≡ drop gone (self.old ++ bytes.now) }
+    {
+        let (joined, len) = self.join(bytes);
         self.hold(&joined[gone..len]);
+    }
+
+    /// The bytes and up to three that follow them, at the front of an array, and how many they are. Each byte is
+    /// selected separately, which avoids a store-forwarding stall.
+    #[inline(always)]
+    pub fn join(&self, part: &[u8]) -> ([u8; 6], usize)
+        ensures len { result.1 ≡ length self.now + min 3 (length part.now) }
+        ensures bytes { take result.1 result.0 ≡ self.now ++ take 3 part.now }
+    {
+        let held = self.as_slice();
+        let joined = [
+            byte_of_both(held, part, 0),
+            byte_of_both(held, part, 1),
+            byte_of_both(held, part, 2),
+            byte_of_both(held, part, 3),
+            byte_of_both(held, part, 4),
+            byte_of_both(held, part, 5),
+        ];
+        (joined, held.len() + 3usize.min(part.len()))
     }
 }
 
-// The piece that begins the carried-over bytes with those that follow, and how many of the latter were read: no more
-// than decide it, so that a character takes no byte of the next one. `None` if all of them together are too few.
-fn next_of_both(way: Way, from: Form, held: &[u8], rest: &[u8]) -> Option<(NextScalar, usize)>
-    requires some { 0 < length held.now }
-    requires few { length held.now ≤ most_held }
-    ensures within { IfSome result (λ x. x.1 ≤ length rest.now) }
-    ensures begins { IfSome result
-        (λ x. BeginsBy way from (held.now ++ take x.1 rest.now) x.0.c x.0.len x.0.faults) }
-    ensures near { IfSome result (λ x. length held.now + x.1 ≤ 4) }
-    ensures none { IfNone result (length held.now + length rest.now ≤ 3) }
-    ensures lacks { IfNone result (Lacks from (held.now ++ rest.now)) }
+// One to three bytes, followed by zeros. Unrolled: a variable-length copy would call memcpy.
+#[inline(always)]
+fn padded_to_three(bytes: &[u8]) -> [u8; 3]
+    requires some { 0 < length bytes.now }
+    requires few { length bytes.now ≤ 3 }
+    ensures { take (length bytes.now) result ≡ bytes.now }
 {
-    let mut taken = 0;
-    loop {
-        let (joined, len) = join(held, &rest[..taken]);
-        if let Some(first) = next_of(way, from, &joined[..len]) {
-            return Some((first, taken));
-        }
-        if taken == rest.len() {
-            return None;
-        }
-        taken += 1;
+    let first = bytes[0];
+    if bytes.len() == 1 {
+        return [first, 0, 0];
     }
+    let second = bytes[1];
+    if bytes.len() == 2 {
+        return [first, second, 0];
+    }
+    [first, second, bytes[2]]
+}
+
+// The byte at an offset of the held bytes and those that follow them, or zero if there is none.
+#[inline(always)]
+fn byte_of_both(held: &[u8], part: &[u8], place: usize) -> u8
+    ensures { result ≡ get_or (held.now ++ part.now) place 0 }
+{
+    if place < held.len() {
+        return held[place];
+    }
+    let place = place - held.len();
+    if place < part.len() { part[place] } else { 0 }
 }

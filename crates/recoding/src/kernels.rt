@@ -1,6 +1,7 @@
 //! Blocks transcoded from one encoding to another, to any output: copied, widened or narrowed.
-ghost use Rattle.std.specs.Prelude.{◌-◌, ◌+◌, ◌*◌, ◌<◌, ◌≤◌, length, IsTrue};
+ghost use Rattle.std.specs.Prelude.{◌-◌, ◌+◌, ◌*◌, ◌<◌, ◌≤◌, length, slice_range, IsTrue, IsFalse, IsUtf8};
 ghost use Rattle.recoding.specs.Recodes.{FitsAll};
+ghost use Rattle.recoding.specs.Replacing.{Recodes};
 ghost use Rattle.recoding.specs.Strict.{PutsText};
 ghost use Rattle.recoding.specs.NextScalars.{utf16_form};
 ghost use Rattle.recoding.specs.declared.form.Form.TheVariants as form;
@@ -11,18 +12,44 @@ use crate::block_output::BlockOutput;
 use crate::form::WIDEST;
 use crate::next_scalar::ascii_of_units;
 use crate::output::Output;
+use crate::repair::Repair;
 use crate::text::{Text, Utf8, Utf16};
 use crate::turned::copy_units;
+use crate::way::{Way, Windowed};
 use utf_lanes::ascii_texts::is_ascii;
 use utf_lanes::byte_order::ByteOrder;
-use utf_lanes::text_blocks::{are_text, text_len};
+use utf_lanes::mending::{LEAST, MADE, mend};
+use utf_lanes::replacements::{Each, Subparts};
+use utf_lanes::text_blocks::{are_text, ends_character, text_end, text_len};
 use utf_lanes::text_puts::{write_few, write_first, write_rest};
 
 // The number of bytes that are validated before they are copied or widened, while they are in the cache.
 pub(crate) const PART: usize = 8192;
 
+// The number of bytes that the last blocks must have for a run to try blocks directly after them: all of a part but
+// its last code.
+pub(crate) const MANY: usize = PART - 4;
+
+// The number of bytes of text after which damaged bytes end: faults farther apart take less time one by one.
+const LONG: usize = 1024;
+
 // The greatest number of bytes that are first tested for ASCII. Above this, an error would rescan too much.
 const SHORT: usize = 1024;
+
+// The progress of transcoding damaged bytes.
+#[derive(Clone, Copy, Drop)]
+pub(crate) struct Damaged {
+    // The number of bytes that were transcoded.
+    pub(crate) read: usize,
+    // The number of replacements of invalid bytes.
+    pub(crate) replaced: usize,
+}
+
+// Nothing was transcoded.
+pub(crate) const NOTHING: Damaged = Damaged {
+    read: 0,
+    replaced: 0,
+};
 
 // Blocks of text in one encoding, converted to another.
 pub(crate) trait Kernel<S: Text, T: Text> {
@@ -30,11 +57,28 @@ pub(crate) trait Kernel<S: Text, T: Text> {
     // capacity.
     const TAKES_ALL: bool;
 
+    // The number of faults within a few bytes from which on windows take less time than one fault after another.
+    const CROWD: usize;
+
     // Transcodes text at the front of the bytes in blocks, as far as the worst-case output fits; `is_ample`: the
     // caller guarantees that it does. Returns the length of that text in bytes.
     fn put_text<O: BlockOutput>(is_ample: bool, bytes: &[u8], out: &mut O) -> usize
         requires { IsTrue is_ample → FitsAll bytes.now (O.room out.old) }
         ensures { PutsText O.appends S.form T.form bytes.now out.old out.new result };
+
+    // Transcodes damaged bytes in windows, up to the last few, as far as the worst-case output fits; nothing if this
+    // pair of encodings has no windows.
+    fn put_damaged<O: BlockOutput>(
+        _way: Way<'_>,
+        _is_ample: bool,
+        _bytes: &[u8],
+        _out: &mut O,
+    ) -> Damaged
+        requires { IsTrue _is_ample → FitsAll _bytes.now (O.room _out.old) }
+        ensures { Recodes O.appends _way.entry S.form T.form _bytes.now _out.old _out.new result.read result.replaced }
+    {
+        NOTHING
+    }
 }
 
 // UTF-8, copied.
@@ -52,6 +96,8 @@ pub(crate) struct Turned;
 impl Kernel<Utf8, Utf8> for Copied {
     const TAKES_ALL: bool = true;
 
+    const CROWD: usize = 1;
+
     #[inline(always)]
     fn put_text<O: BlockOutput>(is_ample: bool, bytes: &[u8], out: &mut O) -> usize {
         let most = PART.min(most_copied(is_ample, bytes, out));
@@ -64,10 +110,72 @@ impl Kernel<Utf8, Utf8> for Copied {
         out.put(&part[..len]);
         len
     }
+
+    #[inline(always)]
+    fn put_damaged<O: BlockOutput>(
+        way: Way<'_>,
+        is_ample: bool,
+        bytes: &[u8],
+        out: &mut O,
+    ) -> Damaged {
+        let most = most_widened(is_ample, bytes, out);
+        if most < LEAST {
+            return NOTHING;
+        }
+        match way {
+            Way::Faults => copy_damaged::<Each, O>(Each, &bytes[..most], out),
+            Way::Subparts => copy_damaged::<Subparts, O>(Subparts, &bytes[..most], out),
+            Way::Table(repair) => copy_damaged::<Repair<'_>, O>(repair, &bytes[..most], out),
+        }
+    }
+}
+
+// Copies damaged bytes, mended, up to the last few: between damaged windows also text.
+#[inline(never)]
+fn copy_damaged<F: Windowed, O: Output>(by: F, bytes: &[u8], out: &mut O) -> Damaged
+    requires { FitsAll bytes.now (O.room out.old) }
+    ensures { Recodes O.appends (F.way by) form.Utf8 form.Utf8 bytes.now out.old out.new
+        result.read result.replaced }
+{
+    let mut made = [0; MADE];
+    let mut read = 0;
+    let mut replaced = 0;
+    'parts: loop {
+        let done = mend::<F>(by, &bytes[read..], &mut made);
+        if done.read == 0 {
+            return Damaged { read, replaced };
+        }
+        out.put(&made[..done.len]);
+        let place = read + done.read;
+        replaced += done.replaced;
+        let end = next_text_end(bytes, place);
+        out.put(&bytes[place..end]);
+        read = end;
+        if LONG <= end - place {
+            return Damaged { read, replaced };
+        }
+    }
+}
+
+// Returns where the text ends that begins at an offset, at most that of a part.
+#[inline(always)]
+fn next_text_end(bytes: &[u8], place: usize) -> usize
+    requires { place ≤ length bytes.now }
+    ensures least { place ≤ result }
+    ensures within { result ≤ length bytes.now }
+    ensures text { IsUtf8 (slice_range bytes.now place result) }
+{
+    let part = &bytes[..(place + PART).min(bytes.len())];
+    if 3 <= place && ends_character(part, place) {
+        return text_end(part, place);
+    }
+    place
 }
 
 impl<E: ByteOrder> Kernel<Utf8, Utf16<E>> for Widened {
     const TAKES_ALL: bool = false;
+
+    const CROWD: usize = 2;
 
     #[inline(always)]
     fn put_text<O: BlockOutput>(is_ample: bool, bytes: &[u8], out: &mut O) -> usize {
@@ -87,6 +195,101 @@ impl<E: ByteOrder> Kernel<Utf8, Utf16<E>> for Widened {
         let front = put_ascii_front::<O, E>(part, out);
         front + put_judged::<O, E>(&part[front..], out)
     }
+
+    #[inline(always)]
+    fn put_damaged<O: BlockOutput>(
+        way: Way<'_>,
+        is_ample: bool,
+        bytes: &[u8],
+        out: &mut O,
+    ) -> Damaged {
+        let most = most_widened(is_ample, bytes, out);
+        if most < LEAST {
+            return NOTHING;
+        }
+        match way {
+            Way::Faults => widen_damaged::<Each, O, E>(Each, &bytes[..most], out),
+            Way::Subparts => widen_damaged::<Subparts, O, E>(Subparts, &bytes[..most], out),
+            Way::Table(repair) => widen_damaged::<Repair<'_>, O, E>(repair, &bytes[..most], out),
+        }
+    }
+}
+
+// Appends the units of damaged bytes, mended, up to the last few: between damaged windows also those of text.
+#[inline(never)]
+fn widen_damaged<F: Windowed, O: BlockOutput, E: ByteOrder>(
+    by: F,
+    bytes: &[u8],
+    out: &mut O,
+) -> Damaged
+    ensures { Recodes O.appends (F.way by) form.Utf8 (utf16_form E.HIGH_FIRST) bytes.now
+        out.old out.new result.read result.replaced }
+{
+    let mut made = [0; MADE];
+    let mut read = 0;
+    let mut replaced = 0;
+    'parts: loop {
+        let done = mend::<F>(by, &bytes[read..], &mut made);
+        if done.read == 0 || is_few(done.len) || out.room() < WIDEST * done.len {
+            return Damaged { read, replaced };
+        }
+        put_mended::<O, E>(&made[..done.len], out);
+        read += done.read;
+        replaced += done.replaced;
+        let end = put_next_text::<O, E>(bytes, read, out);
+        if LONG <= end - read {
+            return Damaged {
+                read: end,
+                replaced,
+            };
+        }
+        read = end;
+    }
+}
+
+// Appends the units of a text of 32 bytes or more, or nothing for bytes that were all left out.
+#[inline(always)]
+fn put_mended<O: BlockOutput, E: ByteOrder>(text: &[u8], out: &mut O)
+    requires long { 0 < length text.now → 32 ≤ length text.now }
+    requires room { WIDEST * length text.now ≤ O.room out.old }
+    ensures { O.appends out.old (utf16_bytes E.HIGH_FIRST text.now 0 (length text.now)) out.new }
+{
+    if !text.is_empty() {
+        out.put_units::<E>(text);
+    }
+}
+
+// Appends the units of the text that begins at an offset, at most those of a part, as far as the worst-case output
+// fits. Returns where it ends. Of text that begins with blocks of ASCII it takes only those: the window of the next
+// invalid byte takes the few bytes after them too.
+#[inline(always)]
+fn put_next_text<O: BlockOutput, E: ByteOrder>(bytes: &[u8], place: usize, out: &mut O) -> usize
+    requires { place ≤ length bytes.now }
+    ensures least { place ≤ result }
+    ensures within { result ≤ length bytes.now }
+    ensures text { IsUtf8 (slice_range bytes.now place result) }
+    ensures appends { O.appends out.old (utf16_bytes E.HIGH_FIRST (slice_range bytes.now place result) 0
+        (length (slice_range bytes.now place result))) out.new }
+{
+    let most = PART.min(bytes.len() - place).min(out.room() / WIDEST);
+    let front = put_ascii_front::<O, E>(&bytes[place..place + most], out);
+    if 0 < front {
+        return place + front;
+    }
+    let end = next_text_end(bytes, place);
+    if end - place < 32 || out.room() / WIDEST < end - place {
+        return place;
+    }
+    out.put_units::<E>(&bytes[place..end]);
+    end
+}
+
+// Returns true if there are bytes, but fewer than vectors take.
+#[inline(always)]
+fn is_few(len: usize) -> bool
+    ensures { IsFalse result → 0 < len → 32 ≤ len }
+{
+    0 < len && len < 32
 }
 
 // Appends the units of text at the front of a few bytes, which is validated as a whole before. Returns its length in
@@ -170,6 +373,8 @@ fn put_judged<O: BlockOutput, E: ByteOrder>(bytes: &[u8], out: &mut O) -> usize
 impl<E: ByteOrder> Kernel<Utf16<E>, Utf8> for Narrowed {
     const TAKES_ALL: bool = false;
 
+    const CROWD: usize = 1;
+
     #[inline(always)]
     fn put_text<O: BlockOutput>(is_ample: bool, bytes: &[u8], out: &mut O) -> usize {
         let len = out.put_blocks::<E>(bytes);
@@ -198,6 +403,8 @@ fn narrow_ascii<O: Output, E: ByteOrder>(bytes: &[u8], out: &mut O) -> usize
 
 impl<E: ByteOrder, W: ByteOrder> Kernel<Utf16<E>, Utf16<W>> for Turned {
     const TAKES_ALL: bool = false;
+
+    const CROWD: usize = 1;
 
     #[inline(always)]
     fn put_text<O: BlockOutput>(is_ample: bool, bytes: &[u8], out: &mut O) -> usize {

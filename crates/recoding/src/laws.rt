@@ -6,6 +6,7 @@ ghost use Rattle.recoding.specs.Recoded.{RecodedOnce, PartsAreRecoded, PartsDoNo
 ghost use Rattle.recoding.specs.Faults.{FaultCountIsOne};
 ghost use Rattle.recoding.specs.LossyBytes.{LossyIsOne, LossyJoinsFaults, LossyPartsAreOne, LossyUnitsAreRecoded, TextIsLossy};
 ghost use Rattle.recoding.specs.RecodedBytes.{RecodedIsOne};
+ghost use Rattle.recoding.specs.Repaired.{RepairedHasNoFault, RepairedIsOne, RepairedOnceIsEnough, RepairedPartsAreOne, ReplacementIsATable, TextIsKept};
 ghost use Rattle.recoding.specs.Strict.{TextIsRecoded};
 ghost use Rattle.recoding.specs.Bounds.{RecodedIsBounded, RecodedIsShort, LossyIsBounded, FeedsInRoom, RoomIsLeft, FinishesInRoom};
 ghost use Rattle.recoding.specs.Undecided.{FrontsAreUndecided, LackingTextIsUndecided, LackingUnitsAreUndecided};
@@ -22,6 +23,18 @@ pub fn recoded_once()
 /// of UTF-16.
 pub fn faults_are_counted()
     ensures { FaultCountIsOne }
+{}
+
+/// With a table that has what each invalid byte becomes, bytes become one list, `repaired`, however they are cut into
+/// parts. Text stays as it is. The list has no fault, so repairing it again changes nothing. With U+FFFD for each byte it
+/// is `recoded`.
+pub fn repaired_once()
+    ensures list { RepairedIsOne }
+    ensures parts { RepairedPartsAreOne }
+    ensures text { TextIsKept }
+    ensures valid { RepairedHasNoFault }
+    ensures twice { RepairedOnceIsEnough }
+    ensures replacement { ReplacementIsATable }
 {}
 
 /// The output of a recoder for the parts of an input is the transcoded input, however it is cut into parts.

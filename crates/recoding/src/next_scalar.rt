@@ -8,7 +8,7 @@ ghost use Rattle.utf_lanes.specs.AsciiTexts.{AreAscii};
 ghost use Rattle.recoding.specs.Recoded.{Lacks, IsProperFront, most_held};
 ghost use Rattle.utf_lanes.specs.BytePairs.{units_of};
 ghost use Rattle.recoding.specs.Lossy.{BeginsNoCode};
-ghost use Rattle.recoding.specs.NextScalars.{front_of, utf16_form};
+ghost use Rattle.recoding.specs.NextScalars.{utf16_form};
 ghost use Rattle.recoding.specs.Replacing.{IsNext};
 ghost use Rattle.recoding.specs.Strict.{AwaitsKind, BeginsChar, Transcodes};
 
@@ -31,33 +31,19 @@ pub(crate) enum ShownPiece {
     Fault(usize),
 }
 
-// The scalar that begins some bytes, or U+FFFD for a fault; its length in bytes, and the number of faults, 0 or 1.
+// What some bytes begin with: the character to be written, if there is one, the number of bytes that become it, and the
+// number of faults among them, 0 or 1.
 #[derive(Clone, Copy, Drop)]
 pub(crate) struct NextScalar {
-    pub(crate) c: char,
+    pub(crate) c: Option<char>,
     pub(crate) len: usize,
     pub(crate) faults: usize,
 }
 
-// The scalar of a piece, or U+FFFD for a fault.
-#[inline(always)]
-pub(crate) fn shown(piece: ShownPiece) -> NextScalar
-    ensures { result ≡ front_of piece }
-{
-    match piece {
-        ShownPiece::Char(c, len) => NextScalar { c, len, faults: 0 },
-        ShownPiece::Fault(len) => NextScalar {
-            c: char::REPLACEMENT_CHARACTER,
-            len,
-            faults: 1,
-        },
-    }
-}
-
 // The piece that begins bytes of UTF-8; `None` if more input is needed.
 #[inline(always)]
-pub(crate) fn next_of_utf8(way: Way, bytes: &[u8]) -> Option<ShownPiece>
-    ensures some { IfSome result (λ x. IsNext way Form.Utf8 bytes.now x) }
+pub(crate) fn next_of_utf8(way: Way<'_>, bytes: &[u8]) -> Option<ShownPiece>
+    ensures some { IfSome result (λ x. IsNext way.entry Form.Utf8 bytes.now x) }
     ensures few { IfNone result (length bytes.now ≤ 3) }
     ensures lacks { IfNone result (Lacks Form.Utf8 bytes.now) }
 {
@@ -73,9 +59,9 @@ pub(crate) fn next_of_utf8(way: Way, bytes: &[u8]) -> Option<ShownPiece>
 
 // The piece that begins four bytes or more of UTF-8.
 #[inline(always)]
-fn piece_of_four(way: Way, bytes: &[u8]) -> ShownPiece
+fn piece_of_four(way: Way<'_>, bytes: &[u8]) -> ShownPiece
     requires { 4 ≤ length bytes.now }
-    ensures { IsNext way Form.Utf8 bytes.now result }
+    ensures { IsNext way.entry Form.Utf8 bytes.now result }
 {
     match front_of_text(bytes) {
         Some((c, len)) => ShownPiece::Char(c, len),
@@ -86,9 +72,9 @@ fn piece_of_four(way: Way, bytes: &[u8]) -> ShownPiece
 // The piece that begins bytes of UTF-8 that are fewer than the first asks for; `None` if more input is
 // needed.
 #[inline(always)]
-fn piece_of_few(way: Way, bytes: &[u8]) -> Option<ShownPiece>
+fn piece_of_few(way: Way<'_>, bytes: &[u8]) -> Option<ShownPiece>
     requires { AwaitsKind Form.Utf8 bytes.now }
-    ensures some { IfSome result (λ x. IsNext way Form.Utf8 bytes.now x) }
+    ensures some { IfSome result (λ x. IsNext way.entry Form.Utf8 bytes.now x) }
     ensures few { IfNone result (length bytes.now ≤ 3) }
     ensures lacks { IfNone result (Lacks Form.Utf8 bytes.now) }
 {
@@ -100,12 +86,13 @@ fn piece_of_few(way: Way, bytes: &[u8]) -> Option<ShownPiece>
 
 // The fault that begins bytes, if no code does whatever follows them: one byte, or a maximal subpart.
 #[inline(always)]
-fn fault_of_utf8(way: Way, bytes: &[u8]) -> ShownPiece
+fn fault_of_utf8(way: Way<'_>, bytes: &[u8]) -> ShownPiece
     requires { BeginsNoCode bytes.now }
-    ensures { IsNext way Form.Utf8 bytes.now result }
+    ensures { IsNext way.entry Form.Utf8 bytes.now result }
 {
     match way {
         Way::Faults => ShownPiece::Fault(1),
+        Way::Table(_) => ShownPiece::Fault(1),
         Way::Subparts => ShownPiece::Fault(subpart_len(bytes)),
     }
 }
@@ -124,7 +111,7 @@ pub(crate) fn is_front_of_code(bytes: &[u8]) -> bool
     may_be_second(bytes[0], bytes[1]) && (bytes.len() < 3 || is_continuation(bytes[2]))
 }
 
-// The piece that begins bytes of UTF-16, whose faults are units in either way of replacing; `None` if more input is
+// The piece that begins bytes of UTF-16, whose faults are units in each way of replacing; `None` if more input is
 // needed.
 #[inline(always)]
 pub(crate) fn next_of_utf16<E: ByteOrder>(bytes: &[u8]) -> Option<ShownPiece>
@@ -244,19 +231,4 @@ pub(crate) fn first_four(bytes: &[u8]) -> &[u8]
     ensures { result.now ≡ take 4 bytes.now }
 {
     &bytes[..bytes.len().min(4)]
-}
-
-// Concatenates the carried-over bytes with up to three bytes of input.
-#[inline]
-pub(crate) fn join(held: &[u8], part: &[u8]) -> ([u8; 6], usize)
-    requires { length held.now ≤ most_held }
-    ensures len { result.1 ≡ length held.now + min 3 (length part.now) }
-    ensures bytes { take result.1 result.0 ≡ held.now ++ take 3 part.now }
-{
-    let count = held.len();
-    let taken = 3usize.min(part.len());
-    let mut joined = [0; 6];
-    joined[..count].copy_from_slice(held);
-    joined[count..count + taken].copy_from_slice(&part[..taken]);
-    (joined, count + taken)
 }

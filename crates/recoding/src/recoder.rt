@@ -10,6 +10,7 @@ ghost use Rattle.recoding.specs.Rooms.{ComesNearer, FeedsInto, FinishesInto, Has
 
 use crate::form::{Form, WIDEST};
 use crate::form_calls::last_of;
+use crate::held::Held;
 use crate::recoder_runs::{progress, recode_into, recode_whole};
 use crate::room::Room;
 use crate::rooms::Progress;
@@ -25,24 +26,20 @@ use std::marker::Model;
 /// begin in one part and end in another: the output does not depend on how the input was divided.
 #[derive(Debug, Drop)]
 pub struct Recoder {
-    // The first field, so that no store to the others overlaps it, which would stall each call on store
+    // The first field, so that no store to the others overlaps its count, which would stall each call on store
     // forwarding.
-    count: usize,
+    pub(crate) held: Held,
     from: Form,
     to: Form,
-    held: [u8; 3],
     replaced: u64,
 }
 
 impl Model for Recoder {
-    ghost use Rattle.std.specs.Prelude.{◌≤◌, take};
     ghost use Rattle.recoding.specs.Recoded.{Recoding};
 
     ghost Value = { Recoding };
 
-    ghost view = { λ r. record { from = r.from; to = r.to; held = take r.count r.held; replaced = r.replaced } };
-
-    ghost invariant = { λ r. r.count ≤ 3 };
+    ghost view = { λ r. record { from = r.from; to = r.to; held = r.held; replaced = r.replaced } };
 }
 
 /// A recoder that could not be finished, because an allocation failed.
@@ -64,24 +61,6 @@ impl From<Unfinished> for AllocError {
     }
 }
 
-// One to three bytes, followed by zeros. Unrolled: a variable-length copy would call memcpy.
-#[inline(always)]
-fn padded_to_three(bytes: &[u8]) -> [u8; 3]
-    requires some { 0 < length bytes.now }
-    requires few { length bytes.now ≤ 3 }
-    ensures { take (length bytes.now) result ≡ bytes.now }
-{
-    let first = bytes[0];
-    if bytes.len() == 1 {
-        return [first, 0, 0];
-    }
-    let second = bytes[1];
-    if bytes.len() == 2 {
-        return [first, second, 0];
-    }
-    [first, second, bytes[2]]
-}
-
 impl Recoder {
     /// A recoder that carries over nothing and has replaced nothing.
     #[tactic(auto, unfolding(crate::specs::RecodedBytes::outcome, crate::specs::Faults::replaced_in_all, crate::specs::LossyBytes::lossy_outcome))]
@@ -92,13 +71,7 @@ impl Recoder {
             replaced_in_all result later ≡ saturated (fault_count from later) }
         ensures lossy { (out later : List ℕ) → lossy_outcome result out later ≡ out ++ lossy from to later }
     {
-        Recoder {
-            count: 0,
-            from,
-            to,
-            held: [0; 3],
-            replaced: 0,
-        }
+        Recoder::holding(from, to, &[])
     }
 
     /// Takes the next part, and appends to `out` what it becomes. If the last bytes of the part may begin a
@@ -128,8 +101,9 @@ impl Recoder {
         ensures replaces { OnOk result (CountsFed self.old part.now self.new) }
         ensures counts { OnOk result (KeepsCount self.old part.now self.new) }
     {
-        // Reading it brings the invariant `count ≤ 3` into scope, also for an empty part.
-        let count = self.count;
+        // Reading both brings their ranges into scope, also for an empty part.
+        let count = self.held.len();
+        let _replaced = self.replaced;
         if part.is_empty() {
             return Ok(());
         }
@@ -170,7 +144,7 @@ impl Recoder {
         ensures unwritten { OnErr result (out.new.items ≡ out.old.items) }
         ensures succeeds { HasRoomFor out.old (length self.old.held + length part.now) → IsOk result }
     {
-        out.reserve((self.count + part.len()).saturating_mul(WIDEST))?;
+        out.reserve((self.held.len() + part.len()).saturating_mul(WIDEST))?;
         let replaced = self.append_joined(part, out);
         self.count_faults(replaced);
         Ok(())
@@ -187,7 +161,7 @@ impl Recoder {
         ensures waits { Lacks self.old.from self.new.held }
     {
         let run = recode_whole(self.from, self.to, part, out);
-        self.hold(&part[run.read..]);
+        self.held.hold(&part[run.read..]);
         run.replaced
     }
 
@@ -199,8 +173,8 @@ impl Recoder {
             (length part.now) result self.new }
         ensures waits { Lacks self.old.from self.new.held }
     {
-        // Reading it brings the invariant `count ≤ 3` into scope.
-        let _held = self.count;
+        // It tells a proof that few bytes are held.
+        let _ = self.held.len();
         let first = self.take_held::<Vec<u8, A>>(Way::Faults, part, out);
         if first.is_waiting {
             return first.replaced;
@@ -216,33 +190,14 @@ impl Recoder {
         let _done = self.take_last::<Vec<u8, A>>(Way::Faults, out);
     }
 
-    // The carried-over bytes.
-    #[inline(always)]
-    fn held_bytes(&self) -> &[u8]
-        ensures bytes { result.now ≡ self.now.held }
-        ensures few { length result.now ≤ most_held }
-    {
-        &self.held[..self.count]
-    }
-
-    // Replaces the carried-over bytes.
-    pub(crate) fn hold(&mut self, bytes: &[u8])
-        requires { length bytes.now ≤ most_held }
-        ensures { self.new ≡ record (self.old) { held = bytes.now } }
-    {
-        self.count = bytes.len();
-        if !bytes.is_empty() {
-            self.held = padded_to_three(bytes);
-        }
-    }
-
     // Adds to the count of faults, as far as 64 bits count.
     #[inline(always)]
-    fn count_faults(&mut self, count: usize)
+    pub(crate) fn count_faults(&mut self, count: usize)
         ensures { self.new ≡ record (self.old) { replaced = saturated (self.old.replaced + count) } }
     {
+        let replaced = self.replaced;
         if 0 < count {
-            self.replaced = self.replaced.saturating_add(count as u64);
+            self.replaced = replaced.saturating_add(count as u64);
         }
     }
 
@@ -264,7 +219,7 @@ impl Recoder {
         ensures succeeds { HasRoomFor out.old (length self.held) → IsOk result }
         ensures outcome { OnOk result (out.new.items ≡ outcome self out.old.items []) }
     {
-        if self.count == 0 {
+        if self.held.len() == 0 {
             return Ok(());
         }
         self.finish_held(out)
@@ -278,7 +233,7 @@ impl Recoder {
         ensures unwritten { OnErr result (out.new.items ≡ out.old.items) }
         ensures succeeds { HasRoomFor out.old (length self.held) → IsOk result }
     {
-        if let Err(cause) = out.reserve(WIDEST * self.count) {
+        if let Err(cause) = out.reserve(WIDEST * self.held.len()) {
             return Err(Unfinished {
                 recoder: self,
                 cause,
@@ -293,13 +248,17 @@ impl Recoder {
     /// over it continues in its place.
     ///
     /// Condition: there are at most three bytes.
+    #[inline(always)]
     pub fn holding(from: Form, to: Form, held: &[u8]) -> Recoder
         requires { length held.now ≤ most_held }
         ensures { result ≡ record (fresh from to) { held = held.now } }
     {
-        let mut recoder = Recoder::new(from, to);
-        recoder.hold(held);
-        recoder
+        Recoder {
+            held: Held::of(held),
+            from,
+            to,
+            replaced: 0,
+        }
     }
 
     // The encodings of the input and of the output.
@@ -309,8 +268,8 @@ impl Recoder {
         ensures to { result.1 ≡ self.now.to }
         ensures few { length self.now.held ≤ most_held }
     {
-        // Reading it brings the invariant `count ≤ 3` into scope.
-        let _ = self.count;
+        // It tells a proof that few bytes are held.
+        let _ = self.held.len();
         (self.from, self.to)
     }
 
@@ -319,7 +278,7 @@ impl Recoder {
         ensures bytes { result.now ≡ self.now.held }
         ensures few { length result.now ≤ most_held }
     {
-        self.held_bytes()
+        self.held.as_slice()
     }
 
     /// The number of invalid bytes, lone surrogates and odd last bytes that the recoder has replaced by
@@ -339,7 +298,7 @@ impl Recoder {
         ensures replaces { result ≡ saturated (self.now.replaced + fault_count self.now.from self.now.held) }
         ensures counts { result ≡ replaced_in_all self.now [] }
     {
-        let count = faults_at_end(self.from, self.held_bytes());
+        let count = faults_at_end(self.from, self.held.as_slice());
         self.replaced.saturating_add(count as u64)
     }
 
@@ -371,7 +330,7 @@ impl Recoder {
         ensures total { AddsUp self.old result.replaced self.new }
         ensures counts { KeepsCount self.old (take result.read part.now) self.new }
     {
-        let count = self.count;
+        let count = self.held.len();
         if count == 0 {
             let done = self.take_alone(Way::Faults, part, room, 0);
             self.count_faults(done.replaced);
@@ -402,16 +361,16 @@ impl Recoder {
 
     // Takes a part into a buffer of a fixed size. Faults are not counted yet.
     #[inline(always)]
-    pub(crate) fn take(&mut self, way: Way, part: &[u8], room: &mut [u8]) -> Progress
-        ensures takes { Takes FillsPlace way self.old part.now
+    pub(crate) fn take(&mut self, way: Way<'_>, part: &[u8], room: &mut [u8]) -> Progress
+        ensures takes { Takes FillsPlace way.entry self.old part.now
             (at_place room.old 0) (at_place room.new result.written) result.read result.replaced self.new }
         ensures full { IsTrue result.is_full →
-            IsFullBy way self.new part.now result.read (length room.old - result.written) }
+            IsFullBy way.entry self.new part.now result.read (length room.old - result.written) }
         ensures short { IsTrue result.is_full → length room.old < result.written + 4 }
         ensures read { IsFalse result.is_full → result.read ≡ length part.now }
         ensures waits { IsFalse result.is_full → Lacks self.old.from self.new.held }
     {
-        let count = self.count;
+        let count = self.held.len();
         if count == 0 {
             return self.take_alone(way, part, room, 0);
         }
@@ -420,36 +379,36 @@ impl Recoder {
 
     // Takes a part if nothing is carried over, into a buffer from an offset on. Faults are not counted yet.
     #[inline(always)]
-    fn take_alone(&mut self, way: Way, part: &[u8], room: &mut [u8], place: usize) -> Progress
+    fn take_alone(&mut self, way: Way<'_>, part: &[u8], room: &mut [u8], place: usize) -> Progress
         requires none { length self.old.held ≡ 0 }
         requires place { place ≤ length room.old }
-        ensures takes { Takes FillsPlace way self.old part.now
+        ensures takes { Takes FillsPlace way.entry self.old part.now
             (at_place room.old place) (at_place room.new result.written) result.read result.replaced self.new }
         ensures full { IsTrue result.is_full →
-            IsFullBy way self.new part.now result.read (length room.old - result.written) }
+            IsFullBy way.entry self.new part.now result.read (length room.old - result.written) }
         ensures short { IsTrue result.is_full → length room.old < result.written + 4 }
         ensures read { IsFalse result.is_full → result.read ≡ length part.now }
         ensures waits { IsFalse result.is_full → Lacks self.old.from self.new.held }
     {
         let done = recode_into(way, self.from, self.to, part, room, place);
         let end = part.len().min(done.read + 3);
-        self.hold(&part[done.read..end]);
+        self.held.hold(&part[done.read..end]);
         Progress { read: end, ..done }
     }
 
     // Takes a part if bytes are carried over: outlined, so that the test is inlined.
     #[inline(never)]
-    fn take_joined(&mut self, way: Way, part: &[u8], room: &mut [u8]) -> Progress
-        ensures takes { Takes FillsPlace way self.old part.now
+    fn take_joined(&mut self, way: Way<'_>, part: &[u8], room: &mut [u8]) -> Progress
+        ensures takes { Takes FillsPlace way.entry self.old part.now
             (at_place room.old 0) (at_place room.new result.written) result.read result.replaced self.new }
         ensures full { IsTrue result.is_full →
-            IsFullBy way self.new part.now result.read (length room.old - result.written) }
+            IsFullBy way.entry self.new part.now result.read (length room.old - result.written) }
         ensures short { IsTrue result.is_full → length room.old < result.written + 4 }
         ensures read { IsFalse result.is_full → result.read ≡ length part.now }
         ensures waits { IsFalse result.is_full → Lacks self.old.from self.new.held }
     {
-        // Reading it brings the invariant `count ≤ 3` into scope.
-        let _held = self.count;
+        // It tells a proof that few bytes are held.
+        let _ = self.held.len();
         let (first, written) = self.take_held_into(way, part, room);
         if first.is_full || first.is_waiting {
             return progress(first.read, written, first.replaced, first.is_full);
@@ -483,7 +442,9 @@ impl Recoder {
         ensures counts { replaced_in_all self.new [] ≡ replaced_in_all self.old [] }
         ensures counted { IsFalse result.is_full → self.new.replaced ≡ replaced_in_all self.old [] }
     {
-        if self.count == 0 {
+        // Reading it brings its range into scope.
+        let _replaced = self.replaced;
+        if self.held.len() == 0 {
             return progress(0, 0, 0, false);
         }
         let done = self.take_last_into(Way::Faults, room);
@@ -493,10 +454,10 @@ impl Recoder {
 
     // Takes the carried-over bytes at the end into a buffer of a fixed size. Faults are not counted yet.
     #[inline(never)]
-    pub(crate) fn take_last_into(&mut self, way: Way, room: &mut [u8]) -> Progress
-        ensures takes { TakesLast FillsPlace way self.old
+    pub(crate) fn take_last_into(&mut self, way: Way<'_>, room: &mut [u8]) -> Progress
+        ensures takes { TakesLast FillsPlace way.entry self.old
             (at_place room.old 0) (at_place room.new result.written) result.replaced self.new }
-        ensures full { IsTrue result.is_full → IsLastFullBy way self.new (length room.old - result.written) }
+        ensures full { IsTrue result.is_full → IsLastFullBy way.entry self.new (length room.old - result.written) }
         ensures short { IsTrue result.is_full → length room.old < result.written + 4 }
         ensures all { IsFalse result.is_full → self.new.held ≡ [] }
         ensures read { result.read ≡ 0 }

@@ -12,8 +12,8 @@ use crate::engine::{has_room_for_all, put_text, run};
 use crate::first_pieces::FirstPiece;
 use crate::form::Form;
 use crate::form_calls::{first_piece, put_fitting};
+use crate::held::Held;
 use crate::kernels::{Copied, Kernel, Narrowed, Turned, Widened, by_forms};
-use crate::next_scalar::join;
 use crate::output::Output;
 use crate::room::Room;
 use crate::rooms::Progress;
@@ -69,7 +69,7 @@ fn run_whole<S: Text, T: Text, K: Kernel<S, T>, A: Allocator>(
 // three bytes that follow decide the last ones, and no others.
 #[inline(always)]
 pub(crate) fn recode_into(
-    way: Way,
+    way: Way<'_>,
     from: Form,
     to: Form,
     bytes: &[u8],
@@ -77,10 +77,10 @@ pub(crate) fn recode_into(
     place: usize,
 ) -> Progress
     requires { place ≤ length room.old }
-    ensures runs { Recodes FillsPlace way from to bytes.now
+    ensures runs { Recodes FillsPlace way.entry from to bytes.now
         (at_place room.old place) (at_place room.new result.written) result.read result.replaced }
     ensures full { IsTrue result.is_full →
-        NextIsLonger way from to (drop result.read bytes.now) (length room.old - result.written) }
+        NextIsLonger way.entry from to (drop result.read bytes.now) (length room.old - result.written) }
     ensures short { IsTrue result.is_full → length room.old < result.written + 4 }
     ensures waits { IsFalse result.is_full → length bytes.now ≤ result.read + 3 }
     ensures lacks { IsFalse result.is_full → Lacks from (drop result.read bytes.now) }
@@ -91,16 +91,16 @@ pub(crate) fn recode_into(
 // `recode_into`, monomorphised for a pair of encodings: its counts stay in registers.
 #[inline(never)]
 fn run_into<S: Text, T: Text, K: Kernel<S, T>>(
-    way: Way,
+    way: Way<'_>,
     bytes: &[u8],
     room: &mut [u8],
     place: usize,
 ) -> Progress
     requires { place ≤ length room.old }
-    ensures runs { Recodes FillsPlace way S.form T.form bytes.now
+    ensures runs { Recodes FillsPlace way.entry S.form T.form bytes.now
         (at_place room.old place) (at_place room.new result.written) result.read result.replaced }
     ensures full { IsTrue result.is_full →
-        NextIsLonger way S.form T.form (drop result.read bytes.now) (length room.old - result.written) }
+        NextIsLonger way.entry S.form T.form (drop result.read bytes.now) (length room.old - result.written) }
     ensures short { IsTrue result.is_full → length room.old < result.written + 4 }
     ensures waits { IsFalse result.is_full → length bytes.now ≤ result.read + 3 }
     ensures lacks { IsFalse result.is_full → Lacks S.form (drop result.read bytes.now) }
@@ -138,11 +138,10 @@ pub(crate) struct StrictRun {
 pub(crate) fn recode_to_fault(
     from: Form,
     to: Form,
-    held: &[u8],
+    held: &Held,
     part: &[u8],
     room: &mut [u8],
 ) -> StrictRun
-    requires { length held.now ≤ most_held }
     ensures puts { PutsText FillsPlace from to (held.now ++ part.now)
         (at_place room.old 0) (at_place room.new result.written) result.read }
     ensures stops { StopsAt from to (drop result.read (held.now ++ part.now))
@@ -161,23 +160,23 @@ pub(crate) fn recode_to_fault(
 fn run_strictly<O: BlockOutput>(
     from: Form,
     to: Form,
-    held: &[u8],
+    held: &Held,
     part: &[u8],
     out: &mut O,
 ) -> (usize, FirstPiece)
-    requires { length held.now ≤ most_held }
     ensures puts { PutsText O.appends from to (held.now ++ part.now) out.old out.new result.0 }
     ensures stops { StopsAt from to (drop result.0 (held.now ++ part.now)) (O.room out.new) result.1 }
 {
+    let count = held.len();
     let mut read = 0;
-    while read < held.len() {
-        let (joined, len) = join(&held[read..], part);
-        match put_first(from, to, &joined[..len], out) {
+    while read < count {
+        let (joined, len) = held.join(part);
+        match put_first(from, to, &joined[read..len], out) {
             Ok(count) => read += count,
             Err(first) => return (read, first),
         }
     }
-    let (more, first) = run_by_pieces(from, to, &part[read - held.len()..], out);
+    let (more, first) = run_by_pieces(from, to, &part[read - count..], out);
     (read + more, first)
 }
 

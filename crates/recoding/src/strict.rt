@@ -40,7 +40,7 @@ impl Recoder {
         ensures first { TellsFirst self.old part.now result self.new }
     {
         let (from, to) = self.forms();
-        let run = recode_to_fault(from, to, self.held(), part, room);
+        let run = recode_to_fault(from, to, &self.held, part, room);
         let (read, outcome) = self.end_run(run, part);
         StrictProgress {
             read,
@@ -58,32 +58,17 @@ impl Recoder {
         ensures { EndsRun self.old part.now run result self.new }
     {
         match run.first {
-            FirstPiece::Char(_, _) => (self.pass(run.read), Outcome::Full),
+            FirstPiece::Char(_, _) => (self.held.drop_front(run.read), Outcome::Full),
             FirstPiece::Fault(kind, len) => {
-                let read = self.pass(run.read + len);
-                (read, faulty(kind, len, self.held().len()))
+                let read = self.held.drop_front(run.read + len);
+                (read, faulty(kind, len, self.held.len()))
             }
             FirstPiece::Undecided => {
-                let read = self.pass(run.read);
-                self.take_more(&part[read..], 0);
+                let read = self.held.drop_front(run.read);
+                self.held.shift(&part[read..], 0);
                 (part.len(), Outcome::AllRead)
             }
         }
-    }
-
-    // Drops up to `count` carried-over bytes from the front. Returns how many of `count` were beyond them.
-    pub(crate) fn pass(&mut self, count: usize) -> usize
-        ensures held { self.new ≡ record (self.old) { held = drop count self.old.held } }
-        ensures more { result ≡ count - length self.old.held }
-    {
-        let held = self.held();
-        if held.is_empty() || count == 0 {
-            return count;
-        }
-        let gone = count.min(held.len());
-        let more = count - gone;
-        self.take_more(&[], gone);
-        more
     }
 
     /// Finishes as `finish_into` does, but stops at the first invalid byte. `read` is 0.
@@ -101,11 +86,11 @@ impl Recoder {
         ensures enough { IsAmpleForText (length room.old) (length self.old.held) → result.outcome ≢ Outcome.Full }
         ensures first { TellsFirstAtEnd self.old result }
     {
-        if self.held().is_empty() {
+        if self.held.len() == 0 {
             return finished();
         }
         let progress = self.feed_strict_into(&[], room);
-        let held = self.held().len();
+        let held = self.held.len();
         if held == 0 {
             return progress;
         }
@@ -114,9 +99,9 @@ impl Recoder {
         };
         let (from, _) = self.forms();
         let (kind, len) = lacking_fault(from, held);
-        let _more = self.pass(len);
+        let _more = self.held.drop_front(len);
         StrictProgress {
-            outcome: faulty(kind, len, self.held().len()),
+            outcome: faulty(kind, len, self.held.len()),
             ..progress
         }
     }

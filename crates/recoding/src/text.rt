@@ -2,7 +2,7 @@
 ghost use Rattle.std.specs.Prelude.{◌≡◌, ◌<◌, ◌≤◌, length, IfSome, IfNone, IsTrue, IsFalse};
 ghost use Rattle.recoding.specs.Recoded.{Lacks, written};
 ghost use Rattle.recoding.specs.NextScalars.{fault_len};
-ghost use Rattle.recoding.specs.Replacing.{IsNext};
+ghost use Rattle.recoding.specs.Replacing.{CodeIsLonger, IsNext, code_of, replaced_by};
 ghost use Rattle.recoding.specs.Strict.{BeginsChar, IsFirstPiece, lacking};
 
 use crate::codes::{len_of_units, put_code_units, put_short};
@@ -28,10 +28,15 @@ pub(crate) trait Text {
     const IS_ONE_WAY: bool;
 
     // The piece that begins the bytes; `None` if that depends on what follows them.
-    fn next_piece(way: Way, bytes: &[u8]) -> Option<ShownPiece>
-        ensures some { IfSome result (λ x. IsNext way form bytes.now x) }
+    fn next_piece(way: Way<'_>, bytes: &[u8]) -> Option<ShownPiece>
+        ensures some { IfSome result (λ x. IsNext way.entry form bytes.now x) }
         ensures few { IfNone result (length bytes.now ≤ 3) }
         ensures lacks { IfNone result (Lacks form bytes.now) };
+
+    // The character that replaces the fault that begins the bytes, if one does.
+    fn replacement(way: Way<'_>, bytes: &[u8]) -> Option<char>
+        requires { 0 < length bytes.now }
+        ensures { result ≡ replaced_by way.entry form bytes.now };
 
     // The character that begins the bytes, and its length; `None` at a fault, and near the end.
     fn next_valid(bytes: &[u8]) -> Option<(char, usize)>
@@ -77,6 +82,31 @@ pub(crate) trait Text {
         Self::put_at_end(c, out)
     }
 
+    // Appends the code of the character, if there is one.
+    #[inline(always)]
+    fn put_any<O: Output>(c: Option<char>, out: &mut O)
+        requires { length (code_of form c) ≤ O.room out.old }
+        ensures { O.appends out.old (code_of form c) out.new }
+    {
+        if let Some(c) = c {
+            Self::put_code(c, out);
+        }
+    }
+
+    // Appends the code of the character, if there is one and it fits, and returns whether all is written.
+    #[inline(always)]
+    fn put_shown<O: Output>(c: Option<char>, out: &mut O) -> bool
+        ensures put { IsTrue result → O.appends out.old (code_of form c) out.new }
+        ensures full { IsFalse result → CodeIsLonger form c (O.room out.old) }
+        ensures short { IsFalse result → O.room out.old < 4 }
+        ensures kept { IsFalse result → out.new ≡ out.old }
+    {
+        match c {
+            Some(c) => Self::put_fitting(c, out),
+            None => true,
+        }
+    }
+
     // Appends the code of the character, if it fits, to an output with less capacity than the longest code.
     #[inline(never)]
     fn put_at_end<O: Output>(c: char, out: &mut O) -> bool
@@ -106,8 +136,16 @@ impl Text for Utf8 {
     const IS_ONE_WAY: bool = false;
 
     #[inline(always)]
-    fn next_piece(way: Way, bytes: &[u8]) -> Option<ShownPiece> {
+    fn next_piece(way: Way<'_>, bytes: &[u8]) -> Option<ShownPiece> {
         next_of_utf8(way, bytes)
+    }
+
+    #[inline(always)]
+    fn replacement(way: Way<'_>, bytes: &[u8]) -> Option<char> {
+        match way {
+            Way::Faults | Way::Subparts => Some(char::REPLACEMENT_CHARACTER),
+            Way::Table(repair) => repair.char_for(bytes[0]),
+        }
     }
 
     #[inline(always)]
@@ -156,8 +194,16 @@ impl<E: ByteOrder> Text for Utf16<E> {
     const IS_ONE_WAY: bool = true;
 
     #[inline(always)]
-    fn next_piece(_way: Way, bytes: &[u8]) -> Option<ShownPiece> {
+    fn next_piece(_way: Way<'_>, bytes: &[u8]) -> Option<ShownPiece> {
         next_of_utf16::<E>(bytes)
+    }
+
+    #[inline(always)]
+    fn replacement(way: Way<'_>, _bytes: &[u8]) -> Option<char> {
+        match way {
+            Way::Faults | Way::Subparts => Some(char::REPLACEMENT_CHARACTER),
+            Way::Table(repair) => repair.unit_for(),
+        }
     }
 
     #[inline(always)]

@@ -1,10 +1,10 @@
 //! How much capacity is enough, and runs over equal bytes.
 
 use cuts::Form;
+use run_examples::bounds::{count_pieces, lossy_text};
+use run_examples::equals::{decode_alike, merge_alike};
+use run_examples::parts::recode_parts;
 use std::test::Fail;
-use uses_runs::bounds::{count_pieces, lossy_text};
-use uses_runs::equals::{decode_alike, merge_alike};
-use uses_runs::parts::recode_parts;
 
 #[test]
 fn a_lossy_text_has_three_bytes_for_each_fault(rt: HostRuntime) -> Result<(), Fail> {

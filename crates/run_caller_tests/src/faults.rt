@@ -1,7 +1,7 @@
-//! The callers in `uses_runs` that find faults, cut at them, and repair them in a table of pieces.
+//! The callers in `run_examples` that find faults, cut at them, and repair them in a table of pieces.
 use cuts::{Form, PieceTable};
+use run_examples::{bounds, editor, faults, fronts, strict};
 use std::test::Fail;
-use uses_runs::{bounds, editor, faults, fronts, strict};
 
 // Six pieces, two of them faults, as the README shows them.
 fn damaged() -> &'static [u8] {

@@ -1,8 +1,8 @@
 //! A viewer of a text that grows: which pieces it draws anew.
 use cuts::{Counts, TextBuffer};
+use run_examples::growing::View;
 use std::process::Abort;
 use std::test::Fail;
-use uses_runs::growing::View;
 
 fn counts(bytes: usize, pieces: usize, faults: usize, line_feeds: usize) -> Counts {
     Counts {

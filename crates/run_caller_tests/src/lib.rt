@@ -1,4 +1,4 @@
-//! Tests of the callers in `uses_runs`: what they return, with expected values from outside.
+//! Tests of the callers in `run_examples`: what they return, with expected values from outside.
 #![tactic(auto)]
 
 #[cfg(test)]
@@ -11,6 +11,8 @@ mod growing;
 mod parts;
 #[cfg(test)]
 mod places;
+#[cfg(test)]
+mod repair;
 #[cfg(test)]
 mod shards;
 #[cfg(test)]

@@ -1,10 +1,10 @@
-//! The callers in `uses_runs` that transcode parts, lines, packets and rings.
+//! The callers in `run_examples` that transcode parts, lines, packets and rings.
 use cuts::{Form, Recoder};
-use std::test::Fail;
-use uses_runs::parts::{
+use run_examples::parts::{
     append_shards, count_two, feed_line, recode_in_parts, recode_ring, recode_two,
 };
-use uses_runs::rooms::{feed_by_packets, feed_packet, send_end};
+use run_examples::rooms::{feed_by_packets, feed_packet, send_end};
+use std::test::Fail;
 
 // FF and the two bytes of E2 82 are faults by RFC 3629, section 4; EF BF BD is an encoded U+FFFD.
 #[test]

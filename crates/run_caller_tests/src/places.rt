@@ -1,14 +1,14 @@
-//! The callers in `uses_runs` that look up offsets in damaged bytes, and that read records and blocks. Expected
+//! The callers in `run_examples` that look up offsets in damaged bytes, and that read records and blocks. Expected
 //! values as Python's `bytes` and `str` give them.
 use cuts::boundaries::{ceil, floor, following, previous, truncated};
+use run_examples::blocks::count_block;
+use run_examples::listed::{pieces_of_both, turned_by_units};
+use run_examples::shown::{lossy, valid_front};
+use run_examples::strings::closing_quote;
+use run_examples::wire::first_text;
+use run_examples::{boundaries, cursor};
 use std::process::Abort;
 use std::test::Fail;
-use uses_runs::blocks::count_block;
-use uses_runs::listed::{pieces_of_both, turned_by_units};
-use uses_runs::shown::{lossy, valid_front};
-use uses_runs::strings::closing_quote;
-use uses_runs::wire::first_text;
-use uses_runs::{boundaries, cursor};
 
 // "a", "€", a truncated "€", a quote, "b" and "🂠".
 fn damaged() -> &'static [u8] {

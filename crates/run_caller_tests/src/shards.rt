@@ -1,11 +1,11 @@
-//! The callers in `uses_runs` that ask shards for their faults and pieces.
+//! The callers in `run_examples` that ask shards for their faults and pieces.
 use cuts::{Form, Outcome, Recoder, shard_end};
 use encode_unicode::error::{Utf8Error, Utf8ErrorKind};
 use encode_unicode::{U8SliceExt, Utf8Char};
+use run_examples::lossy::{feed_lossy_by_packets, send_lossy_end};
+use run_examples::shards::{faults_in_shards, pieces_in_shards};
 use std::alloc::{AllocError, Allocator};
 use std::test::Fail;
-use uses_runs::lossy::{feed_lossy_by_packets, send_lossy_end};
-use uses_runs::shards::{faults_in_shards, pieces_in_shards};
 
 // By hand: "a", a fault, "€", three faults, "!" and two faults.
 #[test]

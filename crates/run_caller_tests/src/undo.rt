@@ -1,9 +1,9 @@
 //! A text with undo: edits of damaged text are undone, one after another.
 use cuts::{Change, Counts};
+use run_examples::undo::{UndoBuffer, part};
 use std::alloc::{AllocError, Allocator};
 use std::process::Abort;
 use std::test::Fail;
-use uses_runs::undo::{UndoBuffer, part};
 
 // Replaces some bytes by others, if the former are in the text.
 fn put<A: Allocator + Copy>(

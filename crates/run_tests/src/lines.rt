@@ -1,8 +1,8 @@
 //! Lines and fields of bytes. Expected values: the parts as Python's `bytes.split` gives them, with offsets added up
 //! by hand; lines as `str::lines` of Rust gives them; counts by hand.
-use cuts::{Span, SplitAscii, SplitLines, char_count, fault_count, lines, split_ascii};
+use cuts::{Span, SplitAscii, SplitLines, lines, split_ascii};
+use run_examples::fields;
 use std::test::Fail;
-use uses_runs::fields;
 
 fn is_at(span: Option<Span<'_>>, start: usize, bytes: &[u8]) -> bool {
     span.is_some_and(|span| span.start() == start && span.as_bytes() == bytes)
@@ -76,16 +76,6 @@ fn spans_tell_their_places(rt: HostRuntime) -> Result<(), Fail> {
     let none = &fields[0];
     assert!(rt; none.start() == 0 && none.end() == 0 && none.len() == 0 && none.is_empty());
     Ok(())
-}
-
-// "a", "é", one byte of a character of three, "🂠", a byte of none, "b".
-#[test]
-fn counts_are_those_by_hand(rt: HostRuntime) {
-    let bytes = b"a\xc3\xa9\xe2\xf0\x9f\x82\xa0\xffb";
-    assert!(rt; fault_count(bytes) == 2 && char_count(bytes) == 6);
-    assert!(rt; fault_count(b"\xe2\x82,") == 2 && char_count(b"\xe2\x82,") == 3);
-    assert!(rt; fault_count("é🂠".as_bytes()) == 0 && char_count("é🂠".as_bytes()) == 2);
-    assert!(rt; fault_count(b"") == 0 && char_count(b"") == 0);
 }
 
 #[test]

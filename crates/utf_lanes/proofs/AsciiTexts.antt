@@ -79,6 +79,27 @@ one_given high xs k a b c d = rw (opens _ _ d c, low _ _ _ b d, upper _ _ _ _ a 
     upper : (a b c d : ℕ) → a < 0xF0 → b < 0xE0 → d < 0x80 → unit_high a b c d ≡ 0
     upper a b c d x y z = grind (arith, common_steps)
 
+-- the units of a text of ASCII
+pub ascii_units_given : (high : Bool) (text : List ℕ) → ((k : ℕ) → k < length text → get_or text k 0 < 0x80)
+    → concat_range (λ k. halves high (get_or text k 0) 0) 0 (length text) ≡ utf16_bytes high text 0 (length text)
+ascii_units_given high text low =
+    joined_same _ _ 0 (length text) (λ k ge lt.
+    let n : length text ≡ 0 + length text = omega arith in
+    let here : k < length text = omega arith in
+    let next : k + 3 ≡ suc (suc (suc k)) = omega arith in
+    let third = padded k (omega arith) in
+    let second = padded (k + 1) (omega arith) in
+    let first = padded (k + 2) (omega arith) in
+    let own = padded (k + 3) (omega arith) in
+    let same : get_or (0 ∷ 0 ∷ 0 ∷ text) (k + 3) 0 ≡ get_or text k 0 = rw next refl in
+    sym (one_given high (0 ∷ 0 ∷ 0 ∷ text) k (omega arith) (omega arith) (omega arith) own ∙ ap (λ b. halves high b 0) same))
+  where
+    padded : (k : ℕ) → k < length text + 3 → get_or (0 ∷ 0 ∷ 0 ∷ text) k 0 < 0x80
+    padded zero lt = omega arith
+    padded (suc zero) lt = omega arith
+    padded (suc (suc zero)) lt = omega arith
+    padded (suc (suc (suc k))) lt = low k (omega arith)
+
 pub ascii_given : (high : Bool) (text : List ℕ) (place i n : ℕ) → 3 ≤ place → i + n ≤ 64 → EndsCharacter text place → ((k : ℕ) → k < 64 → get_or text (place + k) 0 < 0x80)
     → concat_range (λ k. halves high (get_or (chunk place 64 text) k 0) 0) i n ≡ utf16_bytes high text (place + i) n
 ascii_given high text place i n start within closed low =

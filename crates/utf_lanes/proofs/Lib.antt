@@ -29,4 +29,6 @@ pub mod FaultWindows
 pub mod MaskBits
 pub mod MaskLanes
 pub mod FaultKinds
+pub mod MendedTexts
+pub mod MendedWindows
 pub mod LaterText

@@ -8,3 +8,4 @@ pub mod UnitCodes
 pub mod Starts
 pub mod UnitStarts
 pub mod FaultMasks
+pub mod Mending

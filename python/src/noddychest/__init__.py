@@ -10,6 +10,8 @@
 5 1 A
 >>> noddychest.recode(b"f\\xcfb", "utf8", "utf16le")
 b'f\\x00\\xfd\\xffb\\x00'
+>>> noddychest.decode(b"na\\xc3\\xafve caf\\xe9", errors="windows-1252")
+'naïve café'
 >>> b"h\\xc3\\xa9\\xe2\\x82A".decode("noddychest-utf8", "backslashreplace")
 'hé\\\\xe2\\\\x82A'
 
@@ -18,14 +20,15 @@ at its size in bytes. A `str` is a TypeError, and bytes that do not lie one afte
 (those of numpy a ValueError).
 
 Importing the package registers the codecs `noddychest-utf8`, `noddychest-utf16le`, `noddychest-utf16be` and, with a byte order mark,
-`noddychest-utf8-sig` and `noddychest-utf16`.
+`noddychest-utf8-sig` and `noddychest-utf16`; and for any codec the error handlers `noddychest.windows-1252` and `noddychest.latin-1`.
 """
 from ._version import __version__
-from ._parts import Decoder, stream_faults, stream_pieces
+from ._parts import Decoder, stream_faults, stream_located, stream_pieces
 from ._pieces import (
     Ends,
     FaultError,
     FaultKind,
+    Located,
     Piece,
     Pieces,
     boundary_after,
@@ -36,14 +39,16 @@ from ._pieces import (
     faults,
     first_fault,
     is_valid,
+    located,
     number_of,
     offset_of,
     offsets,
     pieces,
     undecided_len,
 )
-from ._recoding import Recoder, recode, recoded_len
-from ._shards import ChangedError, Counts, Faults, Recoded, Shard, faults_array, shards
+from ._recoding import Recoder, decode, recode, recoded_len
+from ._shards import ChangedError, Counts, Faults, LocatedFaults, Recoded, Shard, faults_array, shards
+from ._surveys import Guess, Survey, Surveyor, UnitCounts, Utf8Counts, guess, survey
 from . import _codecs
 
 __all__ = [
@@ -54,21 +59,31 @@ __all__ = [
     "FaultError",
     "FaultKind",
     "Faults",
+    "Guess",
+    "Located",
+    "LocatedFaults",
     "Piece",
     "Pieces",
     "Recoded",
     "Recoder",
     "Shard",
+    "Survey",
+    "Surveyor",
+    "UnitCounts",
+    "Utf8Counts",
     "__version__",
     "boundary_after",
     "boundary_before",
     "changed_range",
     "char_count",
+    "decode",
     "encoding_of_bom",
     "faults",
     "faults_array",
     "first_fault",
+    "guess",
     "is_valid",
+    "located",
     "number_of",
     "offset_of",
     "offsets",
@@ -77,11 +92,14 @@ __all__ = [
     "recoded_len",
     "shards",
     "stream_faults",
+    "stream_located",
     "stream_pieces",
+    "survey",
     "undecided_len",
 ]
 
-for _it in (ChangedError, Counts, Decoder, Ends, FaultError, FaultKind, Faults, Piece, Pieces, Recoded, Recoder, Shard):
+for _it in (ChangedError, Counts, Decoder, Ends, FaultError, FaultKind, Faults, Guess, Located, LocatedFaults, Piece, Pieces, Recoded, Recoder, Shard, Survey, Surveyor, UnitCounts,
+            Utf8Counts):
     _it.__module__ = __name__  # where users find them
 
 _codecs.register()

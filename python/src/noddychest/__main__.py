@@ -8,9 +8,10 @@ import argparse
 import os
 import signal
 import sys
+import time
 from collections.abc import Callable, Iterator
 from types import FrameType
-from typing import NoReturn, Optional
+from typing import Optional
 
 from . import _options as options
 from ._inputs import Found, Input, Place, found_in, passed
@@ -19,8 +20,19 @@ from ._outputs import Output, OutputError, complain, complain_of, is_closed_pipe
 from ._pieces import FaultError, FaultKind, Piece, pieces
 from ._recoding import Recoder
 from ._shards import Shard, bom_at, opened, place_of, shards, taken
+from ._surveys import Guess, survey
 
 _FRONT = 8192  # a file is binary if its first bytes contain a NUL
+_AROUND = 1 << 15  # hints are for what these many bytes before and after the first invalid byte are,
+_FEW = 3  # the least number of invalid bytes for a hint: fewer may be damage, and so may more than the characters beside them
+_HINTS = {
+    Guess.UTF16LE_MARKED: "begins with the mark of UTF-16LE: try --encoding auto",
+    Guess.UTF16BE_MARKED: "begins with the mark of UTF-16BE: try --encoding auto",
+    Guess.UTF16LE: "looks like UTF-16LE: try --encoding utf-16le",
+    Guess.UTF16BE: "looks like UTF-16BE: try --encoding utf-16be",
+    Guess.WINDOWS1252: "looks like Windows-1252: try fix --errors windows-1252",
+    Guess.UTF8_MIXED: "looks like UTF-8 with bytes of an 8-bit encoding: if that is Windows-1252, try fix --errors windows-1252",
+}
 _NAMES = ("UTF-8", "UTF-16LE", "UTF-16BE")  # by the numbers of the C library
 _Line = Callable[[Piece, bytes], bytes]
 _SIGNALS = ("SIGINT", "SIGTERM", "SIGHUP", "SIGQUIT", "SIGALRM", "SIGXCPU")
@@ -59,7 +71,8 @@ class _Checked:
 
     def __init__(self, out: Output, name: str, asked: argparse.Namespace) -> None:
         self._out, self._name, self._asked = out, name, asked
-        self._encoding, self._mark, self._is_file, self._is_binary = "utf8", "utf8", True, False
+        self._encoding, self._is_file, self._is_binary = "utf8", True, False
+        self._input: Optional[Input] = None
         self._count, self._first, self._front = 0, 0, Place()
 
     def run(self) -> int:
@@ -79,7 +92,7 @@ class _Checked:
         return bool(self._asked.quiet or self._asked.names)
 
     def _begin(self, front: bytes, encoding: str, is_file: bool) -> None:
-        self._encoding, self._mark, self._is_file = encoding, bom_at(front)[0], is_file
+        self._encoding, self._is_file = encoding, is_file
         self._look_for_nul(0, front)
 
     def _look_for_nul(self, offset: int, data: bytes) -> None:
@@ -88,11 +101,13 @@ class _Checked:
 
     def _found(self) -> Iterator[tuple[int, bytes, Found]]:
         name, most = self._name, self._asked.max
-        if self._asked.jobs > 1 and name != "-" and ("://" in name or os.path.isfile(name)):
+        # (a file of length 0 may have bytes nevertheless, as one in /proc, and is read to its end)
+        if self._asked.jobs > 1 and name != "-" and ("://" in name or os.path.isfile(name) and os.path.getsize(name) > 0):
             yield from self._found_by_jobs()
             return
         with Input(name, self._asked.encoding) as it:
             it.refuse_output()
+            self._input = it
             self._begin(it.read_at(0, _FRONT) if it.is_file else b"", it.encoding, it.is_file)
             for offset, data, cut in it.blocks():
                 yield offset, data, found_in(it.encoding, data, cut, offset, most, self._asked.columns)
@@ -113,8 +128,10 @@ class _Checked:
     def _add(self, found: Found) -> bool:
         """Tells of what was found in a block. Returns whether no more is wanted."""
         faults, asked = found.faults, self._asked
+        if faults.offsets and not self._count:
+            self._first = faults.offsets[0]
         if faults.offsets and (self._is_brief or self._is_binary):
-            self._count, self._first = 1, faults.offsets[0]
+            self._count = 1
             return True
         left = len(faults.offsets) if asked.max == 0 else max(asked.max - self._count, 0)
         for offset, length, kind, place in zip(faults.offsets[:left], faults.lengths, faults.kinds, found.places):
@@ -141,12 +158,30 @@ class _Checked:
             about = {"valid": self._count == 0, "binary": self._is_binary, "invalid": self._count, **first, "complete": is_whole}
             self._out.write(json_line(self._name, encoding=_name_of(self._encoding), **about))
         elif not asked.names and (self._count or asked.verbose):
-            self._say(self._summary())
-            if self._count and self._is_file and not is_auto(asked.encoding) and form_of(self._encoding) == 0 and form_of(self._mark) != 0:
-                self._say(f"begins with the mark of {_name_of(self._mark)}: try --encoding auto")
+            self._out.write(shown(self._name) + f": {self._summary()}\n".encode())
+            is_other = self._count and self._is_file and not is_auto(asked.encoding) and form_of(self._encoding) == 0
+            if is_other and "://" not in self._name:  # (one in the network is not read once more)
+                self._hint()
 
-    def _say(self, text: str) -> None:
-        self._out.write(shown(self._name) + f": {text}\n".encode())
+    def _hint(self) -> None:
+        """Says on standard error what may help with a file that is not valid UTF-8."""
+        try:
+            around = survey(self._around())
+        except OSError:  # (it is gone)
+            return
+        counts, is_mixed = around.utf8, around.guess is Guess.UTF8_MIXED
+        is_damage = counts.faults < _FEW or counts.undefined or (is_mixed and counts.chars < counts.faults)
+        if around.guess in _HINTS and not (is_damage and (is_mixed or around.guess is Guess.WINDOWS1252)):
+            self._out.flush()
+            complain(self._name, _HINTS[around.guess])
+
+    def _around(self) -> bytes:
+        """The bytes around the first invalid one."""
+        at = max(self._first // 2 * 2 - _AROUND, 0)
+        if self._name == "-" and self._input is not None:
+            return self._input.read_at(at, 2 * _AROUND)
+        with opened(place_of(self._name)) as it:
+            return bytes(it.read(at, min(it.stamp()[0], at + 2 * _AROUND)))
 
     def _summary(self) -> str:
         encoding, count, most = _name_of(self._encoding), self._count, self._asked.max
@@ -199,9 +234,13 @@ def _pieces_line(piece: Piece, data: bytes) -> bytes:
 # ---- fix and recode
 
 
+_BECAME = {"replace": "became U+FFFD", "ignore": "dropped", "windows-1252": "read as Windows-1252", "latin-1": "read as ISO-8859-1"}
+
+
 def _tell_replaced(name: str, encoding: str, count: int, asked: argparse.Namespace) -> None:
-    if count and asked.errors == "replace" and not asked.quiet:
-        complain(name, f"{count} {_noun(encoding, count)} became U+FFFD")
+    if count and not asked.quiet:  # (with `lossy` they are not counted)
+        way = asked.errors if asked.errors == "ignore" or form_of(encoding) == 0 else "replace"
+        complain(name, f"{count} {_noun(encoding, count)} {_BECAME[way]}")
 
 
 def _fix(out: Output, name: str, asked: argparse.Namespace) -> int:
@@ -248,14 +287,19 @@ def _recode_into(name: str, asked: argparse.Namespace) -> int:
     from . import parallel
 
     try:
-        done = parallel.recode(name, asked.output, asked.encoding, asked.to, asked.jobs, not asked.quiet, errors=asked.errors, resume=asked.resume)
-    except FaultError as fault:
-        tell(_told(shown(name), fault.offset, fault.error, _place_of(name, asked.encoding, fault.offset)))
-        return 1
-    except (OSError, ImportError, MemoryError) as error:
+        # (read first: afterwards there may be no such file, or the output may be it)
+        encoding = _front_of(name, asked.encoding)[1] if is_auto(asked.encoding) else asked.encoding
+        try:
+            done = parallel.recode(name, asked.output, asked.encoding, asked.to, asked.jobs, not asked.quiet, errors=asked.errors, resume=asked.resume)
+        except FaultError as fault:
+            tell(_told(shown(name), fault.offset, fault.error, _place_of(name, asked.encoding, fault.offset)))
+            return 1
+    except Exception as error:
+        if not _is_failure(name, error):
+            raise
         complain_of(asked.output, error)
         return 3
-    _tell_replaced(name, _front_of(name, asked.encoding)[1], done.replaced, asked)
+    _tell_replaced(name, encoding, done.replaced, asked)
     return 0
 
 
@@ -274,11 +318,20 @@ def _run_on(out: Output, name: str, asked: argparse.Namespace) -> int:
     return _listed(out, name, asked.encoding, (lambda *it: _list_json(name, *it)) if asked.json else _list_line)
 
 
+def _is_failure(name: str, error: Exception) -> bool:
+    """Whether an error says that a file cannot be read or written. A URL asks for fsspec, and what that raises may be of any type."""
+    return isinstance(error, (OSError, ImportError, MemoryError)) or "://" in name
+
+
 def _status_of(out: Output, name: str, asked: argparse.Namespace) -> int:
     """The status for one input; one that cannot be read is reported."""
     try:
         return _run_on(out, name, asked)
-    except (OSError, ImportError, MemoryError) as error:  # (a URL asks for fsspec)
+    except OutputError:
+        raise
+    except Exception as error:
+        if not _is_failure(name, error):
+            raise
         out.flush()
         complain_of(name, error)
         return 3
@@ -302,8 +355,17 @@ class _Ended(BaseException):
     """A signal ends the program, once files that are not finished were removed."""
 
 
-def _end(number: int, frame: Optional[FrameType]) -> NoReturn:
-    raise _Ended(number)
+_TOGETHER = 1.0  # seconds
+_ended_at = -_TOGETHER
+
+
+def _end(number: int, frame: Optional[FrameType]) -> None:
+    """Of signals that come together only the first raises: another one would interrupt what removes the files."""
+    global _ended_at
+    now = time.monotonic()
+    if now - _ended_at >= _TOGETHER:
+        _ended_at = now
+        raise _Ended(number)
 
 
 def _on_signals() -> None:

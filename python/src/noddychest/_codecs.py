@@ -3,12 +3,14 @@ becomes bytes, by the interpreter's own codec."""
 from __future__ import annotations
 
 import codecs
+import functools
 import types
 from typing import TYPE_CHECKING, Any, NamedTuple, Optional, Union
 
 from . import _noddychest
 from ._names import STANDARD, plain
 from ._pieces import ERRORS, REASONS, fault_error
+from ._recoding import decode
 
 if TYPE_CHECKING:
     from _typeshed import ReadableBuffer
@@ -103,6 +105,8 @@ def _handled(codec: _Codec, form: int, made: Any, errors: Optional[str], final: 
     way = _own_way(handler, form)
     if way is not None:
         return _noddychest.replaced(form, source, at, end, way), source[end:]
+    if isinstance(handler, _Repairer):
+        return decode(memoryview(source)[:end], STANDARD[form], handler.table), source[end:]
     error = fault_error(codec.name, source, at, length, kind, offset=before + at)
     if errors == "surrogatepass":  # it knows encodings by name
         error.encoding = STANDARD[form]
@@ -110,6 +114,32 @@ def _handled(codec: _Codec, form: int, made: Any, errors: Optional[str], final: 
         return _noddychest.handled(form, source, at, final, at_once, before, error, handler, ERRORS, REASONS)
     finally:
         error.encoding = codec.name
+
+
+@functools.lru_cache(maxsize=16)
+def _has_units(encoding: str) -> bool:
+    """Whether text in an encoding is made of units of several bytes."""
+    return any(it in plain(encoding) for it in ("utf16", "utf32"))
+
+
+class _Repairer:
+    """An error handler that replaces each invalid byte by its character in a table, and each fault of UTF-16 and UTF-32 by U+FFFD. The codecs of
+    this package call it once for all bytes of a call, others for each fault."""
+
+    def __init__(self, table: str) -> None:
+        self.table = table
+        lone = b"".join(bytes([byte, 0x20]) for byte in range(0x80, 0x100))  # (before a blank each is invalid)
+        self._chars = [*map(chr, range(0x80)), *decode(lone, errors=table)[::2]]
+
+    def __call__(self, error: UnicodeError) -> tuple[str, int]:
+        if not isinstance(error, UnicodeDecodeError):
+            raise error
+        if _has_units(error.encoding):
+            return "\ufffd", error.end
+        return "".join([self._chars[byte] for byte in error.object[error.start : error.end]]), error.end
+
+
+_REPAIRERS = {f"noddychest.{table}": _Repairer(table) for table in ("windows-1252", "latin-1")}
 
 
 class _Held(bytes):
@@ -230,8 +260,10 @@ def _info(it: _Codec) -> codecs.CodecInfo:
         made, length = _encode(it, input, errors)
         return mark + made, length
 
-    def decode(input: ReadableBuffer, errors: str = "strict") -> tuple[str, int]:
+    def decode_marked(input: ReadableBuffer, errors: str = "strict") -> tuple[str, int]:
         return _decode(it, first, input, errors, True)[0], memoryview(input).nbytes
+
+    decode = decode_marked if it.marked else _DECODERS[it.form]
 
     class IncrementalEncoder(_Encoder):
         codec = it
@@ -245,7 +277,7 @@ def _info(it: _Codec) -> codecs.CodecInfo:
     class StreamReader(_Reader):
         codec = it
 
-    named: tuple[Any, ...] = (encode, decode, IncrementalEncoder, IncrementalDecoder, StreamWriter, StreamReader)
+    named: tuple[Any, ...] = (encode, *([decode] if it.marked else []), IncrementalEncoder, IncrementalDecoder, StreamWriter, StreamReader)
     for one in named:
         one.__name__ = one.__qualname__ = f"{one.__name__}_{plain(it.name.partition('-')[2])}"
         globals()[one.__name__] = one  # (so that pickle finds it)
@@ -260,7 +292,22 @@ def _info(it: _Codec) -> codecs.CodecInfo:
     )
 
 
+# What decodes all bytes at once, by the numbers of the C library: short text without a call of Python's, and other text by `_slow`.
+_DECODERS = (_noddychest.decode_utf8, _noddychest.decode_utf16le, _noddychest.decode_utf16be)
 _INFOS = tuple(map(_info, CODECS))
+
+
+def _slow(codec: _Codec, input: ReadableBuffer, errors: str = "strict") -> tuple[str, int]:
+    return _decode(codec, codec.form, input, errors, True)[0], memoryview(input).nbytes
+
+
+def _own_handlers() -> tuple[Any, ...]:
+    """The interpreter's own error handlers by the numbers of what they do; None if there is another one under the name."""
+    found = [codecs.lookup_error(name.partition("_")[0]) for name in _OWN]
+    return tuple(it if _own_way(it, 0) == way else None for way, it in enumerate(found))
+
+
+_noddychest.use_codecs(tuple(functools.partial(_slow, it) for it in CODECS if not it.marked), _own_handlers())
 
 
 def _find(name: str) -> Optional[codecs.CodecInfo]:
@@ -273,3 +320,5 @@ def _find(name: str) -> Optional[codecs.CodecInfo]:
 
 def register() -> None:
     codecs.register(_find)
+    for name, handler in _REPAIRERS.items():
+        codecs.register_error(name, handler)

@@ -7,14 +7,14 @@ import os
 from collections.abc import Iterator
 from typing import NamedTuple, Optional
 
-from . import _noddychest
 from ._inputs import Input, InputError, Place, found_in, line_end, line_start
 from ._names import form_of
 from ._outputs import Output, is_hidden, shown
-from ._pieces import Piece, is_valid, pieces
+from ._pieces import Piece, boundary_before, is_valid, pieces
 from ._recoding import Recoder, recode
 
 _REACH = 4096  # the bytes that are read before and after an invalid one, to show its line
+_ELLIPSIS = "…".encode()
 _CHANGED = "it changed while it was read, and stays as it is"
 
 
@@ -137,23 +137,29 @@ def _show_changes(out: Output, it: Input, errors: str) -> None:
 
 
 def _change(it: Input, offset: int, errors: str) -> bytes:
-    """The line of an invalid byte as it is, and as it would become."""
+    """The line of an invalid byte as it is, and as it would become; of a long line the part around that byte, between characters."""
     front = max(offset - _REACH, 0)
-    data = it.read_at(front, offset - front + _REACH)
-    begin, end, is_cut = _line(form_of(it.encoding), data, offset - front, front > 0)
-    ellipsis, line = "…".encode() if is_cut else b"", data[begin:end]
-    after = recode(line, it.encoding, it.encoding, errors)
-    return b"-%s%s\n+%s%s\n" % (ellipsis, _shown_text(line, it.encoding), ellipsis, _shown_text(after, it.encoding))
+    data, at = it.read_at(front, offset - front + _REACH), offset - front
+    goes_on = len(data) == at + _REACH
+    if goes_on:
+        data = data[: boundary_before(data, len(data) - 4, it.encoding)]
+    begin, end, is_cut = _line(it.encoding, data, at, front > 0)
+    goes_on = goes_on and line_end(form_of(it.encoding), data, at) == len(data)
+    line, texts = data[begin:end], []
+    for text in line, recode(line, it.encoding, it.encoding, errors):
+        texts.append((_ELLIPSIS if is_cut else b"") + _shown_text(text, it.encoding) + (_ELLIPSIS if goes_on else b""))
+    return b"-%s\n+%s\n" % (texts[0], texts[1])
 
 
-def _line(form: int, data: bytes, at: int, is_cut: bool) -> tuple[int, int, bool]:
+def _line(encoding: str, data: bytes, at: int, is_cut: bool) -> tuple[int, int, bool]:
     """Where the line of an offset begins and ends in the bytes around it, without its end; and whether it begins before them."""
+    form = form_of(encoding)
     begin, end = line_start(form, data[:at]), line_end(form, data, at)
     carriage_return = ("\r".encode(), "\r".encode("utf-16-le"), "\r".encode("utf-16-be"))[form]
     while data[:end].endswith(carriage_return) and end > at + len(carriage_return) - 1:
         end -= len(carriage_return)
     is_cut = is_cut and begin == 0
-    return _noddychest.shard_end(form, data, 4) if is_cut else begin, end, is_cut
+    return boundary_before(data, 4, encoding) if is_cut else begin, end, is_cut
 
 
 def _shown_text(data: bytes, encoding: str) -> bytes:

@@ -1,7 +1,6 @@
 """What the program reads: inputs in blocks, and the invalid bytes of a block with their lines and columns."""
 from __future__ import annotations
 
-import array
 import os
 import select
 import stat
@@ -12,7 +11,7 @@ from . import _noddychest
 from ._names import STANDARD, form_of, is_auto
 from ._outputs import wait_for
 from ._pieces import boundary_before
-from ._shards import BLOCK, BOM, Faults, arrays, bom_at
+from ._shards import BLOCK, BOM, Faults, bom_at, located_arrays
 
 _FLAGS = os.O_RDONLY | getattr(os, "O_CLOEXEC", 0) | getattr(os, "O_NOCTTY", 0) | getattr(os, "O_BINARY", 0)
 _AHEAD = 4  # the bytes after a block that tell why its last bytes are invalid
@@ -63,8 +62,9 @@ class Input:
             raise InputError(self.name, "it is the output too")
 
     def rewind(self) -> None:
+        """Goes back to the front. `about` stays: the encoding was found in the file as it was then."""
         os.lseek(self.file, 0, os.SEEK_SET)
-        self.about, self._front, self._has_ended = os.fstat(self.file), b"", False
+        self._front, self._has_ended = b"", False
 
     def read_at(self, offset: int, size: int) -> bytes:
         """The bytes of a file from an offset on: fewer only at its end."""
@@ -142,11 +142,8 @@ def line_end(form: int, data: bytes, at: int) -> int:
 
 def passed(form: int, data: bytes, columns: str = "characters") -> Place:
     """The position after bytes that begin and end between pieces. A column is a piece or a byte."""
-    count, lines = _noddychest.counts(form, data)
-    start = line_start(form, data) if lines else 0
-    if columns == "bytes":
-        return Place(lines, len(data) - start)
-    return Place(lines, _noddychest.char_count(form, data[start:]) if lines else count)
+    line, column, byte_column = _noddychest.position(form, data)
+    return Place(line - 1, (byte_column if columns == "bytes" else column) - 1)
 
 
 class Found(NamedTuple):
@@ -160,11 +157,8 @@ class Found(NamedTuple):
 
 def found_in(encoding: str, data: bytes, end: int, base: int, most: int, columns: str = "characters") -> Found:
     """What is invalid in a block up to `end`; it begins at the offset `base`. Of at most `most` the positions are found, or of all if it is 0."""
-    form = form_of(encoding)
-    found = Found(arrays(form, data, end, base), [], Place())
-    place, counted = Place(), 0
-    offsets: array.array[int] = found.faults.offsets[:most] if most else found.faults.offsets
-    for offset in offsets:
-        place, counted = place.plus(passed(form, data[counted : offset - base], columns)), offset - base
-        found.places.append(place)
-    return found._replace(end=place.plus(passed(form, data[counted:end], columns)))
+    form, at = form_of(encoding), 2 if columns == "bytes" else 1
+    found = located_arrays(form, data, end, base)
+    count = min(most or len(found.kinds), len(found.kinds))
+    places = [Place(line - 1, column - 1) for line, column in zip(found.places[: 3 * count : 3], found.places[at : 3 * count : 3])]
+    return Found(Faults(found.offsets, found.lengths, found.kinds), places, passed(form, data[:end], columns))

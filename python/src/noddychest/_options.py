@@ -45,10 +45,14 @@ def _encoding_made(label: str, command: str) -> str:
     return label
 
 
+# What the words after --errors are in the package.
+_ERRORS = {"replace": "replace", "lossy": "lossy", "drop": "ignore", "windows-1252": "windows-1252", "latin1": "latin-1", "strict": "strict"}
+
+
 def _errors(word: str, command: str) -> str:
-    if word not in ("replace", "lossy", *(["strict"] if command == "recode" else [])):
+    if command == "fix" and word == "strict":
         raise ValueError
-    return word
+    return _ERRORS[word]
 
 
 def _unit(word: str, command: str) -> str:
@@ -100,7 +104,7 @@ _OPTIONS = (
             "ENCODING", _encoding, "utf8"),
     _Option(("--to",), ("recode",), "the encoding of the output; utf-8 by default", "ENCODING", _encoding_made, "utf8"),
     _Option(("--errors",), ("recode", "fix"), "what becomes of invalid bytes. replace: one U+FFFD for each (default); lossy: one for each maximal subpart, as browsers do; "
-            "strict (recode): stop at the first", "HOW", _errors, "replace"),
+            "drop: nothing; windows-1252, latin1: each invalid byte of UTF-8 is taken for that; strict (recode): stop at the first", "HOW", _errors, "replace"),
     _Option(("-l", "--names"), ("check",), "write only the names of invalid files"),
     _Option(("-0", "--null"), ("check",), "end each name with a NUL instead of a line feed"),
     _Option(("-a", "--text"), ("check",), "take a binary file for text"),

@@ -10,12 +10,12 @@ from typing import TYPE_CHECKING, Any, Optional, Protocol, TypeVar, Union, overl
 
 from . import _noddychest
 from ._names import STANDARD, form_of, form_or_auto
-from ._pieces import ERRORS, Piece
+from ._pieces import ERRORS, Located, Piece
 
 if TYPE_CHECKING:
     from _typeshed import ReadableBuffer
 
-_PIECES, _FAULTS, _LAST = 1, 2, 3  # what a part is asked for, by the numbers of the extension
+_PIECES, _FAULTS, _LAST, _LOCATED = 1, 2, 3, 4  # what a part is asked for, by the numbers of the extension
 _READ_AT_ONCE = 1 << 16  # the bytes that an asynchronous source is asked for
 _Made = TypeVar("_Made")
 
@@ -208,14 +208,14 @@ def _arrivals(parts: Any) -> Callable[[], Awaitable[ReadableBuffer]]:
     return next_block
 
 
-class _AsyncStream(AsyncIterator[Piece]):
+class _AsyncStream(AsyncIterator[Any]):
     """A Stream whose parts are awaited."""
 
-    def __init__(self, make: Callable[[Any], Iterator[Piece]], parts: AsyncParts) -> None:
+    def __init__(self, make: Callable[[Any], Iterator[Any]], parts: AsyncParts) -> None:
         self._arrived = _Arrived()
         self._pieces, self._next_part, self._is_waiting = make(self._arrived), _arrivals(parts), False
 
-    async def __anext__(self) -> Piece:
+    async def __anext__(self) -> Any:
         if self._is_waiting:
             raise RuntimeError("this iterator is in use by another task: give each task its own")
         while True:
@@ -237,8 +237,8 @@ class _AsyncStream(AsyncIterator[Piece]):
 def _stream(asked: int, parts: Any, encoding: str) -> Any:
     form = form_or_auto(encoding)
 
-    def made(each: Any) -> Iterator[Piece]:
-        return _noddychest.Stream(form, each, asked, Piece, ERRORS)
+    def made(each: Any) -> Iterator[Any]:
+        return _noddychest.Stream(form, each, asked, Located if asked == _LOCATED else Piece, ERRORS)
 
     if hasattr(parts, "__aiter__") and not hasattr(parts, "__iter__"):
         return _AsyncStream(made, parts)
@@ -281,4 +281,19 @@ def stream_faults(parts: Union[Parts, AsyncParts], encoding: str = "utf8") -> Un
     [(2, 'NON_UTF8_BYTE')]
     """
     it: Union[Iterator[Piece], AsyncIterator[Piece]] = _stream(_FAULTS, parts, encoding)
+    return it
+
+
+@overload
+def stream_located(parts: Parts, encoding: str = "utf8") -> Iterator[Located]: ...
+@overload
+def stream_located(parts: AsyncParts, encoding: str = "utf8") -> AsyncIterator[Located]: ...
+def stream_located(parts: Union[Parts, AsyncParts], encoding: str = "utf8") -> Union[Iterator[Located], AsyncIterator[Located]]:
+    """The invalid bytes of input in parts, each with its line and its columns; otherwise as `stream_faults`. Lines and columns count from
+    the front of all input, and do not depend on how it is divided into parts.
+
+    >>> [(it.offset, it.line, it.column) for it in stream_located([b"a\\nb\\xc3", b"\\xa9\\xff"])]
+    [(5, 2, 3)]
+    """
+    it: Union[Iterator[Located], AsyncIterator[Located]] = _stream(_LOCATED, parts, encoding)
     return it

@@ -209,7 +209,41 @@ def faults(data: Union[ReadableBuffer, Shard], encoding: str = "utf8") -> Iterat
     """
     if isinstance(data, tuple):
         return shard_of(data).faults()
-    return _noddychest.Faults(form_of(encoding), data, Piece, ERRORS)
+    return _noddychest.Faults(form_of(encoding), data, Piece, ERRORS, False)
+
+
+class Located(NamedTuple):
+    """An invalid byte with its position; in UTF-16 a lone surrogate, or a single byte at the end. Each number but the offset counts from 1.
+
+    A line ends after its line feed, and after nothing else. A column is a character or an invalid byte; to an editor that counts bytes
+    give `byte_column`.
+
+    >>> Located(5, 2, 3, 4, 1, FaultKind.NON_UTF8_BYTE).line
+    2
+    """
+
+    offset: int
+    """Where it begins, in bytes."""
+    line: int
+    """The number of its line."""
+    column: int
+    """Its column, in characters and invalid bytes."""
+    byte_column: int
+    """Its column in bytes."""
+    length: int
+    """How many bytes it has: 1, or 2 for a lone surrogate of UTF-16."""
+    error: FaultKind
+    """The reason why the byte is invalid."""
+
+
+def located(data: ReadableBuffer, encoding: str = "utf8") -> Iterator[Located]:
+    """The invalid bytes that `faults(data)` gives, each with its line and its columns. Lines are counted as fast as memory is read, and
+    columns only in the lines that have invalid bytes. A part of a text, as a Shard, does not know its lines, and is a TypeError.
+
+    >>> [(it.line, it.column, it.byte_column, it.error.name) for it in located("né\\n\\u20ac".encode() + b"\\xff")]
+    [(2, 2, 4, 'NON_UTF8_BYTE')]
+    """
+    return _noddychest.Faults(form_of(encoding), data, Located, ERRORS, True)
 
 
 class Ends(_noddychest.Ends):

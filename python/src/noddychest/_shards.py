@@ -8,16 +8,18 @@ import importlib
 import os
 import re
 import stat
-from collections.abc import Callable, Iterator
+from collections.abc import Callable, Iterable, Iterator
 from typing import TYPE_CHECKING, Any, NamedTuple, Optional, Protocol, Union
 
 from . import _noddychest
 from ._names import STANDARD, form_of, form_or_auto, is_auto
-from ._pieces import FaultKind, Piece, encoding_of_bom, fault_error
+from ._pieces import FaultKind, Located, Piece, encoding_of_bom, fault_error
 from ._pieces import faults as _faults
 
 if TYPE_CHECKING:
     from _typeshed import ReadableBuffer
+
+    from ._repair import Errors
 
     Path = Union[str, bytes, os.PathLike[str], os.PathLike[bytes]]
     Source = Union[Path, ReadableBuffer]
@@ -83,9 +85,59 @@ def faults_array(data: Union[ReadableBuffer, Shard], encoding: str = "utf8") -> 
 def arrays(form: int, data: ReadableBuffer, end: int, base: int) -> Faults:
     """The invalid bytes that begin before `end`, with offsets from `base` on."""
     found = no_faults()
-    for made, its in zip(found, _noddychest.fault_arrays(form, data, end, base)):
+    for made, its in zip(found, _noddychest.fault_arrays(form, data, end, base, False)):
         made.frombytes(its)
     return found
+
+
+class LocatedFaults(NamedTuple):
+    """Invalid bytes with their positions, as arrays: what `parallel.check(.., positions=True)` returns."""
+
+    offsets: array.array[int]
+    """Where each begins, in bytes: 64-bit numbers that go up."""
+    lengths: array.array[int]
+    """How many bytes each has."""
+    kinds: array.array[int]
+    """The number of the FaultKind of each."""
+    places: array.array[int]
+    """The line, the column and the byte column of each, one after another: three 64-bit numbers, each from 1 on. `places[::3]` are the lines."""
+
+    def located(self) -> Iterator[Located]:
+        """All of them, one by one, as `noddychest.located` gives them."""
+        for at, (offset, length, kind) in enumerate(zip(self.offsets, self.lengths, self.kinds)):
+            line, column, byte_column = self.places[3 * at : 3 * at + 3]
+            yield Located(offset, line, column, byte_column, length, FaultKind(kind))
+
+    def extend(self, more: LocatedFaults) -> None:
+        """Adds the invalid bytes that follow these."""
+        for mine, others in zip(self, more):
+            mine.extend(others)
+
+
+def located_arrays(form: int, data: ReadableBuffer, end: int, base: int) -> LocatedFaults:
+    """The invalid bytes that begin before `end`, with offsets from `base` on, and positions counted from the front of the data."""
+    found = LocatedFaults(*no_faults(), array.array("Q"))
+    for made, its in zip(found, _noddychest.fault_arrays(form, data, end, base, True)):
+        made.frombytes(its)
+    return found
+
+
+class Counted(NamedTuple):
+    """The invalid bytes of a part, with positions counted from its front, and the position of its end."""
+
+    faults: LocatedFaults
+    end: tuple[int, int, int]
+
+
+def counted_on(parts: Iterable[Counted]) -> Counted:
+    """Parts one after another, as one."""
+    whole, (line, column, byte_column) = LocatedFaults(*no_faults(), array.array("Q")), (1, 1, 1)
+    for part in parts:
+        _noddychest.shift(part.faults.places, line, column, byte_column)
+        whole.extend(part.faults)
+        more, *ends = part.end
+        line, column, byte_column = line + more - 1, *(ends if more > 1 else (column + ends[0] - 1, byte_column + ends[1] - 1))
+    return Counted(whole, (line, column, byte_column))
 
 
 class Counts(NamedTuple):
@@ -119,7 +171,7 @@ class Recoded(NamedTuple):
     written: int
     """How many bytes came of them."""
     replaced: int
-    """How many faults became U+FFFD. With `lossy` they are not counted, and it is 0."""
+    """How many invalid bytes were replaced, or left out. With `lossy` they are not counted, and it is 0."""
 
 
 # ---- sources ----
@@ -173,9 +225,15 @@ class _File:
     def __init__(self, path: str) -> None:
         self._path = path
         self._file = os.open(path, os.O_RDONLY | os.O_CLOEXEC | os.O_NONBLOCK)  # (a pipe is not waited for)
-        if not stat.S_ISREG(os.fstat(self._file).st_mode):
+        try:
+            about = os.fstat(self._file)
+            if not stat.S_ISREG(about.st_mode):
+                raise OSError(errno.ESPIPE, "shards are of files that can be read at any place, and this is none", path)
+            if about.st_size == 0 and os.pread(self._file, 1, 0):  # (as a file in /proc)
+                raise OSError(errno.ESPIPE, "its length is not known, so it has no shards", path)
+        except BaseException:
             os.close(self._file)
-            raise OSError(errno.ESPIPE, "shards are of files that can be read at any place, and this is none", path)
+            raise
 
     def stamp(self) -> tuple[int, str]:
         about = os.fstat(self._file)
@@ -291,11 +349,18 @@ class Shard(NamedTuple):
             found.extend(arrays(form, data, cut, offset))
         return found
 
+    def located_array(self) -> Counted:
+        """The invalid bytes as arrays, with positions counted from the front of the shard: 34 bytes for each. And the position of its end."""
+        form = form_of(self.encoding)
+        return counted_on(
+            Counted(located_arrays(form, data, cut, offset), _noddychest.position(form, memoryview(data)[:cut])) for offset, data, cut in self.blocks()
+        )
+
     def first_fault(self) -> Optional[Piece]:
         """The first invalid byte, or None."""
         return next(self.faults(), None)
 
-    def recode_into(self, write: Callable[[bytes], object], to: str, errors: str = "replace", size: int = BLOCK) -> Recoded:
+    def recode_into(self, write: Callable[[bytes], object], to: str, errors: Errors = "replace", size: int = BLOCK) -> Recoded:
         """Transcodes the shard, and calls `write` with the parts of the output, in order. Memory: some times `size`.
 
         Errors: with `strict` a FaultError, with the offset of the first invalid byte of this shard in the whole source."""
@@ -321,7 +386,7 @@ class Shard(NamedTuple):
                 raise fault_error(STANDARD[form_of(self.encoding)], bytes(data), it.offset - offset, it.length, kind, it.offset) from None
         self._check((-1, ""))
 
-    def recode(self, to: str, errors: str = "replace") -> bytes:
+    def recode(self, to: str, errors: Errors = "replace") -> bytes:
         """What comes of the shard in another encoding."""
         parts: list[bytes] = []
         self.recode_into(parts.append, to, errors)
@@ -374,7 +439,8 @@ def shards(source: Source, size: int, encoding: str = "utf8") -> list[Shard]:
     encoding: the encoding of the source, or `auto`: that of the byte order mark, or UTF-8 if there is none.
     Result: the shards in order; together they are the whole source. An empty source has none. A shard ends at most three bytes before a
     multiple of `size`, where no character lies over it, and no row of invalid bytes that `lossy` makes one U+FFFD.
-    Errors: ValueError for a size below 1, and for `bytes` that can be no path; OSError if the source is no regular file or cannot be read, ImportError for a URL without fsspec.
+    Errors: ValueError for a size below 1, and for `bytes` that can be no path; OSError if the source is no regular file, has a length that the system
+    does not know, as a file in /proc, or cannot be read; ImportError for a URL without fsspec.
     Cost: it reads seven bytes for each shard.
 
     >>> text = memoryview("aé€".encode())

@@ -23,16 +23,19 @@ import re
 import secrets
 import stat
 from collections.abc import Callable, Iterator, Sequence
-from typing import TYPE_CHECKING, Any, NamedTuple, Optional, TypeVar, Union
+from typing import TYPE_CHECKING, Any, Literal, NamedTuple, Optional, TypeVar, Union, overload
 
 from ._names import form_of, form_or_auto
 from ._pieces import FaultError
-from ._recoding import check_names
-from ._shards import ChangedError, Counts, Faults, Recoded, Shard, no_faults, opened, path_of, place_of, shards, shards_to_recode
+from ._recoding import checked
+from ._shards import (
+    ChangedError, Counts, Faults, LocatedFaults, Recoded, Shard, counted_on, no_faults, opened, path_of, place_of, shards, shards_to_recode,
+)
 from ._version import __version__
-from .parallel import Bar, look_again, recoded_size, sync_folder, write_at
+from .parallel import Bar, label_of, look_again, recoded_size, sync_folder, write_at
 
 if TYPE_CHECKING:
+    from ._repair import Errors, Table
     from ._shards import Path
     from .parallel import Progress
 
@@ -157,7 +160,7 @@ def _writing() -> Iterator[None]:
         raise _OutputError(error.errno, error.strerror, error.filename) from None
 
 
-def _write(shard: Shard, to: str, errors: str, path: str, place: int) -> Recoded:
+def _write(shard: Shard, to: str, errors: Union[str, Table], path: str, place: int) -> Recoded:
     """Transcodes a shard to its place in a file, and to the disk."""
     with _writing():
         file = os.open(path, os.O_WRONLY | os.O_CLOEXEC)
@@ -321,7 +324,7 @@ def _end_parts(folder: str, run: _Run, sizes: dict[str, int]) -> None:
             raise ChangedError(f"{os.path.join(folder, name)} was changed by others")
 
 
-def _write_part(shard: Shard, to: str, errors: str, folder: str, part: str, run: _Run, name: str, resume: bool) -> Recoded:
+def _write_part(shard: Shard, to: str, errors: Union[str, Table], folder: str, part: str, run: _Run, name: str, resume: bool) -> Recoded:
     """Transcodes a shard into a file of its own, which is there whole or not at all."""
     target = os.path.join(folder, part)
     if resume and _stands(target, recoded_size(shard, to, errors)):
@@ -486,8 +489,14 @@ def _all_or_failure(answers: Sequence[Union[_Answer, OSError]]) -> Union[list[_A
     return good
 
 
-def check(client: Any, source: Sources, encoding: str = "utf8", progress: Progress = True, *, size: int = SIZE,
-          retries: int = 3) -> dict[str, Union[Faults, OSError]]:
+@overload
+def check(client: Any, source: Sources, encoding: str = "utf8", progress: Progress = True, *, size: int = SIZE, retries: int = 3,
+          positions: Literal[False] = False) -> dict[str, Union[Faults, OSError]]: ...
+@overload
+def check(client: Any, source: Sources, encoding: str = "utf8", progress: Progress = True, *, size: int = SIZE, retries: int = 3,
+          positions: Literal[True]) -> dict[str, Union[LocatedFaults, OSError]]: ...
+def check(client: Any, source: Sources, encoding: str = "utf8", progress: Progress = True, *, size: int = SIZE, retries: int = 3,
+          positions: bool = False) -> dict[str, Any]:
     """All invalid bytes of large texts, by the workers of a distributed.Client.
 
     client: the client. source: a path that all workers can read, or a URL that fsspec opens; a folder, with all files in it; or a list of
@@ -495,12 +504,16 @@ def check(client: Any, source: Sources, encoding: str = "utf8", progress: Progre
     that of each file. progress: as for noddychest.parallel.check. size: about how many
     bytes a task reads. retries: how often a task is tried again that fails, as where a file cannot be read; one whose worker is lost is
     given to another in any case.
-    Result: for each file its faults as arrays; they cross the network as bytes, 10 for each. What of a folder cannot be read has its OSError
+    positions: whether each fault also has its line, its column and its byte column.
+    Result: for each file its faults as arrays; they cross the network as bytes, 10 for each, or 34 with positions. What of a folder cannot be read has its OSError
     in place of them: a named pipe, a link that leads nowhere or to another folder, a file or a folder that may not be opened, a file that is
     changed meanwhile. The other files are read.
     Errors: those of noddychest.parallel.check, of a file that is no folder's; KilledWorker, if workers are lost again and again. Cost: that
     of validation, divided by the workers, and some milliseconds for each shard.
     """
+    if positions:
+        them = _over_all(client, Shard.located_array, source, encoding, progress, size, retries)
+        return {name: it if isinstance(it, OSError) else counted_on(it).faults for name, it in them.items()}
     found: dict[str, Union[Faults, OSError]] = {}
     for name, answers in _over_all(client, Shard.faults_array, source, encoding, progress, size, retries).items():
         if isinstance(answers, OSError):
@@ -527,11 +540,12 @@ def count(client: Any, source: Sources, encoding: str = "utf8", progress: Progre
     return found
 
 
-def recode(client: Any, source: Sources, out: Path, from_: str, to: str, progress: Progress = True, *, errors: str = "replace",
+def recode(client: Any, source: Sources, out: Path, from_: str, to: str, progress: Progress = True, *, errors: Errors = "replace",
            parts: bool = False, resume: bool = False, size: int = SIZE, retries: int = 3) -> RecodedFiles:
     """Transcodes large texts, by the workers of a distributed.Client.
 
-    client, source, progress, size, retries: as for `check`. from_, to, errors: as for noddychest.parallel.recode.
+    client, source, progress, size, retries: as for `check`. from_, to, errors: as for noddychest.parallel.recode; a table is read here, and
+    workers get what it has.
     out: a path that all workers can write. For one file it is a file: first the lengths are found, and then each shard is written to its
     place. For a folder or a list it is a folder, with a file of the same name for each. With `parts` it is a folder for one file: each
     shard becomes a file `part-00000`, and so on, which joined in order are the text; then the source is read once, and not twice. Other
@@ -546,7 +560,7 @@ def recode(client: Any, source: Sources, out: Path, from_: str, to: str, progres
     OSError if the disk is full, before anything is written (not with `parts`). ChangedError if another run writes other parts into the folder.
     Cost: a worker has some blocks of 1 MB for each task.
     """
-    check_names(from_, to, errors)
+    errors = checked(from_, to, errors)
     target = _whole(path_of(out))
     plan = _plan(client, source, size, from_, retries, shards_to_recode)
     job = _Job(client, from_, to, errors, progress, resume, retries)
@@ -581,7 +595,7 @@ class _Job(NamedTuple):
     client: Any
     from_: str
     to: str
-    errors: str
+    errors: Union[str, Table]
     progress: Progress
     resume: bool
     retries: int
@@ -590,7 +604,7 @@ class _Job(NamedTuple):
         return _each(self.client, function, rows, self.retries)
 
     def run_of(self, file: _File, size: int = 0) -> _Run:
-        return _Run(file.input.source, file.stamp, form_or_auto(self.from_), form_of(self.to), self.errors, size, __version__)
+        return _Run(file.input.source, file.stamp, form_or_auto(self.from_), form_of(self.to), label_of(self.errors), size, __version__)
 
     # ---- one file, as parts ----
 

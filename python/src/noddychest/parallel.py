@@ -23,15 +23,16 @@ import threading
 import time
 from collections.abc import Callable, Iterable, Iterator
 from concurrent.futures import ThreadPoolExecutor
-from typing import TYPE_CHECKING, NamedTuple, Optional, TypeVar, Union
+from typing import TYPE_CHECKING, Literal, NamedTuple, Optional, TypeVar, Union, overload
 
 from ._names import form_of, form_or_auto
 from ._pieces import boundary_before
-from ._recoding import check_names
-from ._shards import BLOCK, ChangedError, Counts, Faults, Recoded, Shard, no_faults, opened, path_of, place_of, shards, shards_to_recode
+from ._recoding import checked
+from ._shards import BLOCK, ChangedError, Counts, Faults, LocatedFaults, Recoded, Shard, counted_on, no_faults, opened, path_of, place_of, shards, shards_to_recode
 from ._version import __version__
 
 if TYPE_CHECKING:
+    from ._repair import Errors, Table
     from ._shards import Path, Source
 
     Progress = Union[bool, Callable[[int, int], object]]
@@ -113,21 +114,30 @@ def each(function: Callable[[Shard], _Answer], them: list[Shard], jobs: Optional
         pool.shutdown(cancel_futures=True)
 
 
-def check(source: Source, encoding: str = "utf8", jobs: Optional[int] = None, progress: Progress = True) -> Faults:
+@overload
+def check(source: Source, encoding: str = "utf8", jobs: Optional[int] = None, progress: Progress = True, *, positions: Literal[False] = False) -> Faults: ...
+@overload
+def check(source: Source, encoding: str = "utf8", jobs: Optional[int] = None, progress: Progress = True, *, positions: Literal[True]) -> LocatedFaults: ...
+def check(source: Source, encoding: str = "utf8", jobs: Optional[int] = None, progress: Progress = True, *,
+          positions: bool = False) -> Union[Faults, LocatedFaults]:
     """All invalid bytes of a large text, in several threads.
 
     source: a path, as for open(): a `str`, `bytes` or a PathLike; a URL, a `str` with `://`, that fsspec opens; or text in memory, any other
     bytes-like object: of a `bytes` its memoryview. encoding: that of the source, or `auto`: that of its byte order mark, or UTF-8 if there is
     none; the mark counts as a character. jobs: how many threads; by default one for each CPU.
     progress: whether to show a line on standard error, if that is a terminal, after a second; or a function that is called with the number
-    of bytes that are done, and of all.
-    Result: the offsets, the lengths and the kinds, as arrays: those of `faults_array` of the whole.
+    of bytes that are done, and of all. positions: whether each also has its line, its column and its byte column.
+    Result: the offsets, the lengths and the kinds, as arrays: those of `faults_array` of the whole; and with positions those of `located`.
     Errors: LookupError, ValueError, OSError; ChangedError, an OSError, if the source was changed meanwhile. Cost: that of validation; a
-    job has 1 MB and the faults of it, and the result takes 10 bytes for each fault.
+    job has 1 MB and the faults of it, and the result takes 10 bytes for each fault, or 34 with positions.
 
     >>> check(memoryview(b"ab\\xff")).offsets.tolist()
     [2]
+    >>> check(memoryview(b"a\\nb\\xff"), positions=True).places.tolist()
+    [2, 2, 2]
     """
+    if positions:
+        return counted_on(each(Shard.located_array, shards(source, _size(source), encoding), jobs, progress)).faults
     found = no_faults()
     for it in each(Shard.faults_array, shards(source, _size(source), encoding), jobs, progress):
         found.extend(it)
@@ -221,14 +231,14 @@ class _Line:
         return self._place
 
 
-def recoded(shard: Shard, to: str, errors: str) -> tuple[list[bytes], int]:
+def recoded(shard: Shard, to: str, errors: Union[str, Table]) -> tuple[list[bytes], int]:
     """What comes of a shard, and how many invalid bytes were replaced."""
     parts: list[bytes] = []
     made = shard.recode_into(parts.append, to, errors, shard.end - shard.start)
     return parts, made.replaced
 
 
-def recoded_size(shard: Shard, to: str, errors: str) -> int:
+def recoded_size(shard: Shard, to: str, errors: Union[str, Table]) -> int:
     """How many bytes come of a shard."""
     return shard.recoded_len(to) if errors == "replace" else shard.recode_into(lambda part: None, to, errors).written
 
@@ -241,7 +251,7 @@ def write_at(file: int, parts: Iterable[bytes], place: int) -> None:
             view, place = view[done:], place + done
 
 
-def _work(line: _Line, them: list[Shard], file: int, to: str, errors: str) -> None:
+def _work(line: _Line, them: list[Shard], file: int, to: str, errors: Union[str, Table]) -> None:
     try:
         while (it := line.next()) is not None:
             try:
@@ -258,7 +268,7 @@ def _work(line: _Line, them: list[Shard], file: int, to: str, errors: str) -> No
         os.close(file)
 
 
-def _run(line: _Line, jobs: int, them: list[Shard], file: int, to: str, errors: str) -> None:
+def _run(line: _Line, jobs: int, them: list[Shard], file: int, to: str, errors: Union[str, Table]) -> None:
     threads = []
     try:
         for _ in range(min(jobs, len(them))):
@@ -269,11 +279,12 @@ def _run(line: _Line, jobs: int, them: list[Shard], file: int, to: str, errors: 
     except BaseException as error:  # (as KeyboardInterrupt)
         line.fail(-1, error)
         for it in threads:
-            it.join()
+            with contextlib.suppress(RuntimeError):  # (it came before the last one had started, which finds nothing to do then)
+                it.join()
 
 
 def recode(source: Source, out: Path, from_: str, to: str, jobs: Optional[int] = None, progress: Progress = True,
-           *, errors: str = "replace", resume: bool = False) -> Recoded:
+           *, errors: Errors = "replace", resume: bool = False) -> Recoded:
     """Transcodes a large text into a file, in several threads. The file has the bytes of `recode` of the whole.
 
     source, jobs, progress: as for `check`. out: the file, which may be the source itself. from_, to, errors: as for `noddychest.recode`. from_
@@ -288,7 +299,7 @@ def recode(source: Source, out: Path, from_: str, to: str, jobs: Optional[int] =
     Errors: as for `check`. With `strict` FaultError, with the offset of the first invalid byte of all. OSError if the disk is full.
     BlockingIOError if another run with `resume` writes the same. Cost: each job has 1 MB, and the output of three times as many.
     """
-    check_names(from_, to, errors)  # (before anything is written)
+    errors = checked(from_, to, errors)  # (before anything is written)
     jobs = _some_jobs(jobs)
     them = shards_to_recode(source, _size(source), from_)
     if resume and not isinstance(source, (str, bytes, os.PathLike)):
@@ -321,9 +332,14 @@ def look_again(source: Union[str, memoryview], stamp: Optional[tuple[int, str]])
             raise ChangedError(f"{source if isinstance(source, str) else 'the buffer'} was changed after it was read")
 
 
-def _run_name(them: list[Shard], from_: str, to: str, errors: str) -> str:
+def label_of(errors: Union[str, Table]) -> str:
+    """What distinguishes a way with errors from others."""
+    return errors if isinstance(errors, str) else f"table {hashlib.sha256(errors.numbers).hexdigest()[:16]}"
+
+
+def _run_name(them: list[Shard], from_: str, to: str, errors: Union[str, Table]) -> str:
     """What distinguishes a run from others: the source as it is, the arguments, and the version of the package."""
-    words = [(os.path.abspath(str(it.source)), *it.stamp, form_or_auto(from_), form_of(to), errors, SIZE, __version__) for it in them[-1:]]
+    words = [(os.path.abspath(str(it.source)), *it.stamp, form_or_auto(from_), form_of(to), label_of(errors), SIZE, __version__) for it in them[-1:]]
     return hashlib.sha256(repr(words).encode("utf-8", "surrogatepass")).hexdigest()[:16]
 
 
@@ -384,16 +400,17 @@ def _lock(file: int, path: str) -> None:
 
 
 def sync_folder(path: str) -> None:
-    folder = os.open(path, os.O_RDONLY | os.O_DIRECTORY)
-    try:
-        os.fsync(folder)
-    except OSError:  # (not all file systems can)
-        pass
-    finally:
-        os.close(folder)
+    """Brings a new name to the disk, if that is possible: not all file systems can, and a folder that may be written may not be readable. It is
+    no failure, since the file has its name already."""
+    with contextlib.suppress(OSError):
+        folder = os.open(path, os.O_RDONLY | os.O_DIRECTORY)
+        try:
+            os.fsync(folder)
+        finally:
+            os.close(folder)
 
 
-def _standing(file: int, them: list[Shard], to: str, errors: str, jobs: int) -> tuple[int, int]:
+def _standing(file: int, them: list[Shard], to: str, errors: Union[str, Table], jobs: int) -> tuple[int, int]:
     """How many shards are written in the file of a run that was interrupted, and the length of their output. Those in the window before its
     end may not be written yet."""
     size, ends = os.fstat(file).st_size, [0]

@@ -1,7 +1,7 @@
 //! Shards of a few bytes, by more threads than there are CPUs: the results are those of one thread.
 
-use super::{at_once, check_by, recode_by, Line};
-use crate::{faults, io, recode, Encoding};
+use super::{at_once, check_by, recode_by, repairing, Line};
+use crate::{faults, io, recode, recode_repaired, Encoding, Repair};
 use std::num::NonZeroUsize;
 use std::panic::{catch_unwind, AssertUnwindSafe};
 
@@ -31,7 +31,12 @@ fn hold(bytes: &[u8], jobs: usize, size: usize) {
     let jobs = NonZeroUsize::new(jobs);
     for &from in Encoding::ALL {
         for &to in Encoding::ALL {
-            assert_eq!(recode_by(from, to, bytes, jobs, size), recode(from, to, bytes), "{from} {to} {size} {bytes:x?}");
+            let made = recode_by(from, to, bytes, jobs, size, |shard, out| out.extend(recode(from, to, shard)));
+            assert_eq!(made, recode(from, to, bytes), "{from} {to} {size} {bytes:x?}");
+            for repair in [Repair::DROP, Repair::WINDOWS_1252] {
+                let made = recode_by(from, to, bytes, jobs, size, repairing(from, to, repair));
+                assert_eq!(made, recode_repaired(from, to, bytes, repair), "{from} {to} {repair:?} {size} {bytes:x?}");
+            }
         }
         let found = check_by(from, bytes, jobs, size).into_iter().map(|it| (it.range(), it.kind()));
         if from == Encoding::Utf8 {

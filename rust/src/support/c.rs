@@ -88,6 +88,9 @@ macro_rules! by_c {
     (@ $call:tt $takes:tt $before:tt $gets:tt $after:tt $name:ident: &mut NodyFault, $($rest:tt)*) => {
         $crate::support::c::by_c!(@written $call $takes $before $gets $after ($name NodyFault NodyFault { len: 0, back: 0, kind: 11 }) $($rest)*);
     };
+    (@ $call:tt $takes:tt $before:tt $gets:tt $after:tt $name:ident: &mut Survey, $($rest:tt)*) => {
+        $crate::support::c::by_c!(@written $call $takes $before $gets $after ($name Survey survey_of(&[])) $($rest)*);
+    };
     (@written $call:tt ($($takes:tt)*) ($($before:tt)*) ($($gets:tt)*) ($($after:tt)*) ($name:ident $kind:ident $($none:tt)*) $($rest:tt)*) => {
         $crate::support::c::by_c!(@ $call ($($takes)* $name: *mut $kind,) ($($before)* let mut written = $($none)*;) ($($gets)* &mut written,)
             // SAFETY: `c/noddychest.h` asks C for a pointer, not NULL, to room for one such value, apart from what else the call writes.

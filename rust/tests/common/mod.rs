@@ -1,6 +1,8 @@
 //! Inputs: damaged text, by a generator that gives the same on each run; and what std and the table of errors say of them.
 #![allow(dead_code)]
 
+pub mod repairs;
+
 use noddychest::{Encoding, FaultKind};
 
 /// Steps of splitmix64.

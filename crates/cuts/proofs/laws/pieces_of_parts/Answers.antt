@@ -1,4 +1,4 @@
-use Rattle.text_parts.proofs.LocatedLists.{located_are_merged, no_piece_earlier, parts_are_located}
+use Rattle.text_stream.proofs.LocatedLists.{located_are_merged, no_piece_earlier, parts_are_located}
 use Rattle.cuts.proofs.laws.pieces_of_parts.Goals as goal
 
 pub returns-clause-merged : goal.returns-clause-merged

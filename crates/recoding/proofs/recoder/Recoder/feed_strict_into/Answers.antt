@@ -1,10 +1,12 @@
+use Rattle.std.proofs.Common.{ap}
+use Rattle.recoding.specs.Recoded.{Recoding}
 use Rattle.recoding.proofs.StrictFaults.{tells_first}
 use Rattle.recoding.proofs.StrictSteps.{FeedsStrictly-run, all_is_read, comes_nearer, room_is_enough, room_is_short}
 use Rattle.recoding.proofs.recoder.Recoder.feed_strict_into.Goals as goal
 
 pub returns-clause-feeds : goal.returns-clause-feeds
 returns-clause-feeds c =
-    let run = rw (c.forms-from.ensures.from, c.forms-from.ensures.to, c.held.ensures.bytes) at c.recode_to_fault-run.ensures in
+    let run = rw (c.forms-from.ensures.from, c.forms-from.ensures.to, ap (λ (x : Recoding). x.held) c.self.view_is) at c.recode_to_fault-run.ensures in
     FeedsStrictly-run run.puts run.stops.longer c.end_run-read.ensures
 
 pub returns-clause-read : goal.returns-clause-read

@@ -1,4 +1,5 @@
-use Rattle.std.proofs.Common.{rules, ◌≡◌, [], take, arith, refl, ap, sym, ◌∙◌}
+use Rattle.std.proofs.Common.{rules, ◌≡◌, [], length, arith, refl, ap}
+use Rattle.std.proofs.lemmas.List.{drop_all}
 use Rattle.recoding.specs.Faults.{AddsUp}
 use Rattle.recoding.specs.Rooms.{FinishesInto}
 use Rattle.recoding.proofs.Taking.{Finishes-of, counted_last, finished_into, replaces_last}
@@ -8,23 +9,21 @@ use Rattle.recoding.proofs.recoder.Recoder.finish_into.Goals as goal
 
 -- if nothing is carried over
 
-pub returns-then-self-eq0-clause-done : goal.returns-then-self-eq0-clause-done
-returns-then-self-eq0-clause-done c =
+pub returns-then-len-eq0-clause-done : goal.returns-then-len-eq0-clause-done
+returns-then-len-eq0-clause-done c =
     let r = c.args.self.now in
-    let zero : c.self.inside.count ≡ 0 = omega arith in
-    let none : r.held ≡ [] = sym (ap (λ x. x.held) c.self.view_is) ∙ ap (λ n. take n c.self.inside.held) zero in
+    let none : r.held ≡ [] = drop_all 0 r.held (omega (arith, ap (λ x. length x.held) c.self.view_is)) in
     let same : FinishesInto r c.args.room.now c.args.room.now 0 r
     = record { leaves = λ rest whole. whole; from = refl; to = refl; few = omega arith; fits = omega arith } in
     rw c.progress.ensures (λ _. Finishes-of r r c.args.room.now c.args.room.now 0 same none)
 
-pub returns-then-self-eq0-clause-outcome_done : goal.returns-then-self-eq0-clause-outcome_done
-returns-then-self-eq0-clause-outcome_done c whole out = outcome_finished c.args.self.now out _ (returns-then-self-eq0-clause-done c whole out)
+pub returns-then-len-eq0-clause-outcome_done : goal.returns-then-len-eq0-clause-outcome_done
+returns-then-len-eq0-clause-outcome_done c whole out = outcome_finished c.args.self.now out _ (returns-then-len-eq0-clause-done c whole out)
 
-pub returns-then-self-eq0-clause-counted : goal.returns-then-self-eq0-clause-counted
-returns-then-self-eq0-clause-counted c whole =
+pub returns-then-len-eq0-clause-counted : goal.returns-then-len-eq0-clause-counted
+returns-then-len-eq0-clause-counted c whole =
     let r = c.args.self.now in
-    let zero : c.self.inside.count ≡ 0 = omega arith in
-    let none : r.held ≡ [] = sym (ap (λ x. x.held) c.self.view_is) ∙ ap (λ n. take n c.self.inside.held) zero in
+    let none : r.held ≡ [] = drop_all 0 r.held (omega (arith, ap (λ x. length x.held) c.self.view_is)) in
     let total : AddsUp r 0 r = search rules in
     counts_last r r 0 (omega arith) total none
 
@@ -49,7 +48,7 @@ pub returns-clause-outcome_done : goal.returns-clause-outcome_done
 returns-clause-outcome_done c whole out = outcome_finished c.args.self.now out _ (returns-clause-done c whole out)
 
 pub returns-clause-replaces : goal.returns-clause-replaces
-returns-clause-replaces c = replaces_last c.take_last_into-done.ensures.takes c.count_faults.ensures
+returns-clause-replaces c = replaces_last tt c.take_last_into-done.ensures.takes c.count_faults.ensures
 
 pub returns-clause-total : goal.returns-clause-total
 returns-clause-total c = counted_last c.take_last_into-done.ensures.takes c.count_faults.ensures

@@ -2,8 +2,10 @@ use Rattle.std.proofs.Common.{◌+◌, ◌-◌, length}
 use Rattle.recoding.specs.Replacing.{Takes}
 use Rattle.recoding.proofs.recoder.Recoder.take_held.Given as goal
 
-abbrev pub invariant-loop-way : goal.invariant-loop-way
-invariant-loop-way g l = Takes g.O.Output.appends l.way l.fn.self l.part l.fn.out l.out l.read l.replaced l.self
+abbrev pub invariant-loop-from : goal.invariant-loop-from
+invariant-loop-from g l =
+    let s = l.self-inside in
+    Takes g.O.Output.appends l.way l.fn.self l.part l.fn.out l.out l.read l.replaced (record { from = s.from; to = s.to; held = s.held; replaced = s.replaced })
 
-abbrev pub decreases-loop-way : goal.decreases-loop-way
-decreases-loop-way g l = length l.self.held + (length l.part - l.read)
+abbrev pub decreases-loop-from : goal.decreases-loop-from
+decreases-loop-from g l = length l.self-inside.held + (length l.part - l.read)

@@ -1,4 +1,4 @@
-use Rattle.std.proofs.Common.{length, arith, ap, sym, length-drop, length-take}
+use Rattle.std.proofs.Common.{length, arith, ap, sym, length-drop}
 use Rattle.std.proofs.lemmas.List.{take_rest}
 use Rattle.recoding.proofs.RoomRuns.{FillsPlace-more}
 use Rattle.recoding.proofs.Taking.{IsFullBy-then, Takes-then}
@@ -8,7 +8,6 @@ pub overflow_add-result-2 : goal.overflow_add-result-2
 overflow_add-result-2 c =
     let first = c.take_held_into-written.ensures.takes in
     let then = c.take_alone-then.ensures.takes in
-    let held = c.self.inside.held in
     omega (
       arith,
       first.fewer,
@@ -16,8 +15,6 @@ overflow_add-result-2 c =
       then.fewer,
       then.within,
       ap (λ x. length x.held) c.self.view_is,
-      length-take c.self.inside.count held,
-      c.self.invariant,
       ap length (take_rest c.args.part.now c.take_held_into-written.result.0.read),
       length-drop c.take_held_into-written.result.0.read c.args.part.now,
     )

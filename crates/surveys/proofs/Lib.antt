@@ -1,0 +1,11 @@
+pub mod FrontLens
+pub mod AsciiWindows
+pub mod CharWindows
+pub mod WindowSums
+pub mod ClassCounts
+pub mod Counting
+pub mod FedWindows
+pub mod FedUnits
+pub mod Fronts
+pub mod Surveying
+pub mod Marks

@@ -1,0 +1,9 @@
+pub mod SurveyWindows
+pub mod SurveyCounts
+pub mod SurveyParts
+pub mod SurveyUnits
+pub mod SurveyEnds
+pub mod Surveys
+pub mod Guesses
+pub mod GuessLists
+pub mod SurveyorStates

@@ -1,0 +1,105 @@
+//! A survey of an input, also of one that comes in parts.
+ghost use Rattle.std.specs.Prelude.{◌≤◌, length};
+
+use crate::ends::{control_count, first_four, head_len, nul_count, tail_len};
+use crate::few_bytes::FewBytes;
+use crate::unit_counts::{UnitCounts, UnitParts};
+use crate::utf8_counts::{Utf8Counts, sum, whole};
+use crate::utf8_parts::Utf8Parts;
+use utf_lanes::byte_order::{BigEndian, LittleEndian};
+
+/// What was counted in an input. Counts are modulo 2^64.
+#[repr(C)]
+#[derive(Clone, Copy, Debug, PartialEq, Eq, Drop)]
+pub struct Survey {
+    /// The length of the input in bytes.
+    pub len: u64,
+    /// Bytes that are 00.
+    pub nul: u64,
+    /// Controls that do not occur in text: 01 to 06, 0E to 1A, and 1C to 1F.
+    pub control: u64,
+    /// Counts of the bytes as UTF-8.
+    pub utf8: Utf8Counts,
+    /// Counts of the bytes as units, low byte first.
+    pub utf16le: UnitCounts,
+    /// Counts of the bytes as units, high byte first.
+    pub utf16be: UnitCounts,
+    /// The first four bytes, with zeros for those that are missing.
+    pub front: [u8; 4],
+    /// Continuation bytes before any other byte, at most three.
+    pub head: u8,
+    /// Bytes at the end, at most three, that begin a character whose other bytes are missing.
+    pub tail: u8,
+}
+
+/// Surveys an input that comes in parts, which may be cut anywhere. It does not allocate.
+#[derive(Debug, Drop)]
+pub struct Surveyor {
+    pub(crate) len: u64,
+    pub(crate) front: FewBytes,
+    pub(crate) nul: u64,
+    pub(crate) control: u64,
+    pub(crate) utf8: Utf8Parts,
+    pub(crate) utf16le: UnitParts,
+    pub(crate) utf16be: UnitParts,
+    ghost short: { length front ≤ 4 },
+    ghost some: { 3 ≤ length utf8.held },
+    ghost few: { length utf8.held ≤ 16 },
+}
+
+impl Surveyor {
+    ghost use Rattle.std.specs.Prelude.{◌≡◌, ℕ, List, []};
+    ghost use Rattle.surveys.specs.Surveys.{Surveys, foreseen, surveyed};
+
+    /// A surveyor of an input of which nothing was fed.
+    pub fn new() -> Surveyor
+        ensures { (later : List ℕ) → foreseen result later ≡ surveyed later }
+    {
+        Surveyor {
+            len: 0,
+            front: FewBytes::new(),
+            nul: 0,
+            control: 0,
+            utf8: Utf8Parts::new(),
+            utf16le: UnitParts::new(),
+            utf16be: UnitParts::new(),
+        }
+    }
+
+    /// Takes the next part of the input.
+    ///
+    /// Cost: O(n).
+    pub fn feed(&mut self, part: &[u8])
+        ensures { Surveys self.old part.now self.new }
+    {
+        self.len = sum(self.len, part.len() as u64);
+        let front = FewBytes::joined(self.front.bytes(), &part[..part.len().min(4)]);
+        self.front = FewBytes::first(front.bytes());
+        self.nul = sum(self.nul, nul_count(part) as u64);
+        self.control = sum(self.control, control_count(part) as u64);
+        self.utf8.feed(part);
+        self.utf16le.feed::<LittleEndian>(part);
+        self.utf16be.feed::<BigEndian>(part);
+    }
+
+    /// The survey of what was fed so far. More may be fed afterwards.
+    ///
+    /// Cost: constant.
+    pub fn survey(&self) -> Survey
+        ensures { result ≡ foreseen self.now [] }
+    {
+        let front = first_four(self.front.bytes());
+        let held = self.utf8.held.bytes();
+        Survey {
+            len: whole(self.len),
+            nul: whole(self.nul),
+            control: whole(self.control),
+            utf8: self.utf8.counts(),
+            utf16le: self.utf16le.counts(),
+            utf16be: self.utf16be.counts(),
+            front,
+            head: head_len(&front) as u8,
+            tail: tail_len(&held[held.len() - 3..]) as u8,
+        }
+    }
+}

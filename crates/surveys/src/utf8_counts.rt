@@ -1,0 +1,176 @@
+//! What is counted in bytes that may be UTF-8.
+ghost use Rattle.std.specs.Prelude.{ℕ, ◌≡◌, ◌+◌, ◌<◌, ◌≤◌, drop, length, slice_index};
+ghost use Rattle.utf_lanes.specs.AsciiTexts.{AreAscii};
+ghost use Rattle.surveys.specs.SurveyCounts.{counted, nothing, number, plus, seen, wrapped};
+ghost use Rattle.surveys.specs.SurveyWindows.{front_len};
+
+use crate::windows::{
+    WINDOW, follows_two, front_len, is_char, is_fault, is_in_word, is_surrogate, is_undefined,
+    twice_len,
+};
+use utf_lanes::ascii_texts::ascii_wide_end;
+
+/// Counts of bytes as UTF-8, modulo 2^64.
+#[repr(C)]
+#[derive(Clone, Copy, Debug, PartialEq, Eq, Drop)]
+pub struct Utf8Counts {
+    /// Characters of several bytes, those from U+0080 on.
+    pub chars: u64,
+    /// Bytes that no character covers.
+    pub faults: u64,
+    /// Such bytes, other than A0, after two bytes above 7F.
+    pub third: u64,
+    /// Such bytes between two ASCII letters, where Windows-1252 rarely has them.
+    pub signs: u64,
+    /// Such bytes for which Windows-1252 has no character.
+    pub undefined: u64,
+    /// Surrogates that are written as characters of three bytes.
+    pub surrogates: u64,
+    /// Sequences that were encoded twice.
+    pub twice: u64,
+    /// The characters of these sequences.
+    pub twice_chars: u64,
+}
+
+impl Utf8Counts {
+    /// Counts of nothing.
+    pub(crate) fn new() -> Utf8Counts
+        ensures { result ≡ nothing }
+    {
+        Utf8Counts {
+            chars: 0,
+            faults: 0,
+            third: 0,
+            signs: 0,
+            undefined: 0,
+            surrogates: 0,
+            twice: 0,
+            twice_chars: 0,
+        }
+    }
+
+    /// Adds other counts.
+    #[inline(always)]
+    pub(crate) fn add(&mut self, more: Utf8Counts)
+        ensures { self.new ≡ plus self.old more }
+    {
+        self.chars = sum(self.chars, more.chars);
+        self.faults = sum(self.faults, more.faults);
+        self.third = sum(self.third, more.third);
+        self.signs = sum(self.signs, more.signs);
+        self.undefined = sum(self.undefined, more.undefined);
+        self.surrogates = sum(self.surrogates, more.surrogates);
+        self.twice = sum(self.twice, more.twice);
+        self.twice_chars = sum(self.twice_chars, more.twice_chars);
+    }
+}
+
+/// The counts of all windows in the bytes.
+pub(crate) fn count(bytes: &[u8]) -> Utf8Counts
+    ensures { result ≡ counted nothing bytes.now }
+{
+    let mut counts = Utf8Counts::new();
+    let mut place = 0;
+    while WINDOW <= bytes.len() - place {
+        if bytes[place + 3] < 0x80 {
+            place = ascii_end(bytes, place);
+        } else {
+            let window = &bytes[place..place + WINDOW];
+            let len = front_len(&window[3..]);
+            if 1 < len && len + (WINDOW - 1) <= bytes.len() - place {
+                counts.add(char_seen(window));
+                place += len;
+            } else {
+                counts.add(seen(window));
+                place += 1;
+            }
+        }
+    }
+    counts
+}
+
+/// The sum of two counts.
+#[inline(always)]
+#[tactic(auto, unfolding(crate::specs::SurveyCounts::wrapped))]
+pub(crate) fn sum(a: u64, b: u64) -> u64
+    ensures { result ≡ wrapped (a + b) }
+{
+    a.wrapping_add(b)
+}
+
+/// The count, which 64 bits hold.
+#[inline(always)]
+#[tactic(auto, unfolding(crate::specs::SurveyCounts::wrapped))]
+pub(crate) fn whole(count: u64) -> u64
+    ensures { result ≡ wrapped count }
+{
+    count
+}
+
+// 1 if the test passed, otherwise 0.
+#[inline(always)]
+fn number(test: bool) -> u64
+    ensures { result ≡ number test }
+{
+    if test { 1 } else { 0 }
+}
+
+// What a window adds to the counts.
+#[inline(always)]
+fn seen(window: &[u8]) -> Utf8Counts
+    requires { length window.now ≡ 17 }
+    ensures { result ≡ seen window.now }
+{
+    let fault = is_fault(window);
+    let chars = twice_len(window);
+    Utf8Counts {
+        chars: number(is_char(window)),
+        faults: number(fault),
+        third: number(fault && follows_two(window)),
+        signs: number(fault && is_in_word(window)),
+        undefined: number(fault && is_undefined(window)),
+        surrogates: number(is_surrogate(window)),
+        twice: number(0 < chars),
+        twice_chars: chars as u64,
+    }
+}
+
+// What a window at which a character of several bytes begins adds to the counts.
+#[inline(always)]
+#[tactic(auto, using(crate::proofs::CharWindows::seen_char))]
+fn char_seen(window: &[u8]) -> Utf8Counts
+    requires window { length window.now ≡ 17 }
+    requires char { 1 < front_len (drop 3 window.now) }
+    ensures { result ≡ seen window.now }
+{
+    let sequence = twice_len(window);
+    Utf8Counts {
+        chars: 1,
+        faults: 0,
+        third: 0,
+        signs: 0,
+        undefined: 0,
+        surrogates: number(is_surrogate(window)),
+        twice: number(0 < sequence),
+        twice_chars: sequence as u64,
+    }
+}
+
+// A place after the given one, up to which the fourth byte of each window is ASCII.
+#[inline(always)]
+fn ascii_end(bytes: &[u8], place: usize) -> usize
+    requires within { place + 17 ≤ length bytes.now }
+    requires ascii { slice_index bytes.now (place + 3) < 0x80 }
+    ensures more { place < result }
+    ensures within { result + 16 ≤ length bytes.now }
+    ensures ascii { AreAscii bytes.now (place + 3) (result + 3) }
+{
+    if place % 64 != 0 {
+        return place + 1;
+    }
+    let end = ascii_wide_end(bytes, place + 3);
+    if end < place + 4 {
+        return place + 1;
+    }
+    (end - 3).min(bytes.len() - (WINDOW - 1))
+}

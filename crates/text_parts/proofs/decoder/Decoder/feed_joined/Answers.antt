@@ -1,8 +1,0 @@
-use Rattle.std.proofs.Common.{arith, refl}
-use Rattle.std.proofs.lemmas.List.{nil_from_length}
-use Rattle.text_parts.proofs.FedPieces.{FeedsKept-rest}
-use Rattle.text_parts.proofs.decoder.Decoder.feed_joined.Goals as goal
-
-pub returns-clause-feeds : goal.returns-clause-feeds
-returns-clause-feeds g c =
-    FeedsKept-rest g.K.Kept.keeps_each c.feed_held-first.ensures.feeds (nil_from_length c.feed_held-first.new.self.held (omega arith)) refl refl c.feed_rest.ensures.feeds

@@ -1,9 +1,0 @@
-use Rattle.std.proofs.Common.{rules}
-use Rattle.uses.specs.Needles.{StandsAt}
-use Rattle.uses.proofs.NeedleLemmas.{own_pieces}
-use Rattle.uses.proofs.needles.find_ascii.Goals as goal
-
-pub returns-then-eq-clause-pieces : goal.returns-then-eq-clause-pieces
-returns-then-eq-clause-pieces c =
-    let there : StandsAt c.args.bytes.now c.args.needle.now c.loop-place.place = search rules in
-    own_pieces c.ascii_stands_alone.ensures _ _ _ c.requires there

@@ -1,6 +1,0 @@
-use Rattle.std.specs.Prelude.{map}
-use Rattle.uses.proofs.TokenLemmas.{IsTokenizedSoFar}
-use Rattle.uses.proofs.tokens.tokens.Given as goal
-
-abbrev pub invariant-loop-place : goal.invariant-loop-place
-invariant-loop-place g l = IsTokenizedSoFar l.bytes l.delimiter (map (λ token. token.now) l.tokens.items) l.start l.place-iterator

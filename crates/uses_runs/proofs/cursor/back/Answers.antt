@@ -1,7 +1,0 @@
-use Rattle.std.proofs.Common.{arith}
-use Rattle.encode_unicode.specs.Code.{utf8}
-use Rattle.encode_unicode.proofs.ForCallers.{outside_end}
-use Rattle.uses_runs.proofs.cursor.back.Goals as goal
-
-pub returns-clause-between : goal.returns-clause-between
-returns-clause-between c = record { within = omega arith; outside = outside_end utf8 _ }

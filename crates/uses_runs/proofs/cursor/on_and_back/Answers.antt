@@ -1,5 +1,0 @@
-use Rattle.uses_runs.proofs.CursorLemmas.{same_begin}
-use Rattle.uses_runs.proofs.cursor.on_and_back.Goals as goal
-
-pub returns : goal.returns
-returns c = same_begin c.one_piece_ends.ensures.utf8 _ _ _ _ c.step_back.ensures.step c.step_on.ensures.step

@@ -1,0 +1,70 @@
+//! What replaces invalid bytes in damaged text.
+ghost use Rattle.std.specs.Prelude.{◌≡◌};
+ghost use Rattle.utf_lanes.specs.Mending.{IsCodeShown};
+
+/// What replaces invalid bytes.
+pub trait Mending: Copy + Drop {
+    ghost use Rattle.std.specs.Prelude.{ℕ, Bool, Option};
+
+    ghost subparts: { Bool };
+
+    // The character that replaces an invalid byte, or a maximal subpart that begins with it, if one does.
+    ghost shown: { Self → ℕ → Option ℕ };
+
+    /// Whether each maximal subpart is replaced, and not each invalid byte.
+    fn is_by_subparts() -> bool
+        ensures { result ≡ subparts };
+
+    /// The code of the character that replaces an invalid byte, and its length: at most three bytes, or 0 if none does.
+    fn code(self, byte: u8) -> ([u8; 3], usize)
+        ensures { IsCodeShown (shown self byte) result.0 result.1 };
+}
+
+// The code of U+FFFD.
+const REPLACEMENT: [u8; 3] = [0xef, 0xbf, 0xbd];
+
+/// U+FFFD replaces each invalid byte.
+#[derive(Clone, Copy, Drop)]
+pub struct Each;
+
+/// U+FFFD replaces each maximal subpart.
+#[derive(Clone, Copy, Drop)]
+pub struct Subparts;
+
+impl Mending for Each {
+    ghost use Rattle.std.specs.Prelude.{false, Some};
+
+    ghost subparts = { false };
+
+    ghost shown = { λ by byte. Some 0xFFFD };
+
+    #[inline(always)]
+    fn is_by_subparts() -> bool {
+        false
+    }
+
+    #[inline(always)]
+    #[tactic(auto, using(crate::proofs::MendedTexts::replacement_code))]
+    fn code(self, _byte: u8) -> ([u8; 3], usize) {
+        (REPLACEMENT, 3)
+    }
+}
+
+impl Mending for Subparts {
+    ghost use Rattle.std.specs.Prelude.{true, Some};
+
+    ghost subparts = { true };
+
+    ghost shown = { λ by byte. Some 0xFFFD };
+
+    #[inline(always)]
+    fn is_by_subparts() -> bool {
+        true
+    }
+
+    #[inline(always)]
+    #[tactic(auto, using(crate::proofs::MendedTexts::replacement_code))]
+    fn code(self, _byte: u8) -> ([u8; 3], usize) {
+        (REPLACEMENT, 3)
+    }
+}
