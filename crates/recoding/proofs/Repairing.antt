@@ -1,5 +1,5 @@
 -- The output for bytes if a table has what a fault becomes: there is one list, and each step gives its front.
-use Rattle.std.proofs.Common.{◌≡◌, ℕ, suc, ◌+◌, ◌-◌, ◌*◌, ◌%◌, ◌<◌, ◌≤◌, Bool, true, false, Some, None, Option, List, [], ◌∷◌, ◌++◌, length, get_or, take, drop, map, flat_map, arith, refl, ap, ap₂, sym, ◌∙◌, subst, append_assoc, length-take, if◌then◌else◌, lit<}
+use Rattle.std.proofs.Common.{◌≡◌, ℕ, suc, ◌+◌, ◌-◌, ◌%◌, ◌<◌, ◌≤◌, Bool, true, false, Some, None, Option, List, [], ◌∷◌, ◌++◌, length, get_or, drop, map, flat_map, arith, refl, ap, ap₂, sym, ◌∙◌, subst, append_assoc, if◌then◌else◌, lit<}
 use Rattle.std.specs.Prelude.{All, slice_get}
 use Rattle.std.proofs.lemmas.Bool.Decides.{nat_tests}
 use Rattle.std.proofs.lemmas.List.{append-nil, drop-append-le, get_or-drop}
@@ -16,8 +16,7 @@ use Rattle.utf_base.proofs.Standing.{stands_first}
 use Rattle.utf_base.proofs.Utf8Code.{utf8_is_code}
 use Rattle.utf_base.proofs.Utf16Code.{utf16_is_code}
 use Rattle.utf_lanes.specs.BytePairs.{bytes_of, unit_of, units_of}
-use Rattle.utf_lanes.specs.Mending.{IsCodeShown, all_shown, scalars_of, shown_as}
-use Rattle.utf_lanes.proofs.MendedTexts.{few_elements}
+use Rattle.utf_lanes.specs.Mending.{all_shown, scalars_of, shown_as}
 use Rattle.recoding.specs.declared.form.Form.{Form}
 use Rattle.recoding.specs.declared.form.Form.TheVariants.{Utf8}
 use Rattle.recoding.specs.TextForms.{text_form, utf16_form}
@@ -29,7 +28,6 @@ use Rattle.recoding.specs.Repaired.{IsRepaired, ReadsBy, repaired, shown_by_tabl
 use Rattle.recoding.proofs.CopiedUnits.{joined_bytes}
 use Rattle.recoding.proofs.Forms.{by_form, is_units}
 use Rattle.recoding.proofs.FrontBytes.{few_units, first_unit, replacement, units_two}
-use Rattle.recoding.proofs.Growing.{length_written}
 use Rattle.recoding.proofs.HeldFronts.{leading_by_itself, no_code_in_front, two_do_not_lack}
 use Rattle.recoding.proofs.SubpartLengths.{some_where_no_code}
 use Rattle.recoding.proofs.TextLaws.{units_of_bytes}
@@ -57,13 +55,6 @@ char_short table byte s e = entry_short (slice_get table (byte % 0x80)) s e
 pub unit_short : (table : List ℕ) (s : ℕ) → unit_for table ≡ Some s → IsShort s
 unit_short [] s e = absurd cc
 unit_short (n ∷ table) s e = let same : 0xFFFD ≡ s = cc in subst IsShort same (record { scalar = replacement; short = omega arith })
-
--- the code of a character up to U+FFFF, of the first three of its bytes
-pub short_code : (s : ℕ) (code : List ℕ) (k : ℕ) → s < 0x1_0000 → k ≡ length (utf8 s) → take k code ≡ utf8 s → IsCodeShown (Some s) (get_or code 0 0 ∷ get_or code 1 0 ∷ get_or code 2 0 ∷ []) k
-short_code s code k short len front =
-    let few : length (utf8 s) ≤ 3 * 1 = length_written Utf8 s 1 (omega arith) (λ high. absurd (omega arith)) in
-    let within : k ≤ length code = omega (arith, ap length front, length-take k code) in
-    record { few = omega arith; within = omega arith; code = few_elements code k (omega arith) within ∙ front ∙ sym (append-nil (utf8 s)) }
 
 -- The scalars of the pieces of a list.
 

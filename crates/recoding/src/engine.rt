@@ -27,7 +27,7 @@ pub(crate) const AFTER_FAULT: usize = 8;
 const STRETCH: usize = 128;
 
 // A fault is near the last one if blocks have fewer bytes between them.
-const NEAR: usize = 256;
+const NEAR: usize = 512;
 
 // The progress of a run.
 #[derive(Clone, Copy, Drop)]
@@ -59,7 +59,8 @@ pub(crate) fn run<S: Text, T: Text, K: Kernel<S, T>, O: BlockOutput>(
 {
     let mut read = 0;
     let mut replaced = 0;
-    let mut is_near = false;
+    // The number of the last faults that are near one another.
+    let mut near: usize = 0;
     'parts: loop {
         let blocks = K::put_text(is_ample, &bytes[read..], out);
         read += blocks;
@@ -69,7 +70,10 @@ pub(crate) fn run<S: Text, T: Text, K: Kernel<S, T>, O: BlockOutput>(
         if read == bytes.len() {
             return ended(read, replaced, false, true);
         }
-        let is_damaged = is_near && blocks < NEAR;
+        if NEAR <= blocks {
+            near = 0;
+        }
+        let is_damaged = K::CROWD <= near;
         let damaged = put_near::<S, T, K, O>(way, is_damaged, is_ample, &bytes[read..], out);
         read += damaged.read;
         replaced += damaged.replaced;
@@ -86,7 +90,7 @@ pub(crate) fn run<S: Text, T: Text, K: Kernel<S, T>, O: BlockOutput>(
             let few = recode_carefully::<S, T, O>(way, is_ample, &bytes[read..], out);
             read += few.read;
             replaced += few.replaced;
-            is_near = K::CROWD <= few.replaced;
+            near = near.saturating_add(few.replaced);
             if few.is_full || few.is_waiting {
                 return ended(read, replaced, few.is_full, few.is_waiting);
             }

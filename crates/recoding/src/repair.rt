@@ -142,12 +142,26 @@ fn short_char(number: u32) -> Option<char>
     None
 }
 
-// The code of a character up to U+FFFF, and its length.
+// What the first byte of a code has above the bits of its number, by the length of the code (RFC 3629, section 3).
+const MARKS: [u32; 4] = [0, 0, 0xc0, 0xe0];
+
+// How many bits of a number are not in the first byte of its code, by the length of the code.
+const FIRST_SHIFTS: [u32; 4] = [0, 0, 6, 12];
+
+// How many bits of a number are not in the first two bytes of its code, by the length of the code.
+const SECOND_SHIFTS: [u32; 4] = [0, 0, 0, 6];
+
+// The code of a character up to U+FFFF, and its length: without branches, since the lengths in a table vary.
 #[inline(always)]
+#[tactic(auto, unfolding(utf_base::specs::Code::utf8))]
 fn short_code(c: char) -> ([u8; 3], usize)
     requires { c < 0x1_0000 }
     ensures { IsCodeShown (Some c) result.0 result.1 }
 {
-    let ([a, b, c, _], len) = c.to_utf8_array();
-    ([a, b, c], len)
+    let number = c as u32;
+    let len = 1 + (0x80 <= number) as usize + (0x800 <= number) as usize;
+    let first = MARKS[len] + (number >> FIRST_SHIFTS[len]);
+    let second = 0x80 + (number >> SECOND_SHIFTS[len]) % 64;
+    let third = 0x80 + number % 64;
+    ([first as u8, second as u8, third as u8], len)
 }

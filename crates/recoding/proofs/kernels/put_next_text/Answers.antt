@@ -1,4 +1,4 @@
-use Rattle.std.proofs.Common.{◌≡◌, ◌≤◌, arith}
+use Rattle.std.proofs.Common.{◌≡◌, arith}
 use Rattle.utf_lanes.specs.Utf8ToUtf16.{concat_range}
 use Rattle.recoding.proofs.AsciiToUtf16.{none_at, part_text, part_units}
 use Rattle.recoding.proofs.kernels.put_next_text.Goals as goal
