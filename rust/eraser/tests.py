@@ -14,6 +14,7 @@ TOP = os.path.dirname(os.path.dirname(os.path.dirname(os.path.abspath(__file__))
 sys.dont_write_bytecode = True
 sys.path.insert(0, os.path.dirname(os.path.abspath(__file__)))
 from eraser import Eraser, Project  # noqa: E402
+from inlining import inlined  # noqa: E402
 from shape import Text  # noqa: E402
 from tokens import Stop, tokens  # noqa: E402
 from wide import widened  # noqa: E402
@@ -205,6 +206,11 @@ WIDENED = [
      "use crate::{proved::{utf_base, utf_lanes::wide as utf_lanes}, support::wide as std};\n"
      "use crate::proved::utf_lanes::wide::text_blocks::text_len;\nuse crate::proved::recoding::form::Form;\nuse std::simd::prelude::*;\n"),
 ]
+# With debug assertions nothing has to be inlined.
+INLINED = [
+    ("impl S {\n    /// Is.\n    #[inline(always)]\n    fn f() {}\n}\n", "impl S {\n    /// Is.\n    #[cfg_attr(not(debug_assertions), inline(always))]\n    fn f() {}\n}\n"),
+    ("#[inline(never)]\nfn f() {}\n#[inline]\nfn g() {}\n// #[inline(always)]\n", None),
+]
 # One function of each file is asked which copy runs, and the copy does not ask again.
 ASKS = "pub fn text_len(bytes: &[u8]) -> usize\n{\n    0\n}\n"
 
@@ -233,6 +239,11 @@ def writes(text, wanted, is_trusted=False, name="utf_base/a.rt"):
 
 def widens(text, wanted):
     have = widened(text, "utf_lanes/a.rt")
+    return None if have == (text if wanted is None else wanted) else f"it writes {have!r}"
+
+
+def inlines(text, wanted):
+    have = inlined(text)
     return None if have == (text if wanted is None else wanted) else f"it writes {have!r}"
 
 
@@ -296,6 +307,7 @@ def main():
     tried = [("other files stay", keeps_other_files())]
     tried += [(why, refuses(why, *rest)) for why, *rest in REFUSED]
     tried += [(text, widens(text, wanted)) for text, wanted in WIDENED]
+    tried += [(text, inlines(text, wanted)) for text, wanted in INLINED]
     tried += [("derives that Rust's users expect", adds_derives())]
     tried += [("which copy answers is asked once", asks()), ("a group of files is not copied", copies_no_group())]
     tried += [(text, writes(text, wanted)) for text, wanted in WRITTEN]

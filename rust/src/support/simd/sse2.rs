@@ -3,6 +3,8 @@
 //!
 //! Each `unsafe` here calls an instruction that the CPU has.
 use core::arch::x86_64::*;
+#[cfg(all(feature = "std", not(target_feature = "ssse3")))]
+use core::sync::atomic::{AtomicBool, Ordering::Relaxed};
 
 pub(crate) type Block = __m128i;
 
@@ -31,16 +33,46 @@ pub(crate) fn at(a: Block, places: Block) -> Block {
 #[inline(always)]
 pub(crate) fn at(a: Block, places: Block) -> Block {
     #[cfg(feature = "std")]
+    if HAS_SSSE3.load(Relaxed) {
+        // SAFETY: the CPU was asked for SSSE3, and has it.
+        unsafe { at_by_ssse3(a, places) }
+    } else {
+        at_otherwise(a, places)
+    }
+    #[cfg(not(feature = "std"))]
+    at_one_by_one(a, places)
+}
+
+/// Whether the CPU was asked for SSSE3, and has it.
+#[cfg(all(feature = "std", not(target_feature = "ssse3")))]
+static HAS_SSSE3: AtomicBool = AtomicBool::new(false);
+
+/// Asks the CPU. Outlined: inlined at each call, the question costs compile time and instructions.
+#[cfg(all(feature = "std", not(target_feature = "ssse3")))]
+#[cold]
+#[inline(never)]
+fn at_otherwise(a: Block, places: Block) -> Block {
     if std::arch::is_x86_feature_detected!("ssse3") {
-        let mut out = a;
-        // SAFETY: the CPU was asked for SSSE3, and has this instruction, which writes this register alone. (As a function for SSSE3
-        // it would be called each time, and in no register.)
-        unsafe {
-            core::arch::asm!("pshufb {}, {}", inout(xmm_reg) out, in(xmm_reg) places, options(pure, nomem, nostack, preserves_flags));
-        }
-        return out;
+        HAS_SSSE3.store(true, Relaxed);
+        // SAFETY: the CPU was asked for SSSE3, and has it.
+        return unsafe { at_by_ssse3(a, places) };
     }
     at_one_by_one(a, places)
+}
+
+/// # Safety
+///
+/// The CPU has SSSE3.
+#[cfg(all(feature = "std", not(target_feature = "ssse3")))]
+#[inline(always)]
+unsafe fn at_by_ssse3(a: Block, places: Block) -> Block {
+    let mut out = a;
+    // SAFETY: the CPU has this instruction, which writes this register alone. (As a function for SSSE3 it would be called each
+    // time, and in no register.)
+    unsafe {
+        core::arch::asm!("pshufb {}, {}", inout(xmm_reg) out, in(xmm_reg) places, options(pure, nomem, nostack, preserves_flags));
+    }
+    out
 }
 
 #[cfg(any(test, not(target_feature = "ssse3")))]
