@@ -1,4 +1,6 @@
 """The functions of a file, each with its visibility, its clauses and what it is nested in; found only by the marks."""
+from functools import cache
+
 from tokens import OPEN, Stop, tokens
 
 BEFORE_ITEM = {"{", "}", ";", "]", ")", "pub", "unsafe"}
@@ -9,30 +11,19 @@ class Text:
     """The tokens of a file, and the edit of each: removed, replaced, or with text put before or after it."""
 
     def __init__(self, text, name):
-        self.name, self.t = name, tokens(text, name)
+        self.name, (self.t, self.is_blank, self.pair) = name, bracketed(text, name)
         self.gone = [False] * len(self.t)
-        self.said, self.front, self.back, self.pair = {}, {}, {}, {}
-        opened = []
-        for i, x in enumerate(self.t):
-            if x.kind == "mark" and x.text in OPEN:
-                opened.append(i)
-            elif x.kind == "mark" and x.text in OPEN.values():
-                if not opened or OPEN[self.text(opened[-1])] != x.text:
-                    self.stop(i, "a bracket closes another" if opened else "a bracket closes none")
-                self.pair[i] = opened.pop()
-                self.pair[self.pair[i]] = i
-        if opened:
-            self.stop(opened[-1], "a bracket is not closed")
+        self.said, self.front, self.back = {}, {}, {}
 
     def stop(self, i, why):
-        raise Stop(f"{self.name}:{self.t[min(i, len(self.t) - 1)].line}: {why}")
+        stop(self.name, self.t, i, why)
 
     def is_code(self, i):
-        return not self.gone[i] and self.t[i].kind not in ("space", "comment")
+        return not self.gone[i] and not self.is_blank[i]
 
     def next(self, i):
-        i += 1
-        while i < len(self.t) and not self.is_code(i):
+        gone, is_blank, i = self.gone, self.is_blank, i + 1
+        while i < len(gone) and (gone[i] or is_blank[i]):
             i += 1
         return i
 
@@ -135,6 +126,27 @@ class Text:
                 it = Function(self, i, inside[-1] if inside else None)
                 found.append(it)
         return found
+
+
+def stop(name, all_tokens, i, why):
+    raise Stop(f"{name}:{all_tokens[min(i, len(all_tokens) - 1)].line}: {why}")
+
+
+@cache
+def bracketed(text, name):
+    """The tokens of a file, which of them are no code, and the other bracket of each. Nobody changes them: a file is erased twice."""
+    found, opened, pair = tokens(text, name), [], {}
+    for i, x in enumerate(found):
+        if x.kind == "mark" and x.text in OPEN:
+            opened.append(i)
+        elif x.kind == "mark" and x.text in OPEN.values():
+            if not opened or OPEN[found[opened[-1]].text] != x.text:
+                stop(name, found, i, "a bracket closes another" if opened else "a bracket closes none")
+            pair[i] = opened.pop()
+            pair[pair[i]] = i
+    if opened:
+        stop(name, found, opened[-1], "a bracket is not closed")
+    return found, [it.kind in ("space", "comment") for it in found], pair
 
 
 def visibility(text, i):
