@@ -138,24 +138,36 @@ def programs():
     return table(["program", "beside", "ratio", "no slower"], lines)
 
 
+def printed(name):
+    """The cells of the table that a command printed, without those of its head."""
+    lines = (STORED / name).read_text(encoding="utf-8").splitlines()
+    return [[it.strip() for it in line.strip("|").split("|")] for line in lines if line.startswith("| ")][1:]
+
+
 def checking():
     """What bench/nody took of valid text, and nody and cat of damaged text. (The others stop at the first fault, and file looks only at the front.)"""
     lines = []
-    for line in (STORED / "nody").read_text(encoding="utf-8").splitlines():
-        cells = [it.strip() for it in line.strip("|").split("|")]
-        if not line.startswith("| ") or cells[0] == "input" or cells[1] == "`file`":
-            continue
-        text = cells[0].partition(",")[0]
-        if text != "damaged" or cells[1] == "`cat`" or cells[1].startswith("`nody check") and "quiet" not in cells[1]:
-            lines.append([TEXTS.get(text, text), *cells[1:5]])
+    for text, command, *took in printed("nody"):
+        text = text.partition(",")[0]
+        if command != "`file`" and (text != "damaged" or command == "`cat`" or command.startswith("`nody check") and "quiet" not in command):
+            lines.append([TEXTS.get(text, text), command, *took[:3]])
     return table(["input", "command", "seconds", "of the processor", "GB in a second"], lines)
+
+
+def repairs():
+    """What bench/nody --repair took."""
+    return table(["command", "seconds", "of the processor", "GB in a second"], [took[:4] for _, *took in printed("repair")])
+
+
+def folders():
+    """What bench/folders took, and of how many files."""
+    told = (STORED / "folders").read_text(encoding="utf-8").splitlines()[-1]
+    return f"{told}.\n\n{table(['command', 'seconds', 'of the processor', 'memory, MB', 'output, kB', 'the same names'], printed('folders'))}"
 
 
 def cores():
     """What bench/cores took, by number of threads."""
-    lines = (STORED / "cores").read_text(encoding="utf-8").splitlines()
-    rows = [[it.strip() for it in line.strip("|").split("|")] for line in lines if line.startswith("| `")]
-    return table(["command", "seconds", "of the processor", "GB in a second", "times one thread"], rows)
+    return table(["command", "seconds", "of the processor", "GB in a second", "times one thread"], printed("cores"))
 
 
 # What c/bench/run does, and whose call it is there.
