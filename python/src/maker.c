@@ -41,6 +41,7 @@ void maker_end(Maker *maker) {
         Py_XDECREF(maker->lengths[i]);
     for (int i = 0; i < 2; i++)
         Py_XDECREF(maker->given[i]);
+    Py_XDECREF(maker->line);
     for (int i = 0; i < CHARACTERS && maker->chars != NULL; i++)
         Py_XDECREF(maker->chars[i].string);
     PyMem_Free(maker->chars);
@@ -83,6 +84,11 @@ static PyObject *character(Maker *maker, uint32_t scalar) {
     return Py_NewRef(it->string);
 }
 
+/* A number as an int. PyLong_FromLong makes small ones in the fewest steps. */
+static PyObject *number(uint64_t it) {
+    return it < (1 << 30) ? PyLong_FromLong((long)it) : PyLong_FromUnsignedLongLong(it);
+}
+
 /* Puts the length and the error of a piece at an index of a tuple, which may have them still. The tuple may be taken back later. */
 static PyObject *finished(Maker *maker, PyObject *tuple, int at, nody_piece_t piece) {
     int turn = maker->turn, fresh = tuple != maker->given[turn];
@@ -107,7 +113,7 @@ PyObject *make_piece(Maker *maker, size_t offset, nody_piece_t piece) {
     PyObject **given = &maker->given[turn], *place, *it, *tuple;
     int fresh = *given == NULL || Py_REFCNT(*given) != 1;
     /* (the tuple is made last: the collector may run code of others then, and nothing fails after it) */
-    place = PyLong_FromSize_t(offset);
+    place = number(offset);
     it = place == NULL ? NULL : piece.kind == NODY_KIND_OK ? character(maker, piece.scalar) : Py_NewRef(Py_None);
     tuple = it == NULL ? NULL : fresh ? PyType_GenericAlloc((PyTypeObject *)maker->type, 4) : *given;
     if (tuple == NULL) {
@@ -120,20 +126,40 @@ PyObject *make_piece(Maker *maker, size_t offset, nody_piece_t piece) {
     return finished(maker, tuple, 2, piece);
 }
 
+/* The line of the next fault is put into the maker, unless it is that of the last one. */
+static int has_line(Maker *maker, uint64_t line) {
+    PyObject *made;
+    if (maker->line != NULL && maker->line_number == line)
+        return 1;
+    made = number(line);
+    if (made == NULL)
+        return 0;
+    Py_XDECREF(maker->line);
+    maker->line = made, maker->line_number = line;
+    return 1;
+}
+
 PyObject *make_located(Maker *maker, uint64_t offset, nody_piece_t piece, const nody_position_t *position) {
-    int turn = maker->turn ^= 1;
-    uint64_t values[] = {offset, position->line, position->column, position->byte_column};
-    PyObject *given = maker->given[turn], *numbers[4], *tuple;
-    int fresh = given == NULL || Py_REFCNT(given) != 1, made = 0;
+    int turn = maker->turn ^= 1, has_all = has_line(maker, position->line);
+    PyObject *place, *column, *bytes, *tuple = maker->given[turn];
+    int fresh = tuple == NULL || Py_REFCNT(tuple) != 1;
     /* (the tuple is made last, as above) */
-    while (made < 4 && (numbers[made] = PyLong_FromUnsignedLongLong(values[made])) != NULL)
-        made++;
-    tuple = made < 4 ? NULL : fresh ? PyType_GenericAlloc((PyTypeObject *)maker->type, 6) : given;
-    for (int i = 0; i < made; i++) {
-        if (tuple == NULL)
-            Py_DECREF(numbers[i]);
-        else
-            PyTuple_SetItem(tuple, i, numbers[i]);
+    place = has_all ? number(offset) : NULL;
+    column = place == NULL ? NULL : number(position->column);
+    bytes = column == NULL ? NULL : position->byte_column == position->column ? Py_NewRef(column) : number(position->byte_column);
+    tuple = bytes == NULL ? NULL : fresh ? PyType_GenericAlloc((PyTypeObject *)maker->type, 6) : tuple;
+    if (tuple == NULL) {
+        Py_XDECREF(place);
+        Py_XDECREF(column);
+        Py_XDECREF(bytes);
+        return NULL;
     }
-    return tuple == NULL ? NULL : finished(maker, tuple, 4, piece);
+    PyTuple_SetItem(tuple, 0, place);
+    if (fresh || maker->lines[turn] != position->line) {
+        PyTuple_SetItem(tuple, 1, Py_NewRef(maker->line));
+        maker->lines[turn] = position->line;
+    }
+    PyTuple_SetItem(tuple, 2, column);
+    PyTuple_SetItem(tuple, 3, bytes);
+    return finished(maker, tuple, 4, piece);
 }

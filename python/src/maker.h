@@ -19,7 +19,10 @@ typedef struct {
     PyObject *given[2];
     size_t lens[2];
     nody_kind_t kinds[2];
+    uint64_t lines[2];
     int turn;
+    PyObject *line; /* of the last fault with a position, and its number: many faults are in one line */
+    uint64_t line_number;
     Character *chars; /* those that were made, each at its last eight bits; NULL before the first */
 } Maker;
 

@@ -1,16 +1,23 @@
 """Lines and columns of invalid bytes: those of Python's own decoders, however the input is divided, and whoever asks."""
 import array
 import asyncio
+import copy
 import gc
 import io
+import pickle
 import random
 import sys
 import threading
 import unittest
 
-from noddychest import FaultKind, Located, faults, located, parallel, shards, stream_faults, stream_located
+from noddychest import Decoder, FaultKind, Located, faults, located, parallel, shards, stream_faults, stream_located
 
 import outside
+
+try:
+    import _testcapi
+except ImportError:
+    _testcapi = None
 
 FORMS = {"utf8": ("utf-8", "surrogateescape"), "utf16le": ("utf-16-le", "surrogatepass"), "utf16be": ("utf-16-be", "surrogatepass")}
 
@@ -84,6 +91,106 @@ class Positions(unittest.TestCase):
             parts = [data[at : at + size] for at in range(0, len(data), size)]
             self.assertEqual([(it.line, it.column) for it in stream_located(parts, "auto")], [(2, 2)])
         self.assertEqual([(it.line, it.column) for it in stream_located([b"\xfe"], "auto")], [(1, 1)])
+
+
+class Gaps(unittest.TestCase):
+    """Text between two faults, of every length near those at which it is passed in another way."""
+
+    LENGTHS = [*range(140), *range(250, 260), *range(317, 324), *range(508, 516), *range(1020, 1028), 1279, 1280, 1281, 5000]
+
+    def check_all(self, data):
+        wanted = expected(data, "utf8", list(faults(data)))
+        self.assertEqual(list(located(data)), wanted, data)
+        self.assertEqual(list(located(bytearray(data))), wanted, data)
+        for size in (1, 7, 64, 300):
+            parts = [data[at : at + size] for at in range(0, len(data), size)]
+            self.assertEqual([it[:4] for it in stream_located(parts)], [it[:4] for it in wanted], (data, size))
+
+    def test_lengths(self):
+        source = random.Random(97)
+        for chars in ("ab\r\t", "aé", "\u010a\u0a0a\u008a", "我€", "\U0001f600\U0010a00a", "\n", "a\n", "aé我\U0001f600\n\n"):
+            for length in self.LENGTHS:
+                text = "".join(source.choice(chars) for _ in range(length)).encode()
+                data = b"\xff".join([text, text[: len(text) // 2].decode("utf-8", "ignore").encode(), text, b""]) + text[:70]
+                self.check_all(data if length < 140 else data[: len(text) + 9])
+
+    def test_each_place_of_a_line_feed(self):
+        for length in (1, 63, 64, 65, 127, 128, 129, 255, 256, 257, 320, 321, 600):
+            for at in range(length):
+                text = "é" * at + "\n" + "a" * (length - at - 1)
+                self.assertEqual([it[1:4] for it in located(text.encode() + b"\xff")], [(2, length - at, length - at)], (length, at))
+
+    def test_kinds_and_lengths_of_faults(self):
+        """A fault is one column, whatever follows it."""
+        for fault in (b"\xff", b"\x80", b"\xe2\x82", b"\xed\xa0\x80", b"\xf0\x9f\x98", b"\xc3", b"\xf4\x90\x80\x80"):
+            for after in (b"", b"\n", b"a", b"\xc3\xa9\n", fault + b"\n", b"a" * 100 + b"\n" + b"b" * 100):
+                self.check_all((fault + after) * 5)
+        for unit in (b"\x00\xd8", b"\x00\xdc"):
+            data = (unit + b"\n\0a\0" + unit + unit) * 60 + b"\n"
+            self.assertEqual(list(located(data, "utf16le")), expected(data, "utf16le", list(faults(data, "utf16le"))))
+
+    def test_long_lines(self):
+        """Counts of lanes that overflow, and blocks with no line feed, or with nothing else."""
+        for text in ("a" * 300_000, "é" * 100_000, "\n" * 300_000, ("a" * 70_000 + "\n") * 4, "a\n" * 100_000):
+            data = text.encode() + b"\xff" + text.encode() + b"\xff"
+            self.assertEqual(list(located(data)), expected(data, "utf8", list(faults(data))))
+            self.assertEqual(list(stream_located([data])), list(located(data)))
+
+    def test_nothing_after_the_text_is_read(self):
+        """A line feed after the bytes that are given is not theirs."""
+        whole = b"a\xff" + b"\n" * 200
+        for size in range(2, 70):
+            self.assertEqual([it[:4] for it in located(memoryview(whole)[1:size])], [(0, 1, 1, 1)])
+            self.assertEqual(list(located(memoryview(b"a" * size + whole)[: size + 2]))[0][:4], (size + 1, 1, size + 2, size + 2))
+
+
+class Numbers(unittest.TestCase):
+    """Ints that several results share, and tuples that are used again, are never seen to change."""
+
+    def test_some_are_kept(self):
+        data = b"".join(b"a" * (it % 5) + b"\xff" + b"\n" * (it % 3 == 0) + "é".encode() * (it % 2) for it in range(2000))
+        wanted = expected(data, "utf8", list(faults(data)))
+        for every in (1, 2, 3, 5, 64):
+            kept = [it for number, it in enumerate(located(data)) if number % every == 0]
+            self.assertEqual(kept, wanted[::every])
+            kept = [it for number, it in enumerate(stream_located([data])) if number % every == 0]
+            self.assertEqual(kept, wanted[::every])
+        for it, same in zip(located(data), wanted):
+            self.assertEqual((it, tuple(it), hash(it), repr(it)), (same, tuple(same), hash(same), repr(same)))
+
+    def test_copies(self):
+        for it in located("é\n".encode() * 400 + b"a\xff"):
+            for other in (copy.copy(it), copy.deepcopy(it), pickle.loads(pickle.dumps(it)), Located(*it), it._replace()):
+                self.assertEqual((type(other), other), (Located, it))
+            offset, line, column, byte_column, length, error = it
+            self.assertEqual((offset, line, column, byte_column, length, error), (1201, 401, 2, 2, 1, FaultKind.NON_UTF8_BYTE))
+            self.assertEqual([type(number) for number in it[:5]], [int] * 5)
+
+    def test_large_offsets(self):
+        for offset in (0, 255, 2**30 - 2, 2**30 - 1, 2**30, 2**31, 2**62, 2**63, 2**64 - 9):
+            self.assertEqual([it.offset for it in Decoder("utf8", offset).feed(b"a\xffb")], [offset, offset + 1, offset + 2])
+
+    @unittest.skipIf(_testcapi is None, "this Python has no _testcapi")
+    def test_want_of_memory(self):
+        """Each allocation of the second step fails in turn: no fault is lost, and none is counted twice."""
+        data = ("é" * 300 + "\n").encode() * 300 + b"a\xff" + "é".encode() * 300 + b"\xff\n\xe2\x82" + b"a" * 700 + b"\xff"
+        wanted = expected(data, "utf8", list(faults(data)))
+        for make in (lambda: located(data), lambda: stream_located([data])):
+            raised = 0
+            for number in range(9):
+                it = make()
+                found, second = [next(it)], None
+                try:
+                    _testcapi.set_nomemory(number, number + 1)
+                    try:
+                        second = next(it)
+                    finally:
+                        _testcapi.remove_mem_hooks()
+                except MemoryError:
+                    raised += 1
+                found += [second] if second else []
+                self.assertEqual([*found, *it], wanted, number)
+            self.assertGreater(raised, 2)
 
 
 class Misuse(unittest.TestCase):

@@ -10,8 +10,8 @@ import tracemalloc
 import unittest
 
 from noddychest import (Decoder, Ends, FaultKind, Piece, Recoder, Surveyor, boundary_before, changed_range, char_count, encoding_of_bom, faults,
-                        first_fault, guess, is_valid, number_of, offset_of, pieces, recode, recoded_len, stream_faults, stream_pieces,
-                        survey, undecided_len)
+                        first_fault, guess, is_valid, located, number_of, offset_of, pieces, recode, recoded_len, stream_faults, stream_located,
+                        stream_pieces, survey, undecided_len)
 
 FORMS = {"utf8": "utf-8", "utf16le": "utf-16-le", "utf16be": "utf-16-be"}
 SIZE = 1_200_000
@@ -97,6 +97,9 @@ CALLS = {
     "streams": lambda: (list(stream_pieces([b"a\xe2", b"\xff"])), list(stream_faults([bytearray(b"\xff")]))),
     "Ends": lambda: (next(Ends(b"a\xff")), Ends(bytearray(3), "utf16le").next_back()),
     "faults": lambda: (list(faults(b"a\xff\xe2")), list(faults(bytearray(b"\xff")))),
+    "located": lambda: (list(located(b"a" * 300 + b"\xff" + "é".encode() * 300 + b"\n\xe2")), [it.line for it in located(b"\xff\n" * 400)]),
+    "located that is left": lambda: (next(located(b"a" * 300 + b"\xff\xff")), next(stream_located([b"a\n" * 300 + b"\xff\xff"]))),
+    "located in parts": lambda: list(stream_located([b"a\n" * 300, b"\xff" + "é".encode() * 300, bytearray(b"\xff\xff")])),
     "counts": lambda: (char_count(bytearray(9)), first_fault(memoryview(b"\xff")), is_valid(b""), boundary_before(b"abc", 10**30)),
     "numbers": lambda: (offset_of(bytearray(70_000), 69_999), number_of(memoryview(b"a\xff"), 10**30), offset_of(b"a", 10**30), changed_range(bytearray(9), 1, 2)),
     "wrong numbers": failing(lambda: (number_of(bytearray(9), -1))),
