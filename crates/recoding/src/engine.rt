@@ -27,7 +27,7 @@ pub(crate) const AFTER_FAULT: usize = 8;
 const STRETCH: usize = 128;
 
 // A fault is near the last one if blocks have fewer bytes between them.
-const NEAR: usize = 512;
+const NEAR: usize = 256;
 
 // The progress of a run.
 #[derive(Clone, Copy, Drop)]

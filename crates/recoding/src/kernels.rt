@@ -175,7 +175,7 @@ fn next_text_end(bytes: &[u8], place: usize) -> usize
 impl<E: ByteOrder> Kernel<Utf8, Utf16<E>> for Widened {
     const TAKES_ALL: bool = false;
 
-    const CROWD: usize = 2;
+    const CROWD: usize = 3;
 
     #[inline(always)]
     fn put_text<O: BlockOutput>(is_ample: bool, bytes: &[u8], out: &mut O) -> usize {
