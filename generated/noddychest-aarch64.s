@@ -11987,7 +11987,7 @@
 	b.eq	.LBB33_87
 // %bb.59:                              // %join.8.i
                                         //   in Loop: Header=BB33_3 Depth=1
-	cmp	x24, #511
+	cmp	x24, #255
 	b.hi	.LBB33_68
 // %bb.60:                              // %join.8.i
                                         //   in Loop: Header=BB33_3 Depth=1
@@ -18135,9 +18135,9 @@
 	b.eq	.LBB46_111
 // %bb.59:                              // %join.8.i
                                         //   in Loop: Header=BB46_3 Depth=1
-	cmp	x1, #511
+	cmp	x1, #255
 	csel	x24, xzr, x19, hi
-	cmp	x24, #2
+	cmp	x24, #3
 	b.lo	.LBB46_69
 // %bb.60:                              // %then.1.i
                                         //   in Loop: Header=BB46_3 Depth=1
@@ -25700,9 +25700,9 @@
 	b.eq	.LBB61_111
 // %bb.59:                              // %join.8.i
                                         //   in Loop: Header=BB61_3 Depth=1
-	cmp	x1, #511
+	cmp	x1, #255
 	csel	x24, xzr, x19, hi
-	cmp	x24, #2
+	cmp	x24, #3
 	b.lo	.LBB61_69
 // %bb.60:                              // %then.1.i
                                         //   in Loop: Header=BB61_3 Depth=1

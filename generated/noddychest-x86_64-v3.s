@@ -10058,7 +10058,7 @@
 # %bb.70:                               # %join.8.i
                                         #   in Loop: Header=BB22_4 Depth=2
 	xorl	%r15d, %r15d
-	cmpq	$511, %rbx                      # imm = 0x1FF
+	cmpq	$255, %rbx
 	movq	96(%rsp), %rbp                  # 8-byte Reload
 	ja	.LBB22_82
 # %bb.71:                               # %join.8.i
@@ -16227,9 +16227,9 @@
 # %bb.64:                               # %join.8.i
                                         #   in Loop: Header=BB35_3 Depth=1
 	xorl	%ebp, %ebp
-	cmpq	$512, %rsi                      # imm = 0x200
+	cmpq	$256, %rsi                      # imm = 0x100
 	cmovbq	104(%rsp), %rbp                 # 8-byte Folded Reload
-	cmpq	$2, %rbp
+	cmpq	$3, %rbp
 	jb	.LBB35_74
 # %bb.65:                               # %then.1.i
                                         #   in Loop: Header=BB35_3 Depth=1
@@ -23708,9 +23708,9 @@
 # %bb.64:                               # %join.8.i
                                         #   in Loop: Header=BB50_3 Depth=1
 	xorl	%ebp, %ebp
-	cmpq	$512, %rsi                      # imm = 0x200
+	cmpq	$256, %rsi                      # imm = 0x100
 	cmovbq	104(%rsp), %rbp                 # 8-byte Folded Reload
-	cmpq	$2, %rbp
+	cmpq	$3, %rbp
 	jb	.LBB50_74
 # %bb.65:                               # %then.1.i
                                         #   in Loop: Header=BB50_3 Depth=1

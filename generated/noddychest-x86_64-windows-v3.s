@@ -10110,7 +10110,7 @@ recoding_recoder_runs_run_into_e99015a07cf24f6f_162: # @recoding_recoder_runs_ru
 # %bb.70:                               # %join.8.i
                                         #   in Loop: Header=BB22_4 Depth=2
 	xorl	%ebx, %ebx
-	cmpq	$511, %r13                      # imm = 0x1FF
+	cmpq	$255, %r13
 	ja	.LBB22_79
 # %bb.71:                               # %join.8.i
                                         #   in Loop: Header=BB22_4 Depth=2
@@ -16177,9 +16177,9 @@ recoding_recoder_runs_run_into_6c517793db404486_232: # @recoding_recoder_runs_ru
 # %bb.64:                               # %join.8.i
                                         #   in Loop: Header=BB35_3 Depth=1
 	xorl	%r12d, %r12d
-	cmpq	$512, %rdx                      # imm = 0x200
+	cmpq	$256, %rdx                      # imm = 0x100
 	cmovbq	144(%rsp), %r12                 # 8-byte Folded Reload
-	cmpq	$2, %r12
+	cmpq	$3, %r12
 	jb	.LBB35_74
 # %bb.65:                               # %then.1.i
                                         #   in Loop: Header=BB35_3 Depth=1
@@ -23707,9 +23707,9 @@ recoding_recoder_runs_run_into_bf260003b6a4e946_315: # @recoding_recoder_runs_ru
 # %bb.64:                               # %join.8.i
                                         #   in Loop: Header=BB50_3 Depth=1
 	xorl	%r12d, %r12d
-	cmpq	$512, %rdx                      # imm = 0x200
+	cmpq	$256, %rdx                      # imm = 0x100
 	cmovbq	136(%rsp), %r12                 # 8-byte Folded Reload
-	cmpq	$2, %r12
+	cmpq	$3, %r12
 	jb	.LBB50_74
 # %bb.65:                               # %then.1.i
                                         #   in Loop: Header=BB50_3 Depth=1

@@ -13140,7 +13140,7 @@ recoding_recoder_runs_run_into_e99015a07cf24f6f_214: # @recoding_recoder_runs_ru
 # %bb.70:                               # %join.8.i
                                         #   in Loop: Header=BB33_4 Depth=2
 	xorl	%esi, %esi
-	cmpq	$511, %rbp                      # imm = 0x1FF
+	cmpq	$255, %rbp
 	movq	144(%rsp), %r12                 # 8-byte Reload
 	ja	.LBB33_82
 # %bb.71:                               # %join.8.i
@@ -19632,9 +19632,9 @@ recoding_recoder_runs_run_into_6c517793db404486_283: # @recoding_recoder_runs_ru
 # %bb.63:                               # %join.8.i
                                         #   in Loop: Header=BB46_3 Depth=1
 	xorl	%r13d, %r13d
-	cmpq	$512, %rdx                      # imm = 0x200
+	cmpq	$256, %rdx                      # imm = 0x100
 	cmovbq	144(%rsp), %r13                 # 8-byte Folded Reload
-	cmpq	$2, %r13
+	cmpq	$3, %r13
 	jb	.LBB46_76
 # %bb.64:                               # %then.1.i
                                         #   in Loop: Header=BB46_3 Depth=1
@@ -27774,9 +27774,9 @@ recoding_recoder_runs_run_into_bf260003b6a4e946_364: # @recoding_recoder_runs_ru
 # %bb.63:                               # %join.8.i
                                         #   in Loop: Header=BB61_3 Depth=1
 	xorl	%r13d, %r13d
-	cmpq	$512, %rdx                      # imm = 0x200
+	cmpq	$256, %rdx                      # imm = 0x100
 	cmovbq	144(%rsp), %r13                 # 8-byte Folded Reload
-	cmpq	$2, %r13
+	cmpq	$3, %r13
 	jb	.LBB61_76
 # %bb.64:                               # %then.1.i
                                         #   in Loop: Header=BB61_3 Depth=1

@@ -13135,7 +13135,7 @@
 # %bb.70:                               # %join.8.i
                                         #   in Loop: Header=BB33_4 Depth=2
 	xorl	%ebx, %ebx
-	cmpq	$511, %r12                      # imm = 0x1FF
+	cmpq	$255, %r12
 	ja	.LBB33_81
 # %bb.71:                               # %join.8.i
                                         #   in Loop: Header=BB33_4 Depth=2
@@ -19686,9 +19686,9 @@
 # %bb.63:                               # %join.8.i
                                         #   in Loop: Header=BB46_3 Depth=1
 	xorl	%r12d, %r12d
-	cmpq	$512, %rbx                      # imm = 0x200
+	cmpq	$256, %rbx                      # imm = 0x100
 	cmovbq	88(%rsp), %r12                  # 8-byte Folded Reload
-	cmpq	$2, %r12
+	cmpq	$3, %r12
 	jb	.LBB46_76
 # %bb.64:                               # %then.1.i
                                         #   in Loop: Header=BB46_3 Depth=1
@@ -27730,9 +27730,9 @@
 # %bb.63:                               # %join.8.i
                                         #   in Loop: Header=BB61_3 Depth=1
 	xorl	%r12d, %r12d
-	cmpq	$512, %rbx                      # imm = 0x200
+	cmpq	$256, %rbx                      # imm = 0x100
 	cmovbq	88(%rsp), %r12                  # 8-byte Folded Reload
-	cmpq	$2, %r12
+	cmpq	$3, %r12
 	jb	.LBB61_76
 # %bb.64:                               # %then.1.i
                                         #   in Loop: Header=BB61_3 Depth=1

@@ -1982,7 +1982,7 @@
 	b.eq	.LBB12_71
 // %bb.62:                              // %join.8.i
                                         //   in Loop: Header=BB12_1 Depth=1
-	cmp	x24, #511
+	cmp	x24, #255
 	b.hi	.LBB12_66
 // %bb.63:                              // %join.8.i
                                         //   in Loop: Header=BB12_1 Depth=1
@@ -4932,9 +4932,9 @@
 // %bb.51:                              // %join.8.i
                                         //   in Loop: Header=BB17_1 Depth=1
 	ldr	x8, [sp, #8]                    // 8-byte Reload
-	cmp	x19, #511
+	cmp	x19, #255
 	csel	x24, xzr, x8, hi
-	cmp	x24, #2
+	cmp	x24, #3
 	b.lo	.LBB17_55
 // %bb.52:                              // %then.1.i
                                         //   in Loop: Header=BB17_1 Depth=1
@@ -8675,9 +8675,9 @@
 // %bb.51:                              // %join.8.i
                                         //   in Loop: Header=BB25_1 Depth=1
 	ldr	x8, [sp, #8]                    // 8-byte Reload
-	cmp	x19, #511
+	cmp	x19, #255
 	csel	x24, xzr, x8, hi
-	cmp	x24, #2
+	cmp	x24, #3
 	b.lo	.LBB25_55
 // %bb.52:                              // %then.1.i
                                         //   in Loop: Header=BB25_1 Depth=1

@@ -3933,7 +3933,7 @@ recoding_recoder_runs_run_whole_d908eddfe8754f34_45: # @recoding_recoder_runs_ru
 # %bb.75:                               # %join.8.i
                                         #   in Loop: Header=BB13_1 Depth=1
 	xorl	%esi, %esi
-	cmpq	$511, %r12                      # imm = 0x1FF
+	cmpq	$255, %r12
 	movq	56(%rsp), %rbx                  # 8-byte Reload
 	ja	.LBB13_80
 # %bb.76:                               # %join.8.i
@@ -6962,9 +6962,9 @@ recoding_recoder_runs_run_whole_2857ed0d0693875d_39: # @recoding_recoder_runs_ru
 # %bb.58:                               # %join.8.i
                                         #   in Loop: Header=BB18_5 Depth=2
 	xorl	%r13d, %r13d
-	cmpq	$512, %rbp                      # imm = 0x200
+	cmpq	$256, %rbp                      # imm = 0x100
 	cmovbq	128(%rsp), %r13                 # 8-byte Folded Reload
-	cmpq	$2, %r13
+	cmpq	$3, %r13
 	jb	.LBB18_62
 # %bb.59:                               # %then.1.i
                                         #   in Loop: Header=BB18_5 Depth=2
@@ -10903,9 +10903,9 @@ recoding_recoder_runs_run_whole_9c534bed186decad_44: # @recoding_recoder_runs_ru
 # %bb.58:                               # %join.8.i
                                         #   in Loop: Header=BB26_5 Depth=2
 	xorl	%r13d, %r13d
-	cmpq	$512, %rbp                      # imm = 0x200
+	cmpq	$256, %rbp                      # imm = 0x100
 	cmovbq	128(%rsp), %r13                 # 8-byte Folded Reload
-	cmpq	$2, %r13
+	cmpq	$3, %r13
 	jb	.LBB26_62
 # %bb.59:                               # %then.1.i
                                         #   in Loop: Header=BB26_5 Depth=2

@@ -3910,7 +3910,7 @@
 # %bb.74:                               # %join.8.i
                                         #   in Loop: Header=BB13_1 Depth=1
 	xorl	%ebx, %ebx
-	cmpq	$511, %rbp                      # imm = 0x1FF
+	cmpq	$255, %rbp
 	movq	40(%rsp), %r15                  # 8-byte Reload
 	ja	.LBB13_79
 # %bb.75:                               # %join.8.i
@@ -6917,9 +6917,9 @@
 # %bb.62:                               # %join.8.i
                                         #   in Loop: Header=BB18_2 Depth=2
 	xorl	%r15d, %r15d
-	cmpq	$512, %r13                      # imm = 0x200
+	cmpq	$256, %r13                      # imm = 0x100
 	cmovbq	104(%rsp), %r15                 # 8-byte Folded Reload
-	cmpq	$2, %r15
+	cmpq	$3, %r15
 	jb	.LBB18_63
 # %bb.64:                               # %then.1.i
                                         #   in Loop: Header=BB18_2 Depth=2
@@ -10790,9 +10790,9 @@
 # %bb.62:                               # %join.8.i
                                         #   in Loop: Header=BB26_2 Depth=2
 	xorl	%r15d, %r15d
-	cmpq	$512, %r13                      # imm = 0x200
+	cmpq	$256, %r13                      # imm = 0x100
 	cmovbq	104(%rsp), %r15                 # 8-byte Folded Reload
-	cmpq	$2, %r15
+	cmpq	$3, %r15
 	jb	.LBB26_63
 # %bb.64:                               # %then.1.i
                                         #   in Loop: Header=BB26_2 Depth=2
