@@ -59,7 +59,7 @@ pub(crate) fn run<S: Text, T: Text, K: Kernel<S, T>, O: BlockOutput>(
 {
     let mut read = 0;
     let mut replaced = 0;
-    // The number of the last faults that are near one another.
+    // The number of the last runs by the careful path that had faults and are near one another.
     let mut near: usize = 0;
     'parts: loop {
         let blocks = K::put_text(is_ample, &bytes[read..], out);
@@ -90,7 +90,9 @@ pub(crate) fn run<S: Text, T: Text, K: Kernel<S, T>, O: BlockOutput>(
             let few = recode_carefully::<S, T, O>(way, is_ample, &bytes[read..], out);
             read += few.read;
             replaced += few.replaced;
-            near = near.saturating_add(few.replaced);
+            if 0 < few.replaced {
+                near = near.saturating_add(1);
+            }
             if few.is_full || few.is_waiting {
                 return ended(read, replaced, few.is_full, few.is_waiting);
             }

@@ -57,7 +57,7 @@ pub(crate) trait Kernel<S: Text, T: Text> {
     // capacity.
     const TAKES_ALL: bool;
 
-    // The number of faults near one another from which on windows take less time than one fault after another.
+    // The number of places with faults near one another from which on windows take less time than the careful path.
     const CROWD: usize;
 
     // Transcodes text at the front of the bytes in blocks, as far as the worst-case output fits; `is_ample`: the
