@@ -12141,14 +12141,16 @@
 .LBB33_85:                              // %"recoding::engine::recode_by::<#f86b1d16f80f017d>.exit"
                                         //   in Loop: Header=BB33_3 Depth=1
 	ldp	x11, x9, [x29, #-24]
-	ldr	x12, [sp, #40]                  // 8-byte Reload
+	ldr	x13, [sp, #40]                  // 8-byte Reload
 	ldurb	w8, [x29, #-8]
 	ldurb	w10, [x29, #-7]
-	adds	x12, x9, x12
+	adds	x12, x13, #1
+	csinv	x12, x12, xzr, lo
+	cmp	x9, #0
 	add	x26, x11, x26
 	add	x25, x9, x25
-	csinv	x9, x12, xzr, lo
-	str	x9, [sp, #40]                   // 8-byte Spill
+	csel	x13, x13, x12, eq
+	str	x13, [sp, #40]                  // 8-byte Spill
 	tbnz	w8, #0, .LBB33_90
 // %bb.86:                              // %"recoding::engine::recode_carefully::<#b87a84623c9e3f78>.exit"
                                         //   in Loop: Header=BB33_3 Depth=1
@@ -18455,12 +18457,14 @@
 .LBB46_109:                             // %"recoding::engine::recode_by::<#c5ca0d4b0642678a>.exit"
                                         //   in Loop: Header=BB46_3 Depth=1
 	ldp	x11, x9, [x29, #-24]
+	adds	x12, x24, #1
 	ldurb	w8, [x29, #-8]
 	ldurb	w10, [x29, #-7]
-	adds	x12, x9, x24
+	csinv	x12, x12, xzr, lo
+	cmp	x9, #0
 	add	x26, x11, x26
 	add	x25, x9, x25
-	csinv	x19, x12, xzr, lo
+	csel	x19, x24, x12, eq
 	tbnz	w8, #0, .LBB46_112
 // %bb.110:                             // %"recoding::engine::recode_carefully::<#6a06ceb6f4ebec57>.exit"
                                         //   in Loop: Header=BB46_3 Depth=1
@@ -26022,12 +26026,14 @@
 .LBB61_109:                             // %"recoding::engine::recode_by::<#8349404a1ffc1fb4>.exit"
                                         //   in Loop: Header=BB61_3 Depth=1
 	ldp	x11, x9, [x29, #-24]
+	adds	x12, x24, #1
 	ldurb	w8, [x29, #-8]
 	ldurb	w10, [x29, #-7]
-	adds	x12, x9, x24
+	csinv	x12, x12, xzr, lo
+	cmp	x9, #0
 	add	x26, x11, x26
 	add	x25, x9, x25
-	csinv	x19, x12, xzr, lo
+	csel	x19, x24, x12, eq
 	tbnz	w8, #0, .LBB61_112
 // %bb.110:                             // %"recoding::engine::recode_carefully::<#2394a24291fdc05d>.exit"
                                         //   in Loop: Header=BB61_3 Depth=1
@@ -32783,7 +32789,7 @@
 	lsr	x19, x8, #1
 	stp	x0, x9, [sp, #8]                // 16-byte Folded Spill
 	b	.LBB75_4
-.LBB75_1:                               // %then.1.i655.i
+.LBB75_1:                               // %then.1.i656.i
                                         //   in Loop: Header=BB75_4 Depth=1
 	sub	x0, x29, #24
 	sub	x1, x29, #48
@@ -32843,7 +32849,7 @@
                                         //   in Loop: Header=BB75_7 Depth=2
 	mov	x0, xzr
 	b	.LBB75_13
-.LBB75_11:                              // %then.1.i62.i
+.LBB75_11:                              // %then.1.i63.i
                                         //   in Loop: Header=BB75_13 Depth=3
 	str	q0, [x22, x6]
 	add	x6, x6, #16
@@ -32876,7 +32882,7 @@
 	addp	v3.16b, v3.16b, v3.16b
 	umov	w8, v3.h[0]
 	cbz	w8, .LBB75_11
-// %bb.14:                              // %join.3.i61.i
+// %bb.14:                              // %join.3.i62.i
                                         //   in Loop: Header=BB75_13 Depth=3
 	movi	v3.16b, #7
 	cmhi	v3.16b, v2.16b, v3.16b
@@ -32886,7 +32892,7 @@
 	addp	v3.16b, v3.16b, v3.16b
 	umov	w8, v3.h[0]
 	cbz	w8, .LBB75_18
-// %bb.15:                              // %join.3.i78.i
+// %bb.15:                              // %join.3.i79.i
                                         //   in Loop: Header=BB75_13 Depth=3
 	movi	v3.16b, #248
 	movi	v4.16b, #216
@@ -32918,7 +32924,7 @@
 	ubfiz	x8, x8, #1, #15
 	cmp	x8, w9, uxth
 	b.ne	.LBB75_20
-// %bb.17:                              // %join.3.i300.i
+// %bb.17:                              // %join.3.i301.i
                                         //   in Loop: Header=BB75_13 Depth=3
 	movi	v4.16b, #60
 	shl	v6.16b, v2.16b, #2
@@ -33042,7 +33048,7 @@
 	cmp	x9, #64
 	b.hs	.LBB75_12
 	b	.LBB75_20
-.LBB75_18:                              // %then.1.i80.i
+.LBB75_18:                              // %then.1.i81.i
                                         //   in Loop: Header=BB75_13 Depth=3
 	movi	v3.16b, #60
 	shl	v4.16b, v2.16b, #2
@@ -33210,12 +33216,12 @@
 	sub	x10, x23, x1
 	cmp	x10, #8
 	b.lo	.LBB75_5
-// %bb.23:                              // %join.5.i454.i.preheader
+// %bb.23:                              // %join.5.i455.i.preheader
                                         //   in Loop: Header=BB75_7 Depth=2
 	mov	x8, xzr
 	add	x10, x27, x0
 	sub	x11, x26, x1
-.LBB75_24:                              // %join.5.i454.i
+.LBB75_24:                              // %join.5.i455.i
                                         //   Parent Loop BB75_4 Depth=1
                                         //     Parent Loop BB75_7 Depth=2
                                         // =>    This Inner Loop Header: Depth=3
@@ -33294,7 +33300,7 @@
                                         //   in Loop: Header=BB75_4 Depth=1
 	cmp	x9, #2
 	b.lo	.LBB75_44
-// %bb.32:                              // %join.5.i548.i.preheader
+// %bb.32:                              // %join.5.i549.i.preheader
                                         //   in Loop: Header=BB75_4 Depth=1
 	mov	x0, xzr
 	mov	x10, x1
@@ -33308,7 +33314,7 @@
 	sub	x10, x1, x0
 	cmp	x10, #1
 	b.ls	.LBB75_43
-.LBB75_34:                              // %join.5.i548.i
+.LBB75_34:                              // %join.5.i549.i
                                         //   Parent Loop BB75_4 Depth=1
                                         // =>  This Inner Loop Header: Depth=2
 	add	x12, x8, x0
@@ -33321,7 +33327,7 @@
 	and	w14, w14, #0xfc00
 	cmp	w14, w15
 	b.eq	.LBB75_39
-// %bb.35:                              // %join.5.i548.i
+// %bb.35:                              // %join.5.i549.i
                                         //   in Loop: Header=BB75_34 Depth=2
 	mov	w10, #56320                     // =0xdc00
 	cmp	w14, w10
@@ -33351,7 +33357,7 @@
 	cmp	x10, #1
 	b.hi	.LBB75_34
 	b	.LBB75_43
-.LBB75_39:                              // %join.6.i614.i
+.LBB75_39:                              // %join.6.i615.i
                                         //   in Loop: Header=BB75_34 Depth=2
 	cmp	x10, #4
 	b.lo	.LBB75_43
@@ -33425,7 +33431,7 @@
 	ldr	x8, [sp, #16]                   // 8-byte Reload
 	stp	x8, xzr, [x29, #-32]
 	b.ls	.LBB75_1
-// %bb.46:                              // %"recoding::engine::fits_all::<#3e183921f4cc9ca8>.exit.i652.i"
+// %bb.46:                              // %"recoding::engine::fits_all::<#3e183921f4cc9ca8>.exit.i653.i"
                                         //   in Loop: Header=BB75_4 Depth=1
 	ldp	x8, x9, [sp, #48]
 	sub	x8, x8, x9
@@ -33434,7 +33440,7 @@
 	umulh	x8, x8, x9
 	cmp	x3, x8, lsr #1
 	b.ls	.LBB75_1
-// %bb.47:                              // %join.3.i654.i
+// %bb.47:                              // %join.3.i655.i
                                         //   in Loop: Header=BB75_4 Depth=1
 	sub	x0, x29, #24
 	sub	x1, x29, #48
@@ -38359,7 +38365,7 @@
 	lsr	x19, x8, #1
 	stp	x0, x9, [sp, #8]                // 16-byte Folded Spill
 	b	.LBB92_4
-.LBB92_1:                               // %then.1.i229.i
+.LBB92_1:                               // %then.1.i230.i
                                         //   in Loop: Header=BB92_4 Depth=1
 	sub	x0, x29, #24
 	sub	x1, x29, #48
@@ -38786,12 +38792,12 @@
 	sub	x10, x23, x1
 	cmp	x10, #8
 	b.lo	.LBB92_5
-// %bb.23:                              // %join.5.i70.i.preheader
+// %bb.23:                              // %join.5.i71.i.preheader
                                         //   in Loop: Header=BB92_7 Depth=2
 	mov	x8, xzr
 	add	x10, x27, x0
 	sub	x11, x26, x1
-.LBB92_24:                              // %join.5.i70.i
+.LBB92_24:                              // %join.5.i71.i
                                         //   Parent Loop BB92_4 Depth=1
                                         //     Parent Loop BB92_7 Depth=2
                                         // =>    This Inner Loop Header: Depth=3
@@ -38870,12 +38876,12 @@
                                         //   in Loop: Header=BB92_4 Depth=1
 	cmp	x9, #2
 	b.lo	.LBB92_44
-// %bb.32:                              // %join.5.i127.i.preheader
+// %bb.32:                              // %join.5.i128.i.preheader
                                         //   in Loop: Header=BB92_4 Depth=1
 	mov	x0, xzr
 	mov	x11, x1
 	b	.LBB92_34
-.LBB92_33:                              // %then.1.i.i143.i
+.LBB92_33:                              // %then.1.i.i144.i
                                         //   in Loop: Header=BB92_34 Depth=2
 	strb	w13, [x22, x6]
 	add	x6, x6, #1
@@ -38884,7 +38890,7 @@
 	sub	x11, x1, x0
 	cmp	x11, #1
 	b.ls	.LBB92_43
-.LBB92_34:                              // %join.5.i127.i
+.LBB92_34:                              // %join.5.i128.i
                                         //   Parent Loop BB92_4 Depth=1
                                         // =>  This Inner Loop Header: Depth=2
 	add	x12, x8, x0
@@ -38897,7 +38903,7 @@
 	and	w14, w14, #0xfc00
 	cmp	w14, w15
 	b.eq	.LBB92_39
-// %bb.35:                              // %join.5.i127.i
+// %bb.35:                              // %join.5.i128.i
                                         //   in Loop: Header=BB92_34 Depth=2
 	mov	w11, #56320                     // =0xdc00
 	cmp	w14, w11
@@ -38927,7 +38933,7 @@
 	cmp	x11, #1
 	b.hi	.LBB92_34
 	b	.LBB92_43
-.LBB92_39:                              // %join.6.i192.i
+.LBB92_39:                              // %join.6.i193.i
                                         //   in Loop: Header=BB92_34 Depth=2
 	cmp	x11, #4
 	b.lo	.LBB92_43
@@ -39001,7 +39007,7 @@
 	ldr	x8, [sp, #16]                   // 8-byte Reload
 	stp	x8, xzr, [x29, #-32]
 	b.ls	.LBB92_1
-// %bb.46:                              // %"recoding::engine::fits_all::<#3e183921f4cc9ca8>.exit.i226.i"
+// %bb.46:                              // %"recoding::engine::fits_all::<#3e183921f4cc9ca8>.exit.i227.i"
                                         //   in Loop: Header=BB92_4 Depth=1
 	ldp	x8, x9, [sp, #48]
 	sub	x8, x8, x9
@@ -39010,7 +39016,7 @@
 	umulh	x8, x8, x9
 	cmp	x3, x8, lsr #1
 	b.ls	.LBB92_1
-// %bb.47:                              // %join.3.i228.i
+// %bb.47:                              // %join.3.i229.i
                                         //   in Loop: Header=BB92_4 Depth=1
 	sub	x0, x29, #24
 	sub	x1, x29, #48

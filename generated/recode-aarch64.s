@@ -1733,16 +1733,16 @@
 	add	x0, x23, x20
 	mov	x1, x24
 	bl	"utf_lanes::text_blocks::text_len"
-	ldp	x26, x25, [x22, #8]
+	ldp	x25, x26, [x22, #8]
 	mov	x24, x0
-	sub	x8, x25, x26
+	sub	x8, x26, x25
 	cmp	x0, x8
 	b.hi	.LBB12_45
 // %bb.23:                              // %join.3.i123
                                         //   in Loop: Header=BB12_2 Depth=2
 	ldr	x19, [x22]
 	stp	xzr, xzr, [x22, #8]
-	add	x8, x19, x26
+	add	x8, x19, x25
 	sub	x8, x8, x28
 	cmp	x8, x24
 	b.hs	.LBB12_58
@@ -1752,7 +1752,7 @@
 	b.ls	.LBB12_26
 // %bb.25:                              // %vector.memcheck261
                                         //   in Loop: Header=BB12_2 Depth=2
-	add	x8, x26, x19
+	add	x8, x25, x19
 	add	x9, x20, x23
 	sub	x8, x8, x9
 	cmp	x8, #32
@@ -1762,7 +1762,7 @@
 .LBB12_27:                              // %join.7.i.i.i136.preheader
                                         //   in Loop: Header=BB12_2 Depth=2
 	add	x9, x8, x20
-	add	x10, x8, x26
+	add	x10, x8, x25
 	sub	x8, x24, x8
 	add	x9, x23, x9
 	add	x10, x19, x10
@@ -1777,15 +1777,15 @@
 	b	.LBB12_59
 .LBB12_29:                              // %then.5.i
                                         //   in Loop: Header=BB12_2 Depth=2
-	ldp	x26, x25, [x22, #8]
-	sub	x8, x25, x26
+	ldp	x25, x26, [x22, #8]
+	sub	x8, x26, x25
 	cmp	x24, x8
 	b.hi	.LBB12_56
 // %bb.30:                              // %join.3.i116
                                         //   in Loop: Header=BB12_2 Depth=2
 	ldr	x19, [x22]
 	stp	xzr, xzr, [x22, #8]
-	add	x8, x19, x26
+	add	x8, x19, x25
 	sub	x8, x8, x28
 	cmp	x8, x24
 	b.hs	.LBB12_58
@@ -1795,7 +1795,7 @@
 	b.ls	.LBB12_33
 // %bb.32:                              // %vector.memcheck
                                         //   in Loop: Header=BB12_2 Depth=2
-	add	x8, x26, x19
+	add	x8, x25, x19
 	add	x9, x20, x23
 	sub	x8, x8, x9
 	cmp	x8, #32
@@ -1805,7 +1805,7 @@
 .LBB12_34:                              // %join.7.i.i.i.preheader
                                         //   in Loop: Header=BB12_2 Depth=2
 	add	x9, x8, x20
-	add	x10, x8, x26
+	add	x10, x8, x25
 	sub	x8, x24, x8
 	add	x9, x23, x9
 	add	x10, x19, x10
@@ -1827,7 +1827,7 @@
 	b	.LBB12_42
 .LBB12_38:                              // %vector.ph269
                                         //   in Loop: Header=BB12_2 Depth=2
-	add	x11, x19, x26
+	add	x11, x19, x25
 	add	x10, x23, #16
 	and	x9, x24, #0x18
 	and	x8, x24, #0xffffffffffffffe0
@@ -1856,7 +1856,7 @@
 	mov	x9, x8
 	and	x8, x24, #0xfffffffffffffff8
 	add	x10, x9, x20
-	add	x11, x26, x9
+	add	x11, x25, x9
 	sub	x9, x9, x8
 	add	x10, x23, x10
 	add	x11, x19, x11
@@ -1881,10 +1881,10 @@
 	cbz	w0, .LBB12_60
 // %bb.46:                              // %"std_alloc::vec::Vec::grow::<#5fdc5e19576447a7>.exit.join.3_crit_edge.i145"
                                         //   in Loop: Header=BB12_2 Depth=2
-	ldp	x26, x25, [x22, #8]
+	ldp	x25, x26, [x22, #8]
 	ldr	x19, [x22]
 	stp	xzr, xzr, [x22, #8]
-	add	x8, x19, x26
+	add	x8, x19, x25
 	sub	x8, x8, x28
 	cmp	x8, x24
 	b.lo	.LBB12_24
@@ -1898,7 +1898,7 @@
 	b	.LBB12_53
 .LBB12_49:                              // %vector.ph
                                         //   in Loop: Header=BB12_2 Depth=2
-	add	x11, x19, x26
+	add	x11, x19, x25
 	add	x10, x23, #16
 	and	x9, x24, #0x18
 	and	x8, x24, #0x7e0
@@ -1927,7 +1927,7 @@
 	mov	x9, x8
 	and	x8, x24, #0x7f8
 	add	x10, x9, x20
-	add	x11, x26, x9
+	add	x11, x25, x9
 	sub	x9, x9, x8
 	add	x10, x23, x10
 	add	x11, x19, x11
@@ -1952,23 +1952,23 @@
 	cbz	w0, .LBB12_60
 // %bb.57:                              // %"std_alloc::vec::Vec::grow::<#5fdc5e19576447a7>.exit.join.3_crit_edge.i"
                                         //   in Loop: Header=BB12_2 Depth=2
-	ldp	x26, x25, [x22, #8]
+	ldp	x25, x26, [x22, #8]
 	ldr	x19, [x22]
 	stp	xzr, xzr, [x22, #8]
-	add	x8, x19, x26
+	add	x8, x19, x25
 	sub	x8, x8, x28
 	cmp	x8, x24
 	b.lo	.LBB12_31
 .LBB12_58:                              // %apart.2.i.i.i
                                         //   in Loop: Header=BB12_2 Depth=2
-	add	x0, x19, x26
+	add	x0, x19, x25
 	add	x1, x23, x20
 	mov	x2, x24
 	bl	memmove
 .LBB12_59:                              // %"core::slots::Slots::copy_in::<i8,20'core::clone::U8Clone{}>.exit.i134"
                                         //   in Loop: Header=BB12_2 Depth=2
-	add	x8, x26, x24
-	str	x25, [x22, #16]
+	add	x8, x25, x24
+	str	x26, [x22, #16]
 	stp	x19, x8, [x22]
 .LBB12_60:                              // %"recoding::kernels::CopiedKernelUtf8Utf8::put_text::<#dba16a0ba11e1f61>.exit"
                                         //   in Loop: Header=BB12_2 Depth=2
@@ -2018,13 +2018,15 @@
 	str	xzr, [sp, #40]
 	bl	"recoding::engine::recode_faults::<#e51b733afd1efe0d>"
 	ldp	x9, x8, [sp, #24]
-	ldr	x11, [sp, #8]                   // 8-byte Reload
+	ldr	x12, [sp, #8]                   // 8-byte Reload
 	ldrb	w10, [sp, #40]
-	adds	x11, x8, x11
+	adds	x11, x12, #1
+	csinv	x11, x11, xzr, lo
+	cmp	x8, #0
 	add	x20, x9, x20
 	add	x19, x8, x19
-	csinv	x8, x11, xzr, lo
-	str	x8, [sp, #8]                    // 8-byte Spill
+	csel	x12, x12, x11, eq
+	str	x12, [sp, #8]                   // 8-byte Spill
 	tbnz	w10, #0, .LBB12_73
 // %bb.70:                              // %"recoding::engine::recode_carefully::<#ebb3042af60f2638>.exit"
                                         //   in Loop: Header=BB12_1 Depth=1
@@ -5107,11 +5109,13 @@
 	stur	xzr, [x29, #-32]
 	bl	"recoding::engine::recode_faults::<#e0f9120ea28c3ab4>"
 	ldp	x9, x8, [x29, #-48]
+	adds	x11, x24, #1
 	ldurb	w10, [x29, #-32]
-	adds	x11, x8, x24
+	csinv	x11, x11, xzr, lo
+	cmp	x8, #0
 	add	x20, x9, x20
 	add	x19, x8, x19
-	csinv	x8, x11, xzr, lo
+	csel	x8, x24, x11, eq
 	str	x8, [sp, #8]                    // 8-byte Spill
 	tbnz	w10, #0, .LBB17_80
 // %bb.77:                              // %"recoding::engine::recode_carefully::<#4bab232dcda6565b>.exit"
@@ -8850,11 +8854,13 @@
 	stur	xzr, [x29, #-32]
 	bl	"recoding::engine::recode_faults::<#e11ba97e6063c4ca>"
 	ldp	x9, x8, [x29, #-48]
+	adds	x11, x24, #1
 	ldurb	w10, [x29, #-32]
-	adds	x11, x8, x24
+	csinv	x11, x11, xzr, lo
+	cmp	x8, #0
 	add	x20, x9, x20
 	add	x19, x8, x19
-	csinv	x8, x11, xzr, lo
+	csel	x8, x24, x11, eq
 	str	x8, [sp, #8]                    // 8-byte Spill
 	tbnz	w10, #0, .LBB25_80
 // %bb.77:                              // %"recoding::engine::recode_carefully::<#90b22c6900c6b509>.exit"
@@ -11727,7 +11733,7 @@
 	addp	v3.16b, v3.16b, v3.16b
 	umov	w15, v3.h[0]
 	cbz	w15, .LBB31_10
-// %bb.6:                               // %join.3.i668.i
+// %bb.6:                               // %join.3.i669.i
                                         //   in Loop: Header=BB31_5 Depth=2
 	movi	v3.16b, #7
 	movi	v4.2d, #0000000000000000
@@ -11744,7 +11750,7 @@
 	addp	v3.16b, v3.16b, v3.16b
 	umov	w16, v3.h[0]
 	cbz	w16, .LBB31_11
-// %bb.7:                               // %join.3.i89.i
+// %bb.7:                               // %join.3.i90.i
                                         //   in Loop: Header=BB31_5 Depth=2
 	movi	v3.16b, #248
 	movi	v4.16b, #216
@@ -11776,7 +11782,7 @@
 	ubfiz	x14, x14, #1, #15
 	cmp	x14, w15, uxth
 	b.ne	.LBB31_17
-// %bb.9:                               // %join.3.i322.i
+// %bb.9:                               // %join.3.i323.i
                                         //   in Loop: Header=BB31_5 Depth=2
 	movi	v4.16b, #60
 	shl	v6.16b, v2.16b, #2
@@ -11898,7 +11904,7 @@
 	cmp	x12, x14
 	b.hi	.LBB31_12
 	b	.LBB31_13
-.LBB31_10:                              // %join.3.i653.i
+.LBB31_10:                              // %join.3.i654.i
                                         //   in Loop: Header=BB31_5 Depth=2
 	str	q0, [x13, x12]
 	add	x12, x12, #16
@@ -11906,7 +11912,7 @@
 	mov	w13, #16                        // =0x10
 	str	x14, [x22, #16]
 	b	.LBB31_14
-.LBB31_11:                              // %then.1.i92.i
+.LBB31_11:                              // %then.1.i93.i
                                         //   in Loop: Header=BB31_5 Depth=2
 	movi	v3.16b, #60
 	shl	v4.16b, v2.16b, #2
@@ -11959,7 +11965,7 @@
 	ldr	x12, [x22, #8]
 	cmp	x12, x14
 	b.ls	.LBB31_13
-.LBB31_12:                              // %join.3.i694.i
+.LBB31_12:                              // %join.3.i695.i
                                         //   in Loop: Header=BB31_5 Depth=2
 	mov	x12, x14
 	str	x14, [x22, #8]
@@ -12078,7 +12084,7 @@
 	mov	x8, xzr
 	cmp	x11, #16
 	b.lo	.LBB31_27
-.LBB31_19:                              // %"recoding::list::append_blocks::<#035c64e45cc79e03>.exit.i.then.3.i473.preheader.i_crit_edge"
+.LBB31_19:                              // %"recoding::list::append_blocks::<#035c64e45cc79e03>.exit.i.then.3.i474.preheader.i_crit_edge"
                                         //   in Loop: Header=BB31_2 Depth=1
 	ldr	x12, [x22, #8]
 	mov	x9, x11
@@ -12086,18 +12092,18 @@
 .LBB31_20:                              //   in Loop: Header=BB31_2 Depth=1
 	mov	x8, xzr
 	sub	x9, x21, x20
-.LBB31_21:                              // %then.3.i473.preheader.i
+.LBB31_21:                              // %then.3.i474.preheader.i
                                         //   in Loop: Header=BB31_2 Depth=1
 	ldr	x13, [x22, #16]
 	mov	x11, xzr
 	add	x10, x10, x8
 	sub	x14, x13, x12
-.LBB31_22:                              // %then.3.i473.i
+.LBB31_22:                              // %then.3.i474.i
                                         //   Parent Loop BB31_2 Depth=1
                                         // =>  This Inner Loop Header: Depth=2
 	subs	x14, x14, #8
 	b.lo	.LBB31_25
-// %bb.23:                              // %join.5.i478.i
+// %bb.23:                              // %join.5.i479.i
                                         //   in Loop: Header=BB31_22 Depth=2
 	add	x15, x10, x11
 	ld2	{ v0.8b, v1.8b }, [x15]
@@ -12164,7 +12170,7 @@
 	csel	x9, x8, x9, lo
 	cmp	x8, #2
 	b.lo	.LBB31_42
-// %bb.30:                              // %join.5.i559.i.preheader
+// %bb.30:                              // %join.5.i560.i.preheader
                                         //   in Loop: Header=BB31_2 Depth=1
 	mov	x8, xzr
 	add	x10, x23, x20
@@ -12181,7 +12187,7 @@
 	sub	x14, x9, x8
 	cmp	x14, #1
 	b.ls	.LBB31_1
-.LBB31_32:                              // %join.5.i559.i
+.LBB31_32:                              // %join.5.i560.i
                                         //   Parent Loop BB31_2 Depth=1
                                         // =>  This Inner Loop Header: Depth=2
 	add	x12, x10, x8
@@ -12194,7 +12200,7 @@
 	and	w16, w16, #0xfc00
 	cmp	w16, w17
 	b.eq	.LBB31_37
-// %bb.33:                              // %join.5.i559.i
+// %bb.33:                              // %join.5.i560.i
                                         //   in Loop: Header=BB31_32 Depth=2
 	mov	w12, #56320                     // =0xdc00
 	cmp	w16, w12
@@ -13948,7 +13954,7 @@
 	addp	v3.16b, v3.16b, v3.16b
 	umov	w15, v3.h[0]
 	cbz	w15, .LBB40_10
-// %bb.6:                               // %join.3.i210.i
+// %bb.6:                               // %join.3.i211.i
                                         //   in Loop: Header=BB40_5 Depth=2
 	movi	v3.16b, #7
 	movi	v4.2d, #0000000000000000
@@ -14119,7 +14125,7 @@
 	cmp	x12, x14
 	b.hi	.LBB40_12
 	b	.LBB40_13
-.LBB40_10:                              // %join.3.i194.i
+.LBB40_10:                              // %join.3.i195.i
                                         //   in Loop: Header=BB40_5 Depth=2
 	str	q0, [x13, x12]
 	add	x12, x12, #16
@@ -14180,7 +14186,7 @@
 	ldr	x12, [x22, #8]
 	cmp	x12, x14
 	b.ls	.LBB40_13
-.LBB40_12:                              // %join.3.i235.i
+.LBB40_12:                              // %join.3.i236.i
                                         //   in Loop: Header=BB40_5 Depth=2
 	mov	x12, x14
 	str	x14, [x22, #8]
@@ -14299,7 +14305,7 @@
 	mov	x8, xzr
 	cmp	x11, #16
 	b.lo	.LBB40_27
-.LBB40_19:                              // %"recoding::list::append_blocks::<#db1eb2065a50937f>.exit.i.then.3.i61.preheader.i_crit_edge"
+.LBB40_19:                              // %"recoding::list::append_blocks::<#db1eb2065a50937f>.exit.i.then.3.i62.preheader.i_crit_edge"
                                         //   in Loop: Header=BB40_2 Depth=1
 	ldr	x12, [x22, #8]
 	mov	x9, x11
@@ -14307,18 +14313,18 @@
 .LBB40_20:                              //   in Loop: Header=BB40_2 Depth=1
 	mov	x8, xzr
 	sub	x9, x21, x20
-.LBB40_21:                              // %then.3.i61.preheader.i
+.LBB40_21:                              // %then.3.i62.preheader.i
                                         //   in Loop: Header=BB40_2 Depth=1
 	ldr	x13, [x22, #16]
 	mov	x11, xzr
 	add	x10, x10, x8
 	sub	x14, x13, x12
-.LBB40_22:                              // %then.3.i61.i
+.LBB40_22:                              // %then.3.i62.i
                                         //   Parent Loop BB40_2 Depth=1
                                         // =>  This Inner Loop Header: Depth=2
 	subs	x14, x14, #8
 	b.lo	.LBB40_25
-// %bb.23:                              // %join.5.i66.i
+// %bb.23:                              // %join.5.i67.i
                                         //   in Loop: Header=BB40_22 Depth=2
 	add	x15, x10, x11
 	ld2	{ v0.8b, v1.8b }, [x15]
@@ -14385,13 +14391,13 @@
 	csel	x9, x8, x9, lo
 	cmp	x8, #2
 	b.lo	.LBB40_42
-// %bb.30:                              // %join.5.i105.i.preheader
+// %bb.30:                              // %join.5.i106.i.preheader
                                         //   in Loop: Header=BB40_2 Depth=1
 	mov	x8, xzr
 	add	x10, x23, x20
 	mov	x14, x9
 	b	.LBB40_32
-.LBB40_31:                              // %then.1.i.i126.i
+.LBB40_31:                              // %then.1.i.i127.i
                                         //   in Loop: Header=BB40_32 Depth=2
 	ldp	x12, x11, [x22]
 	strb	w15, [x12, x11]
@@ -14402,7 +14408,7 @@
 	sub	x14, x9, x8
 	cmp	x14, #1
 	b.ls	.LBB40_1
-.LBB40_32:                              // %join.5.i105.i
+.LBB40_32:                              // %join.5.i106.i
                                         //   Parent Loop BB40_2 Depth=1
                                         // =>  This Inner Loop Header: Depth=2
 	add	x12, x10, x8
@@ -14415,7 +14421,7 @@
 	and	w16, w16, #0xfc00
 	cmp	w16, w17
 	b.eq	.LBB40_37
-// %bb.33:                              // %join.5.i105.i
+// %bb.33:                              // %join.5.i106.i
                                         //   in Loop: Header=BB40_32 Depth=2
 	mov	w12, #56320                     // =0xdc00
 	cmp	w16, w12
@@ -14424,7 +14430,7 @@
                                         //   in Loop: Header=BB40_32 Depth=2
 	cmp	w11, #128
 	b.lo	.LBB40_31
-// %bb.35:                              // %join.3.i.i111.i
+// %bb.35:                              // %join.3.i.i112.i
                                         //   in Loop: Header=BB40_32 Depth=2
 	mov	w12, #128                       // =0x80
 	cmp	w13, #8
@@ -14452,7 +14458,7 @@
 	and	w14, w13, #0xfc
 	cmp	w14, #220
 	b.ne	.LBB40_1
-// %bb.39:                              // %join.7.i.i113.i
+// %bb.39:                              // %join.7.i.i114.i
                                         //   in Loop: Header=BB40_32 Depth=2
 	ubfiz	w14, w11, #10, #10
 	ldp	x16, x15, [x22]
@@ -14487,7 +14493,7 @@
 	cmp	x14, #1
 	b.hi	.LBB40_32
 	b	.LBB40_1
-.LBB40_40:                              // %join.7.i.i113.thread.i
+.LBB40_40:                              // %join.7.i.i114.thread.i
                                         //   in Loop: Header=BB40_32 Depth=2
 	ldp	x16, x15, [x22]
 	lsr	w13, w13, #4
