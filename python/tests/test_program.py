@@ -27,9 +27,10 @@ def ran(*words, given=b"", **more):
     return it.returncode, it.stdout, it.stderr.decode()
 
 
-def heed_interrupts():
-    """What a script starts in the background passes over an interrupt, and so does what that starts."""
-    signal.signal(signal.SIGINT, signal.SIG_DFL)
+def heed_signals():
+    """What a script starts in the background ignores an interrupt, under nohup also a hangup, and so does what that starts."""
+    for it in (signal.SIGINT, signal.SIGHUP):
+        signal.signal(it, signal.SIG_DFL)
 
 
 class Program(unittest.TestCase):
@@ -290,7 +291,7 @@ class Program(unittest.TestCase):
 
     def test_what_comes_in_time_is_told_of_in_time(self):
         """Each part of a pipe is reported before the next one is waited for; an interrupt ends it as a signal does."""
-        how = {"stdin": subprocess.PIPE, "stdout": subprocess.PIPE, "stderr": subprocess.PIPE, "preexec_fn": heed_interrupts}
+        how = {"stdin": subprocess.PIPE, "stdout": subprocess.PIPE, "stderr": subprocess.PIPE, "preexec_fn": heed_signals}
         with subprocess.Popen([sys.executable, "-m", "noddychest", "check"], **how) as it:
             it.stdin.write(b"a\xffbcdefgh")
             it.stdin.flush()
@@ -347,7 +348,7 @@ from noddychest.__main__ import main
 sys.argv[1:] = {[*words]!r}
 sys.exit(main())
 """
-        it = subprocess.run([sys.executable, "-c", program], stdout=subprocess.PIPE, stderr=subprocess.PIPE, timeout=60, preexec_fn=heed_interrupts)
+        it = subprocess.run([sys.executable, "-c", program], stdout=subprocess.PIPE, stderr=subprocess.PIPE, timeout=60, preexec_fn=heed_signals)
         return it.returncode, it.stdout, it.stderr.decode()
 
     def files(self):
