@@ -4,7 +4,7 @@
 usage: c/tests/nody_view.py BUILD [COMPILER] [--times]
 
 BUILD has what make built. Files are damaged, with a line of 200 MB, sparse of 20 GB, growing, shrinking, binary and empty; terminals are narrow, and
-resized. With --times the last lines say how long the first screen and a page back take, and how much memory. If tmux is not there, or
+resized. With --times the last lines say how long the first screen, a page back and a search backward take, and how much memory. If tmux is not there, or
 nody was built without ncurses, all is left out, and named. The last line is 'N passed, M failed'.
 """
 import fcntl
@@ -411,6 +411,27 @@ def measure(folder, program):
     expect(memory < 32, f"memory of {memory} MB")
 
 
+def measure_search(folder, program):
+    """The least time of several searches backward, from the end of 1 GB of text to the invalid byte at its front."""
+    name, text = f"{folder}/long", "a line of some words, and é one character\n".encode() * 10000
+    with open(name, "wb") as file:
+        file.write(b"\xff\n")
+        for _ in range(10**9 // len(text)):
+            file.write(text)
+    took = 1e9
+    for _ in range(3):
+        it = Terminal([program, "view", name])
+        it.until(b"UTF-8")
+        it.key(b"G")
+        start = time.monotonic()
+        os.write(it.main, b"N")
+        expect(b"NonUtf8Byte" in it.until(b"NonUtf8Byte"), "the invalid byte at the front")
+        took = min(took, time.monotonic() - start)
+        it.ends()
+    os.remove(name)
+    print(f"nody_view.py: 1 GB: previous invalid byte {took:.2f} s")
+
+
 def main():
     words = [it for it in sys.argv[1:] if it != "--times"]
     if len(words) not in (1, 2) or words[0].startswith("-"):
@@ -433,6 +454,7 @@ def main():
             check_hangup(folder, program)
             if "--times" in sys.argv:
                 measure(folder, program)
+                measure_search(folder, program)
     print(f"{nody.passed} passed, {nody.failed} failed")
     return int(nody.failed > 0)
 
