@@ -1,5 +1,5 @@
 //! Outputs for blocks of units and of text.
-ghost use Rattle.std.specs.Prelude.{◌*◌, ◌≤◌, length};
+ghost use Rattle.std.specs.Prelude.{◌+◌, ◌*◌, ◌≤◌, length};
 ghost use Rattle.recoding.specs.NextScalars.{utf16_form};
 ghost use Rattle.recoding.specs.Strict.{PutsText};
 ghost use Rattle.recoding.specs.declared.form.Form.TheVariants.{Utf8};
@@ -10,10 +10,11 @@ use utf_lanes::byte_order::ByteOrder;
 
 // An output into which blocks converted between UTF-8 and UTF-16 are written in place.
 pub(crate) trait BlockOutput: Output {
-    // Appends the units of the offsets of some text.
+    // Appends the units of the offsets of some text. Full vectors are stored, so up to 32 bytes of the capacity after
+    // the units may be overwritten.
     fn put_units<E: ByteOrder>(&mut self, text: &[u8])
-        requires long { 32 ≤ length text.now }
-        requires room { 3 * length text.now ≤ Self.room self.old }
+        requires long { 19 ≤ length text.now }
+        requires room { 2 * length text.now + 32 ≤ Self.room self.old }
         ensures { Self.appends self.old (utf16_bytes E.HIGH_FIRST text.now 0 (length text.now)) self.new };
 
     // Transcodes the blocks of units at the front of the bytes to UTF-8, as far as they have no fault and the

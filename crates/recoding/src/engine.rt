@@ -7,6 +7,7 @@ ghost use Rattle.recoding.specs.Strict.{PutsText};
 
 use crate::block_output::BlockOutput;
 use crate::form::{Form, WIDEST};
+use crate::form_calls::{next_of, put_shown};
 use crate::kernels::{Copied, Damaged, Kernel, MANY, NOTHING, Narrowed, Turned, Widened, by_forms};
 use crate::next_scalar::{ShownPiece, first_four};
 use crate::output::Output;
@@ -236,8 +237,8 @@ fn put_all_text<S: Text, T: Text, K: Kernel<S, T>, O: BlockOutput>(
     }
 }
 
-// Transcodes a few bytes by the careful path, or fewer from the last fault among them on. If the ways of
-// replacing differ, each has loops of its own.
+// Transcodes a few bytes by the careful path, or fewer from the last fault among them on. If the output fits and the
+// ways of replacing differ, each has a loop of its own.
 #[inline(always)]
 fn recode_carefully<S: Text, T: Text, O: Output>(
     way: Way<'_>,
@@ -249,32 +250,17 @@ fn recode_carefully<S: Text, T: Text, O: Output>(
     ensures reaches { Reaches O.appends O.room way.entry S.form T.form bytes.now out.old out.new result }
     ensures moves { IsFalse result.is_full → IsFalse result.is_waiting → 0 < result.read }
 {
+    if !fits_all(is_ample, bytes, out) {
+        return recode_within::<O>(way, S::form(), T::form(), bytes, out);
+    }
     if S::IS_ONE_WAY {
-        return recode_by::<S, T, Way<'_>, O>(way, is_ample, bytes, out);
+        return recode_faults::<S, T, Way<'_>, O>(way, bytes, out);
     }
     match way {
-        Way::Faults => recode_by::<S, T, Each, O>(Each, is_ample, bytes, out),
-        Way::Subparts => recode_by::<S, T, Subparts, O>(Subparts, is_ample, bytes, out),
-        Way::Table(repair) => recode_by::<S, T, Repair<'_>, O>(repair, is_ample, bytes, out),
+        Way::Faults => recode_faults::<S, T, Each, O>(Each, bytes, out),
+        Way::Subparts => recode_faults::<S, T, Subparts, O>(Subparts, bytes, out),
+        Way::Table(repair) => recode_faults::<S, T, Repair<'_>, O>(repair, bytes, out),
     }
-}
-
-// `recode_carefully`, monomorphised for the way of replacing.
-#[inline(always)]
-fn recode_by<'a, S: Text, T: Text, F: Replacing<'a>, O: Output>(
-    by: F,
-    is_ample: bool,
-    bytes: &[u8],
-    out: &mut O,
-) -> Reached
-    requires { IsTrue is_ample → FitsAll bytes.now (O.room out.old) }
-    ensures reaches { Reaches O.appends O.room (F.way by) S.form T.form bytes.now out.old out.new result }
-    ensures moves { IsFalse result.is_full → IsFalse result.is_waiting → 0 < result.read }
-{
-    if fits_all(is_ample, bytes, out) {
-        return recode_faults::<S, T, F, O>(by, bytes, out);
-    }
-    recode_faults_within::<S, T, F, O>(by, bytes, out)
 }
 
 // The careful path if the output fits. Outlined, since the loop rarely calls it.
@@ -312,38 +298,29 @@ fn recode_faults<'a, S: Text, T: Text, F: Replacing<'a>, O: Output>(
     ended(read, replaced, false, false)
 }
 
-// The careful path as far as there is capacity.
+// The careful path as far as there is capacity. Not monomorphised: only the end of a full output is written by it.
 #[inline(never)]
-fn recode_faults_within<'a, S: Text, T: Text, F: Replacing<'a>, O: Output>(
-    by: F,
+fn recode_within<O: Output>(
+    way: Way<'_>,
+    from: Form,
+    to: Form,
     bytes: &[u8],
     out: &mut O,
 ) -> Reached
-    ensures reaches { Reaches O.appends O.room (F.way by) S.form T.form bytes.now out.old out.new result }
+    ensures reaches { Reaches O.appends O.room way.entry from to bytes.now out.old out.new result }
     ensures moves { IsFalse result.is_full → IsFalse result.is_waiting → 0 < result.read }
 {
     let mut read = 0;
     let mut replaced = 0;
     while read < STRIDE {
-        let Some(first) = next_at::<S>(by.way(), bytes, read) else {
+        let Some(first) = next_of(way, from, first_four(&bytes[read..])) else {
             return ended(read, replaced, false, true);
         };
-        match first {
-            ShownPiece::Char(c, len) => {
-                if !T::put_fitting(c, out) {
-                    return ended(read, replaced, true, false);
-                }
-                read += len;
-            }
-            ShownPiece::Fault(len) => {
-                let c = S::replacement(by.way(), &bytes[read..]);
-                if !T::put_shown(c, out) {
-                    return ended(read, replaced, true, false);
-                }
-                read += len;
-                replaced += 1;
-            }
+        if !put_shown(to, first.c, out) {
+            return ended(read, replaced, true, false);
         }
+        read += first.len;
+        replaced += first.faults;
     }
     ended(read, replaced, false, false)
 }

@@ -25,8 +25,9 @@ macro_rules! by_form {
     };
 }
 
-// The piece that begins the bytes; `None` if that depends on what follows them.
-#[inline(always)]
+// The piece that begins the bytes; `None` if that depends on what follows them. Outlined: only carried-over bytes and
+// the end of a full output are decoded by it.
+#[inline(never)]
 pub(crate) fn next_of(way: Way<'_>, from: Form, bytes: &[u8]) -> Option<NextScalar>
     ensures some { IfSome result (λ x. BeginsBy way.entry from bytes.now x.c x.len x.faults) }
     ensures few { IfNone result (length bytes.now ≤ 3) }
@@ -111,7 +112,7 @@ pub(crate) fn put_fitting<O: Output>(to: Form, c: char, out: &mut O) -> bool
 }
 
 // Appends the code of the character, if there is one and it fits, and returns whether all is written.
-#[inline(always)]
+#[inline(never)]
 pub(crate) fn put_shown<O: Output>(to: Form, c: Option<char>, out: &mut O) -> bool
     ensures put { IsTrue result → O.appends out.old (code_of to c) out.new }
     ensures full { IsFalse result → CodeIsLonger to c (O.room out.old) }

@@ -179,9 +179,9 @@ impl<E: ByteOrder> Kernel<Utf8, Utf16<E>> for Widened {
 
     #[inline(always)]
     fn put_text<O: BlockOutput>(is_ample: bool, bytes: &[u8], out: &mut O) -> usize {
-        let most = PART.min(most_widened(is_ample, bytes, out));
-        // Fewer bytes are never transcoded with SIMD, and if the output is nearly full not validated either.
-        if most < 32 && !is_ample {
+        let most = PART.min(most_doubled(is_ample, bytes, out));
+        // Fewer bytes are transcoded with SIMD only if all of their output fits.
+        if most < 32 && most < bytes.len() {
             return 0;
         }
         let part = &bytes[..most];
@@ -298,7 +298,7 @@ fn is_few(len: usize) -> bool
 #[inline(never)]
 fn put_few<O: Output, E: ByteOrder>(bytes: &[u8], out: &mut O) -> usize
     requires few { length bytes.now < 32 }
-    requires room { WIDEST * length bytes.now ≤ O.room out.old }
+    requires room { 2 * length bytes.now ≤ O.room out.old }
     ensures { PutsText O.appends form.Utf8 (utf16_form E.HIGH_FIRST) bytes.now out.old out.new result }
 {
     if bytes.len() < 19 {
@@ -318,7 +318,7 @@ fn put_few<O: Output, E: ByteOrder>(bytes: &[u8], out: &mut O) -> usize
 fn put_few_as_utf16<O: Output, E: ByteOrder>(text: &[u8], out: &mut O)
     requires long { 19 ≤ length text.now }
     requires few { length text.now < 32 }
-    requires room { WIDEST * length text.now ≤ O.room out.old }
+    requires room { 2 * length text.now ≤ O.room out.old }
     ensures { O.appends out.old (utf16_bytes E.HIGH_FIRST text.now 0 (length text.now)) out.new }
 {
     let mut made = [0; 96];
@@ -331,7 +331,7 @@ fn put_few_as_utf16<O: Output, E: ByteOrder>(text: &[u8], out: &mut O)
 #[inline(always)]
 fn put_at_once<O: Output, E: ByteOrder>(bytes: &[u8], out: &mut O) -> usize
     requires few { length bytes.now ≤ 16 }
-    requires room { WIDEST * length bytes.now ≤ O.room out.old }
+    requires room { 2 * length bytes.now ≤ O.room out.old }
     ensures { PutsText O.appends form.Utf8 (utf16_form E.HIGH_FIRST) bytes.now out.old out.new result }
 {
     if bytes.len() < 4 || !are_text(bytes) {
@@ -347,7 +347,7 @@ fn put_at_once<O: Output, E: ByteOrder>(bytes: &[u8], out: &mut O) -> usize
 fn put_one_vector<O: Output, E: ByteOrder>(text: &[u8], out: &mut O)
     requires some { 4 ≤ length text.now }
     requires few { length text.now ≤ 16 }
-    requires room { WIDEST * length text.now ≤ O.room out.old }
+    requires room { 2 * length text.now ≤ O.room out.old }
     ensures { O.appends out.old (utf16_bytes E.HIGH_FIRST text.now 0 (length text.now)) out.new }
 {
     let mut made = [0; 32];
@@ -355,18 +355,19 @@ fn put_one_vector<O: Output, E: ByteOrder>(text: &[u8], out: &mut O)
     out.put(&made[..end]);
 }
 
-// Appends the units of text at the front of some bytes, which is validated as a whole before. Returns its length in
-// bytes, or 0 if the bytes are few.
+// Appends the units of text at the front of some bytes, which is validated as a whole before, as far as the full
+// vectors that are stored fit. Returns its length in bytes, or 0 if these bytes are few.
 #[inline(always)]
 fn put_judged<O: BlockOutput, E: ByteOrder>(bytes: &[u8], out: &mut O) -> usize
-    requires { WIDEST * length bytes.now ≤ O.room out.old }
     ensures { PutsText O.appends form.Utf8 (utf16_form E.HIGH_FIRST) bytes.now out.old out.new result }
 {
-    let len = text_len(bytes);
-    if len < 32 {
+    let most = bytes.len().min(out.room().saturating_sub(32) / 2);
+    let part = &bytes[..most];
+    let len = text_len(part);
+    if len < 19 {
         return 0;
     }
-    out.put_units::<E>(&bytes[..len]);
+    out.put_units::<E>(&part[..len]);
     len
 }
 
@@ -427,6 +428,19 @@ fn most_copied<O: Output>(is_ample: bool, bytes: &[u8], out: &O) -> usize
         return bytes.len();
     }
     bytes.len().min(out.room())
+}
+
+// The number of the bytes of UTF-8 whose units fit: a byte gives at most one unit.
+#[inline(always)]
+fn most_doubled<O: Output>(is_ample: bool, bytes: &[u8], out: &O) -> usize
+    requires { IsTrue is_ample → FitsAll bytes.now (O.room out.now) }
+    ensures within { result ≤ length bytes.now }
+    ensures room { 2 * result ≤ O.room out.now }
+{
+    if is_ample {
+        return bytes.len();
+    }
+    bytes.len().min(out.room() / 2)
 }
 
 // The number of the bytes whose worst-case output fits.

@@ -71,8 +71,8 @@ impl<A: Allocator> BlockOutput for Vec<u8, A> {
 // truncated.
 #[inline(never)]
 fn append_units<A: Allocator, E: ByteOrder>(text: &[u8], out: &mut Vec<u8, A>)
-    requires long { 32 ≤ length text.now }
-    requires room { 3 * length text.now ≤ vec_capacity out.old - vec_len out.old }
+    requires long { 19 ≤ length text.now }
+    requires room { 2 * length text.now + 32 ≤ vec_capacity out.old - vec_len out.old }
     ensures { Extends out.old (utf16_bytes E.HIGH_FIRST text.now 0 (length text.now)) out.new }
 {
     let start = out.len();

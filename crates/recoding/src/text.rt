@@ -8,6 +8,7 @@ ghost use Rattle.recoding.specs.Strict.{BeginsChar, IsFirstPiece, lacking};
 use crate::codes::{len_of_units, put_code_units, put_short};
 use crate::faults::FaultKind;
 use crate::first_pieces::{FirstPiece, first_of_utf8, first_of_utf16};
+use crate::form::Form;
 use crate::next_scalar::{ShownPiece, next_of_utf8, next_of_utf16, next_valid_of_utf16};
 use crate::output::Output;
 use crate::way::Way;
@@ -26,6 +27,10 @@ pub(crate) trait Text {
 
     // Whether the bytes begin with the same piece in each way of replacing.
     const IS_ONE_WAY: bool;
+
+    // The encoding as a value.
+    fn form() -> Form
+        ensures { result ≡ form };
 
     // The piece that begins the bytes; `None` if that depends on what follows them.
     fn next_piece(way: Way<'_>, bytes: &[u8]) -> Option<ShownPiece>
@@ -136,6 +141,11 @@ impl Text for Utf8 {
     const IS_ONE_WAY: bool = false;
 
     #[inline(always)]
+    fn form() -> Form {
+        Form::Utf8
+    }
+
+    #[inline(always)]
     fn next_piece(way: Way<'_>, bytes: &[u8]) -> Option<ShownPiece> {
         next_of_utf8(way, bytes)
     }
@@ -192,6 +202,14 @@ impl<E: ByteOrder> Text for Utf16<E> {
 
     // A maximal subpart is a unit, as a fault is.
     const IS_ONE_WAY: bool = true;
+
+    #[inline(always)]
+    fn form() -> Form {
+        if E::HIGH_FIRST {
+            return Form::Utf16Be;
+        }
+        Form::Utf16Le
+    }
 
     #[inline(always)]
     fn next_piece(_way: Way<'_>, bytes: &[u8]) -> Option<ShownPiece> {
