@@ -7,7 +7,7 @@ ghost use Rattle.recoding.specs.Strict.{PutsText};
 
 use crate::block_output::BlockOutput;
 use crate::form::{Form, WIDEST};
-use crate::kernels::{Copied, Damaged, Kernel, MANY, NOTHING, Narrowed, Turned, Widened, by_forms};
+use crate::kernels::{Copied, Damaged, Kernel, MANY, Narrowed, Turned, Widened, by_forms};
 use crate::next_scalar::{ShownPiece, first_four};
 use crate::output::Output;
 use crate::repair::Repair;
@@ -115,7 +115,7 @@ fn put_near<S: Text, T: Text, K: Kernel<S, T>, O: BlockOutput>(
     if is_near {
         return K::put_damaged(way, is_ample, bytes, out);
     }
-    NOTHING
+    K::put_plain(way, bytes, out)
 }
 
 #[inline(always)]

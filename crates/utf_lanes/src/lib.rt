@@ -21,6 +21,7 @@ mod few_bytes;
 mod look_ups;
 pub mod mending;
 pub mod paired_units;
+pub mod plain_windows;
 pub mod replacements;
 mod shuffles;
 mod slots;
