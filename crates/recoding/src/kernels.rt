@@ -1,11 +1,12 @@
 //! Blocks transcoded from one encoding to another, to any output: copied, widened or narrowed.
-ghost use Rattle.std.specs.Prelude.{◌-◌, ◌+◌, ◌*◌, ◌<◌, ◌≤◌, length, slice_range, IsTrue, IsFalse, IsUtf8};
+ghost use Rattle.std.specs.Prelude.{◌≡◌, ◌-◌, ◌+◌, ◌*◌, ◌<◌, ◌≤◌, length, slice_index, slice_range, IfNone, IfSome, IsTrue, IsFalse, IsUtf8};
 ghost use Rattle.recoding.specs.Recodes.{FitsAll};
 ghost use Rattle.recoding.specs.Replacing.{Recodes};
 ghost use Rattle.recoding.specs.Strict.{PutsText};
 ghost use Rattle.recoding.specs.NextScalars.{utf16_form};
 ghost use Rattle.recoding.specs.declared.form.Form.TheVariants as form;
-ghost use Rattle.utf_lanes.specs.Utf8ToUtf16.{utf16_bytes};
+ghost use Rattle.utf_lanes.specs.PlainWindows.{plain_unit};
+ghost use Rattle.utf_lanes.specs.Utf8ToUtf16.{concat_range, utf16_bytes};
 
 use crate::ascii_to_utf16::{put_ascii_64, put_ascii_as_utf16, put_ascii_front};
 use crate::block_output::BlockOutput;
@@ -276,8 +277,11 @@ fn widen_damaged<F: Windowed, O: BlockOutput, E: ByteOrder>(
 
 // Returns false if there is no plain window at the front of the bytes: this takes less time than to look at all of one.
 #[inline(always)]
-fn may_be_plain(bytes: &[u8]) -> bool {
-    PLAIN <= bytes.len() && bytes[0] & bytes[1] < 0x80
+fn may_be_plain(bytes: &[u8]) -> bool
+    ensures enough { IsTrue result → PLAIN ≤ length bytes.now }
+    ensures first { IsTrue result → 0x80 ≤ slice_index bytes.now 0 → slice_index bytes.now 1 < 0x80 }
+{
+    PLAIN <= bytes.len() && (bytes[0] < 0x80 || bytes[1] < 0x80)
 }
 
 // `put_plain`, outlined.
@@ -338,6 +342,9 @@ fn put_plain_window<F: Windowed, O: Output, E: ByteOrder>(
 // Appends the units of the first 64 bytes, of which each is ASCII, or is replaced by U+FFFD.
 #[inline(always)]
 fn put_plain_64<O: Output, E: ByteOrder>(bytes: &[u8], out: &mut O)
+    requires enough { 64 ≤ length bytes.now }
+    requires room { 128 ≤ O.room out.old }
+    ensures { O.appends out.old (concat_range (λ k. plain_unit E.HIGH_FIRST (slice_index bytes.now k)) 0 64) out.new }
 {
     let (first, second) = plain_units::<E>(bytes, 0);
     out.put_wide(first);

@@ -32,11 +32,11 @@ ascii_text xs low = IsUtf8-from_ascii xs (λ i. each xs low i)
     each (x ∷ xs) low (suc i) = each xs (λ k ge lt. low (suc k) (omega arith) (omega arith)) i
 
 -- The offsets of two vectors of d lanes, side by side.
-abbrev side_places : ℕ → ℕ → ℕ → List ℕ
+abbrev pub side_places : ℕ → ℕ → ℕ → List ℕ
 side_places d p zero = []
 side_places d p (suc n) = p ∷ (p + d) ∷ side_places d (suc p) n
 
-beside : (ys : List ℕ) (d p n : ℕ) → map (λ k. get_or ys k 0) (side_places d p n) ≡ concat_range (λ k. get_or ys k 0 ∷ get_or ys (k + d) 0 ∷ []) p n
+pub beside : (ys : List ℕ) (d p n : ℕ) → map (λ k. get_or ys k 0) (side_places d p n) ≡ concat_range (λ k. get_or ys k 0 ∷ get_or ys (k + d) 0 ∷ []) p n
 unfolding concat_range
 beside ys d p zero = refl
 beside ys d p (suc n) = ap (λ zs. get_or ys p 0 ∷ get_or ys (p + d) 0 ∷ zs) (beside ys d (suc p) n)
