@@ -270,7 +270,7 @@ Recodes-part {way = way} {to = to} {bytes = bytes} {n = n} {k = k} count le f =
 -- Text after what was transcoded.
 
 module _ {O : Type 0} {appends : O → List ℕ → O → Type 0} {way : Way} {bytes : List ℕ} {p end k : ℕ} {old mid new : O} (law : (a b c : O) (xs ys : List ℕ) → appends a xs b → appends b ys c → appends a (xs ++ ys) c) where
-  text_on : {to : Form} → Recodes appends way Utf8 to bytes old mid p k → p ≤ end → PutsText appends Utf8 to (drop p bytes) mid new (end - p) → Recodes appends way Utf8 to bytes old new end k
+  pub text_on : {to : Form} → Recodes appends way Utf8 to bytes old mid p k → p ≤ end → PutsText appends Utf8 to (drop p bytes) mid new (end - p) → Recodes appends way Utf8 to bytes old new end k
   text_on {to} f le t =
       let e : p + (end - p) ≡ end = omega arith in
       subst (λ q. Recodes appends way Utf8 to bytes old new q k) e (Recodes-text law f (rw (take_rest bytes p) t))

@@ -20,7 +20,10 @@ use Rattle.recoding.specs.declared.form.Form.TheVariants.{Utf8}
 use Rattle.recoding.specs.declared.way.Way.{Way}
 use Rattle.recoding.proofs.AsciiToUtf16.{unit_written}
 use Rattle.recoding.proofs.CopiedUnits.{as_written}
-use Rattle.recoding.proofs.MendedRuns.{code_then, count_first, parts_become, parts_short}
+use Rattle.recoding.specs.UnitRuns.{widened}
+use Rattle.recoding.proofs.AsciiToUtf16.{PutsText-widened, ascii_front}
+use Rattle.recoding.proofs.MendedRuns.{code_then, count_first, parts_become, parts_short, text_on}
+use Rattle.recoding.proofs.Recodes.{Recodes-none}
 
 -- The parts of such bytes: each byte is one.
 
@@ -38,7 +41,7 @@ parts_each subparts xs p (suc n) each =
 parts_follow : (xs : List ℕ) (p n q : ℕ) → p + n ≡ q → Follow p (plain_parts xs p n) q
 unfolding plain_parts
 parts_follow xs p zero q e = omega arith
-parts_follow xs p (suc n) q e = let next : suc p ≡ p + 1 = omega arith in (refl, rw next at (parts_follow xs (suc p) n q (omega arith)))
+parts_follow xs p (suc n) q e = let next : suc p ≡ p + 1 = omega arith in (refl, subst (λ i. Follow i (plain_parts xs (suc p) n) q) next (parts_follow xs (suc p) n q (omega arith)))
 
 one_counted : (b : ℕ) → cond (is_none (char_alone b)) 1 0 ≡ cond {A = ℕ} (leb 0x80 b) 1 0
 one_counted b = elim (cases_lt b 0x80) [
@@ -68,7 +71,7 @@ module _ (way : Way) (high : Bool) (to : Form) (form : HasByteOrder high to) (sa
   ]
 
   parts_codes : (xs : List ℕ) (p n : ℕ) → concat_range (λ k. plain_unit high (get_or xs k 0)) p n ≡ flat_map (written to) (all_shown (byte_shown way) xs (plain_parts xs p n))
-  unfolding plain_parts, concat_range
+  unfolding plain_parts concat_range
   parts_codes xs p zero = refl
   parts_codes xs p (suc n) =
       let b = get_or xs p 0 in
@@ -91,6 +94,13 @@ Recodes-plain {appends = appends} {way = way} {to = to} {xs = xs} {old = old} {n
       few = omega (arith, plain.count, count_by-le-length (leb 0x80) (take 64 xs), length-take 64 xs);
       becomes = rw (sym count) at (parts_become way to xs ps 0 64 each follow (omega arith));
     }
+
+-- a window of ASCII
+pub Recodes-ascii : {O : Type 0} {appends : O → List ℕ → O → Type 0} {way : Way} {to : Form} {xs : List ℕ} {old new : O} (high : Bool) → HasByteOrder high to → ((a : O) → appends a [] a)
+    → ((a b c : O) (xs ys : List ℕ) → appends a xs b → appends b ys c → appends a (xs ++ ys) c) → 64 ≤ length xs → ((k : ℕ) → k < 64 → get_or xs (0 + k) 0 < 0x80) → appends old (widened high (take 64 xs)) new
+    → Recodes appends way Utf8 to xs old new 64 0
+Recodes-ascii {xs = xs} high form none more enough low put =
+    text_on more (Recodes-none none) (omega arith) (PutsText-widened high form enough (ascii_front xs 64 (λ k ge lt. let at : 0 + k ≡ k = omega arith in rw at at (low k lt))) put)
 
 -- the two vectors of a window
 pub window_units : (high : Bool) (xs first second : List ℕ) → first ≡ concat_range (λ k. plain_unit high (get_or xs k 0)) 0 32 → second ≡ concat_range (λ k. plain_unit high (get_or xs k 0)) 32 32
