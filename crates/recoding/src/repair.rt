@@ -121,13 +121,6 @@ impl Mending for Repair<'_> {
     }
 
     #[inline(always)]
-    fn is_replacement() -> bool
-        ensures { result ≡ false }
-    {
-        false
-    }
-
-    #[inline(always)]
     fn code(self, byte: u8) -> ([u8; 3], usize)
         ensures { IsCodeShown (char_for self.entry.chars.now byte) result.0 result.1 }
     {

@@ -1,9 +1,9 @@
 -- Windows of 64 bytes of which each is ASCII, or is invalid by itself; and their units.
-use Rattle.std.proofs.Common.{◌≡◌, ℕ, ◌+◌, ◌-◌, ◌*◌, ◌/◌, ◌^◌, ◌<◌, ◌≤◌, Bool, true, false, cond, leb, ltb, List, [], ◌∷◌, ◌++◌, map, length, get_or, take, drop, replicate, min, max, bit_and, bit_or, count_ones, refl, sym, ap, ap₂, ◌∙◌, inl, inr, arith, lit<, lit≤, w8, Fits, Some, None, length-take, length-drop}
-use Rattle.std.proofs.lemmas.Bool.{cases_eq, cases_lt}
+use Rattle.std.proofs.Common.{◌≡◌, ℕ, ◌+◌, ◌-◌, ◌/◌, ◌<◌, ◌≤◌, Bool, true, false, cond, leb, List, length, get_or, take, drop, replicate, min, max, bit_and, bit_or, count_ones, refl, sym, ap, ap₂, ◌∙◌, inl, inr, arith, lit<, lit≤, Some, None, length-take, length-drop}
+use Rattle.std.proofs.lemmas.Bool.{cases_lt}
 use Rattle.std.proofs.lemmas.Grind.{common_steps}
 use Rattle.std.proofs.lemmas.List.{get_or-drop, get_or-take}
-use Rattle.std.proofs.lemmas.Nat.Bits.{bit_at-lt, bit_at-pow_same, bit_at-zero, bit_at_and, bit_at_or}
+use Rattle.std.proofs.lemmas.Nat.Bits.{bit_at-pow_same, bit_at-zero, bit_at_and, bit_at_or}
 use Rattle.std.proofs.lemmas.Simd.{get_or-chunk, get_or-replicate, length-chunk, ones-mask_l}
 use Rattle.std.proofs.Common.{le-leb, lt-ltb, le-ltb}
 use Rattle.std.proofs.lemmas.Bool.{lt-leb}
@@ -21,12 +21,10 @@ use Rattle.utf_lanes.specs.FaultMasks.{AreSetWhere}
 use Rattle.utf_lanes.specs.Mending.{IsMendedAt}
 use Rattle.utf_lanes.specs.PlainWindows.{ArePlain, char_alone, plain_unit}
 use Rattle.utf_lanes.specs.Utf8ToUtf16.{concat_range, halves, halves_at}
-use Rattle.utf_lanes.proofs.AsciiTexts.{beside, side_places}
 use Rattle.utf_lanes.proofs.Joined.{joined_same}
 use Rattle.utf_lanes.proofs.LaneLemmas.{reach_mask, reach_mask_is}
 use Rattle.utf_lanes.proofs.MaskBits.{shr_bit}
-use Rattle.utf_lanes.proofs.PassedLanes.{chosen, chosen_at, chosen_len}
-use Rattle.std.proofs.lemmas.List.{get_or_append_left, get_or-append_right, length-replicate}
+use Rattle.utf_lanes.proofs.PassedLanes.{chosen, chosen_at}
 
 -- the code of a character that is not ASCII begins with two bytes that are not either
 long_code : (s : ℕ) → IsScalar s → 0x80 ≤ s → (2 ≤ length (utf8 s)) × (0x80 ≤ get_or (utf8 s) 0 0)
@@ -136,15 +134,6 @@ plain_window xs m long told apart count = record {
 pub others_counted : (xs : List ℕ) (place : ℕ) → place + 64 ≤ length xs → count_ones (reach_mask 64 0x80 (chunk place 64 xs)) ≡ count_by (leb 0x80) (chunk place 64 xs)
 others_counted xs place within =
     ap count_ones (reach_mask_is 0x80 (chunk place 64 xs) (lit≤ tt) (length-chunk place 64 xs within)) ∙ ones-mask_l (leb 0x80) (chunk place 64 xs)
-
--- Two vectors side by side.
-module _ (d : ℕ) (xs ys : List ℕ) (p : length xs ≡ d) (q : length ys ≡ d) where
-  pub lanes_beside : (i n : ℕ) → i + n ≤ d → map (λ k. get_or (xs ++ ys) k 0) (side_places d i n) ≡ concat_range (λ k. get_or xs k 0 ∷ get_or ys k 0 ∷ []) i n
-  lanes_beside i n within =
-      beside (xs ++ ys) d i n ∙ joined_same _ _ i n (λ k ge lt.
-      let back : k + d - d ≡ k = omega arith in
-      ap₂ (λ x y. x ∷ y ∷ []) (get_or_append_left xs ys 0 k (omega arith))
-      (get_or-append_right xs ys d (k + d) 0 p (omega arith) ∙ ap (λ j. get_or ys j 0) back))
 
 -- The halves of the units of bytes.
 module _ (xs : List ℕ) (place : ℕ) (within : place + 64 ≤ length xs) where

@@ -3,9 +3,10 @@ ghost use Rattle.std.specs.Prelude.{◌≡◌, ◌+◌, ◌<◌, ◌≤◌, ℕ,
 ghost use Rattle.std.specs.Int.{bit_at};
 ghost use Rattle.utf_lanes.specs.FaultMasks.{AreSetWhere};
 ghost use Rattle.utf_lanes.specs.PlainWindows.{ArePlain, plain_unit};
-ghost use Rattle.utf_lanes.specs.Utf8ToUtf16.{concat_range, halves_at};
+ghost use Rattle.utf_lanes.specs.Utf8ToUtf16.{concat_range};
 
 use crate::byte_order::ByteOrder;
+use crate::text_units::interleave_wide;
 use std::simd::prelude::*;
 
 /// Returns the number of bytes among 64 that are not ASCII, if ASCII follows each of them: then each is invalid by
@@ -55,18 +56,5 @@ pub fn plain_units<E: ByteOrder>(bytes: &[u8], place: usize) -> (u8x64, u8x64)
     let is_other = here.simd_ge(u8x64::splat(0x80));
     let low = is_other.select(u8x64::splat(0xfd), here);
     let high = is_other.select(u8x64::splat(0xff), u8x64::splat(0));
-    interleaved::<E>(low, high)
-}
-
-// The low and the high halves of units, side by side.
-#[inline(always)]
-fn interleaved<E: ByteOrder>(low: u8x64, high: u8x64) -> (u8x64, u8x64)
-    ensures first { result.0 ≡ concat_range (halves_at E.HIGH_FIRST low high) 0 32 }
-    ensures second { result.1 ≡ concat_range (halves_at E.HIGH_FIRST low high) 32 32 }
-{
-    if E::HIGH_FIRST {
-        high.interleave(low)
-    } else {
-        low.interleave(high)
-    }
+    interleave_wide::<E>(low, high)
 }

@@ -4,7 +4,7 @@ ghost use Rattle.utf_lanes.specs.Mending.{IsCodeShown};
 
 /// What replaces invalid bytes.
 pub trait Mending: Copy + Drop {
-    ghost use Rattle.std.specs.Prelude.{◌≡◌, ℕ, Bool, IsTrue, Option, Some};
+    ghost use Rattle.std.specs.Prelude.{ℕ, Bool, Option};
 
     ghost subparts: { Bool };
 
@@ -14,10 +14,6 @@ pub trait Mending: Copy + Drop {
     /// Whether each maximal subpart is replaced, and not each invalid byte.
     fn is_by_subparts() -> bool
         ensures { result ≡ subparts };
-
-    /// Returns true if U+FFFD replaces whatever is invalid.
-    fn is_replacement() -> bool
-        ensures { IsTrue result → (by : Self) (byte : ℕ) → shown by byte ≡ Some 0xFFFD };
 
     /// The code of the character that replaces an invalid byte, and its length: at most three bytes, or 0 if none does.
     fn code(self, byte: u8) -> ([u8; 3], usize)
@@ -48,11 +44,6 @@ impl Mending for Each {
     }
 
     #[inline(always)]
-    fn is_replacement() -> bool {
-        true
-    }
-
-    #[inline(always)]
     #[tactic(auto, using(crate::proofs::MendedTexts::replacement_code))]
     fn code(self, _byte: u8) -> ([u8; 3], usize) {
         (REPLACEMENT, 3)
@@ -68,11 +59,6 @@ impl Mending for Subparts {
 
     #[inline(always)]
     fn is_by_subparts() -> bool {
-        true
-    }
-
-    #[inline(always)]
-    fn is_replacement() -> bool {
         true
     }
 

@@ -1,6 +1,6 @@
 use Rattle.std.proofs.Common.{sym, ◌∙◌, arith}
-use Rattle.utf_lanes.proofs.PlainWindows.{lanes_beside}
-use Rattle.utf_lanes.proofs.plain_windows.interleaved.Goals as goal
+use Rattle.utf_lanes.proofs.AsciiTexts.{lanes_beside}
+use Rattle.utf_lanes.proofs.text_units.interleave_wide.Goals as goal
 
 pub returns-then-HIGH_FIRST-clause-first : goal.returns-then-HIGH_FIRST-clause-first
 returns-then-HIGH_FIRST-clause-first g c = rw (sym c.HIGH_FIRST.ensures ∙ c.if-HIGH_FIRST.true) (lanes_beside 64 c.args.high c.args.low c.fits-high.0 c.fits-low.0 0 32 (omega arith))
