@@ -100,7 +100,7 @@ pub(crate) fn run<S: Text, T: Text, K: Kernel<S, T>, O: BlockOutput>(
     }
 }
 
-// Transcodes damaged bytes in windows, if faults are near.
+// Transcodes damaged bytes in windows: in all if faults are near, otherwise only in those that cost little.
 #[inline(always)]
 fn put_near<S: Text, T: Text, K: Kernel<S, T>, O: BlockOutput>(
     way: Way<'_>,

@@ -85,8 +85,8 @@ pub(crate) trait Kernel<S: Text, T: Text> {
         NOTHING
     }
 
-    // Transcodes damaged bytes in windows that need no text between, as far as there is capacity; nothing if this pair
-    // of encodings has none.
+    // Transcodes damaged bytes in windows that cost little to set up, so that a single fault is worth one, as far as
+    // there is capacity; nothing if this pair of encodings has none.
     fn put_plain<O: BlockOutput>(_way: Way<'_>, _bytes: &[u8], _out: &mut O) -> Damaged
         ensures { Recodes O.appends _way.entry S.form T.form _bytes.now _out.old _out.new result.read result.replaced }
     {
@@ -240,7 +240,8 @@ impl<E: ByteOrder> Kernel<Utf8, Utf16<E>> for Widened {
     }
 }
 
-// Appends the units of damaged bytes, mended, up to the last few: between damaged windows also those of text.
+// Appends the units of damaged bytes, mended, up to the last few: between damaged windows also those of plain windows
+// and of text.
 #[inline(never)]
 fn widen_damaged<F: Windowed, O: BlockOutput, E: ByteOrder>(
     by: F,
@@ -293,7 +294,8 @@ fn widen_plain<F: Windowed, O: Output, E: ByteOrder>(by: F, bytes: &[u8], out: &
     put_plain::<F, O, E>(by, bytes, out)
 }
 
-// Appends the units of the windows at the front of the bytes in which each byte is ASCII, or is replaced by itself.
+// Appends the units of the plain windows at the front of the bytes: in these each byte is ASCII, or is replaced by
+// itself.
 #[inline(always)]
 fn put_plain<F: Windowed, O: Output, E: ByteOrder>(by: F, bytes: &[u8], out: &mut O) -> Damaged
     ensures { Recodes O.appends (F.way by) form.Utf8 (utf16_form E.HIGH_FIRST) bytes.now
@@ -363,9 +365,8 @@ fn put_mended<O: BlockOutput, E: ByteOrder>(text: &[u8], out: &mut O)
     }
 }
 
-// Appends the units of the text that begins at an offset, at most those of a part, as far as the worst-case output
-// fits. Returns where it ends. Of text that begins with blocks of ASCII it takes only those: the window of the next
-// invalid byte takes the few bytes after them too.
+// Appends the units of the text that begins at an offset, at most those of a part, if it is long enough and the
+// worst-case output fits. Returns where it ends.
 #[inline(always)]
 fn put_next_text<O: BlockOutput, E: ByteOrder>(bytes: &[u8], place: usize, out: &mut O) -> usize
     requires { place ≤ length bytes.now }

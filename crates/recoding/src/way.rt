@@ -29,7 +29,7 @@ pub(crate) trait Replacing<'a>: Copy + Drop {
 // A way of replacing that windows have: each fault of UTF-8, or each maximal subpart, becomes what its first byte
 // decides.
 pub(crate) trait Windowed: Mending {
-    ghost use Rattle.std.specs.Prelude.{◌≡◌, ℕ, IsTrue, Some};
+    ghost use Rattle.std.specs.Prelude.{◌≡◌};
     ghost use Rattle.recoding.specs.Replacing.{byte_shown, joins};
     ghost use Rattle.recoding.specs.declared.way.Way.{Way};
 
@@ -38,10 +38,6 @@ pub(crate) trait Windowed: Mending {
     ghost joined: { (by : Self) → Self.subparts ≡ joins (way by) };
 
     ghost windowed: { (by : Self) → Self.shown by ≡ byte_shown (way by) };
-
-    // Returns true if U+FFFD replaces whatever is invalid.
-    fn is_replacement() -> bool
-        ensures { IsTrue result → (by : Self) (byte : ℕ) → byte_shown (way by) byte ≡ Some 0xFFFD };
 }
 
 impl<'a> Replacing<'a> for Way<'a> {
@@ -95,11 +91,6 @@ impl Windowed for Each {
     ghost joined = { λ by. refl };
 
     ghost windowed = { λ by. refl };
-
-    #[inline(always)]
-    fn is_replacement() -> bool {
-        true
-    }
 }
 
 impl Windowed for Subparts {
@@ -111,11 +102,6 @@ impl Windowed for Subparts {
     ghost joined = { λ by. refl };
 
     ghost windowed = { λ by. refl };
-
-    #[inline(always)]
-    fn is_replacement() -> bool {
-        true
-    }
 }
 
 impl Windowed for Repair<'_> {
@@ -127,9 +113,4 @@ impl Windowed for Repair<'_> {
     ghost joined = { λ by. refl };
 
     ghost windowed = { λ by. refl };
-
-    #[inline(always)]
-    fn is_replacement() -> bool {
-        false
-    }
 }

@@ -224,13 +224,13 @@ pub fn interleave_zeros_wide<E: ByteOrder>(bytes: u8x64) -> (u8x64, u8x64)
 
 // The halves of units, side by side: of the first 32 units, and of the others.
 #[inline(always)]
-pub(crate) fn interleave_wide<E: ByteOrder>(low: u8x64, high: u8x64) -> (u8x64, u8x64)
-    ensures first { result.0 ≡ concat_range (halves_at E.HIGH_FIRST low high) 0 32 }
-    ensures second { result.1 ≡ concat_range (halves_at E.HIGH_FIRST low high) 32 32 }
+pub(crate) fn interleave_wide<E: ByteOrder>(lows: u8x64, highs: u8x64) -> (u8x64, u8x64)
+    ensures first { result.0 ≡ concat_range (halves_at E.HIGH_FIRST lows highs) 0 32 }
+    ensures second { result.1 ≡ concat_range (halves_at E.HIGH_FIRST lows highs) 32 32 }
 {
     if E::HIGH_FIRST {
-        high.interleave(low)
+        highs.interleave(lows)
     } else {
-        low.interleave(high)
+        lows.interleave(highs)
     }
 }

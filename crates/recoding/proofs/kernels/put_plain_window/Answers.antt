@@ -1,4 +1,4 @@
-use Rattle.std.proofs.Common.{arith}
+use Rattle.std.proofs.Common.{arith, ap, sym, ◌∙◌}
 use Rattle.recoding.proofs.Forms.{is_utf16}
 use Rattle.recoding.proofs.PlainRuns.{Recodes-ascii, Recodes-plain}
 use Rattle.recoding.proofs.kernels.put_plain_window.Goals as goal
@@ -9,5 +9,5 @@ returns-then-is_ascii_block-clause-some g c =
 
 pub returns-clause-some : goal.returns-clause-some
 returns-clause-some g c =
-    Recodes-plain g.E.ByteOrder.HIGH_FIRST (is_utf16 _) (c.is_replacement.ensures c.if-not-is_replacement.false c.args.by) c.requires.enough c.in_ok-faults.ensures
+    Recodes-plain g.E.ByteOrder.HIGH_FIRST (is_utf16 _) (λ byte. ap (λ f. f byte) (sym (g.met.F.Windowed.windowed c.args.by)) ∙ c.is_replacement.ensures c.if-not-is_replacement.false c.args.by byte) c.requires.enough c.in_ok-faults.ensures
     c.put_plain_64.ensures
