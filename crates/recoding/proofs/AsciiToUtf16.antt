@@ -80,7 +80,7 @@ unit_bytes : (high : Bool) (b : ℕ) → b < 0x80 → flat_map (bytes_of high) (
 unit_bytes true b lt = let high_byte : b / 256 ≡ 0 = omega arith in let low_byte : b % 256 ≡ b = omega arith in rw (high_byte, low_byte) refl
 unit_bytes false b lt = let high_byte : b / 256 ≡ 0 = omega arith in let low_byte : b % 256 ≡ b = omega arith in rw (high_byte, low_byte) refl
 
-unit_written : (high : Bool) (to : Form) (b : ℕ) → HasByteOrder high to → b < 0x80 → written to b ≡ halves high b 0
+pub unit_written : (high : Bool) (to : Form) (b : ℕ) → HasByteOrder high to → b < 0x80 → written to b ≡ halves high b 0
 unit_written high to b form lt = as_written high to b form ∙ rw (utf16-1 b (omega arith)) (unit_bytes high b lt)
 
 units_written : (high : Bool) (to : Form) (xs : List ℕ) → HasByteOrder high to → AreAscii xs 0 (length xs) → flat_map (written to) xs ≡ widened high xs

@@ -123,7 +123,7 @@ part_scalar way xs p n None h s e = byte_scalar way (get_or xs p 0) s e
 
 -- All parts, one after another.
 
-count_first : (x : Piece) (ps : List Piece) → cond (is_none x.char) 1 0 + count_by (λ y. is_none y.char) ps ≡ count_by (λ y. is_none y.char) (x ∷ ps)
+pub count_first : (x : Piece) (ps : List Piece) → cond (is_none x.char) 1 0 + count_by (λ y. is_none y.char) ps ≡ count_by (λ y. is_none y.char) (x ∷ ps)
 count_first x ps =
     let one : cond (is_none x.char) 1 0 ≡ 0 + cond (is_none x.char) 1 0 = omega arith in
     ap (λ n. n + count_by (λ y. is_none y.char) ps) one ∙ sym (sum_by-append (λ y. cond (is_none y.char) 1 0) (x ∷ []) ps)
@@ -133,11 +133,11 @@ follow_up i [] j f = omega arith
 follow_up i (x ∷ ps) j f = let more = follow_up (end_of x) ps j f.1 in omega (arith, f.0)
 
 -- the code of at most one scalar, and those of others
-code_then : (to : Form) (c : Option ℕ) (ss : List ℕ) → code_of to c ++ flat_map (written to) ss ≡ flat_map (written to) (scalars_of c ++ ss)
+pub code_then : (to : Form) (c : Option ℕ) (ss : List ℕ) → code_of to c ++ flat_map (written to) ss ≡ flat_map (written to) (scalars_of c ++ ss)
 code_then to None ss = refl
 code_then to (Some s) ss = refl
 
-parts_become : (way : Way) (to : Form) (xs : List ℕ) (ps : List Piece) (i j : ℕ) → All (λ x. IsMendedAt (joins way) xs x.start x.len x.char) ps → Follow i ps j → j + 3 ≤ length xs
+pub parts_become : (way : Way) (to : Form) (xs : List ℕ) (ps : List Piece) (i j : ℕ) → All (λ x. IsMendedAt (joins way) xs x.start x.len x.char) ps → Follow i ps j → j + 3 ≤ length xs
     → Becomes way Utf8 to (take (j - i + 3) (drop i xs)) (flat_map (written to) (all_shown (byte_shown way) xs ps)) (count_by (λ x. is_none x.char) ps) (take 3 (drop j xs))
 parts_become way to xs [] i j each f le =
     let e : j - i + 3 ≡ 3 = omega arith in
@@ -174,7 +174,7 @@ scalars_shown way xs (x ∷ ps) each =
     (scalars_shown way xs ps (λ k d lt. each (suc k) d (omega arith)))
 
 -- The codes of all parts have at most three bytes for each byte of these.
-parts_short : (way : Way) (to : Form) (xs : List ℕ) (ps : List Piece) (i j : ℕ) → All (λ x. IsMendedAt (joins way) xs x.start x.len x.char) ps → Follow i ps j → j + 3 ≤ length xs
+pub parts_short : (way : Way) (to : Form) (xs : List ℕ) (ps : List Piece) (i j : ℕ) → All (λ x. IsMendedAt (joins way) xs x.start x.len x.char) ps → Follow i ps j → j + 3 ≤ length xs
     → length (flat_map (written to) (all_shown (byte_shown way) xs ps)) ≤ 3 * (j - i)
 parts_short way to xs [] i j each f le = omega arith
 parts_short way to xs (x ∷ ps) i j each f le =
@@ -270,7 +270,7 @@ Recodes-part {way = way} {to = to} {bytes = bytes} {n = n} {k = k} count le f =
 -- Text after what was transcoded.
 
 module _ {O : Type 0} {appends : O → List ℕ → O → Type 0} {way : Way} {bytes : List ℕ} {p end k : ℕ} {old mid new : O} (law : (a b c : O) (xs ys : List ℕ) → appends a xs b → appends b ys c → appends a (xs ++ ys) c) where
-  text_on : {to : Form} → Recodes appends way Utf8 to bytes old mid p k → p ≤ end → PutsText appends Utf8 to (drop p bytes) mid new (end - p) → Recodes appends way Utf8 to bytes old new end k
+  pub text_on : {to : Form} → Recodes appends way Utf8 to bytes old mid p k → p ≤ end → PutsText appends Utf8 to (drop p bytes) mid new (end - p) → Recodes appends way Utf8 to bytes old new end k
   text_on {to} f le t =
       let e : p + (end - p) ≡ end = omega arith in
       subst (λ q. Recodes appends way Utf8 to bytes old new q k) e (Recodes-text law f (rw (take_rest bytes p) t))

@@ -47,7 +47,7 @@ pub(crate) fn put_ascii_front<O: Output, E: ByteOrder>(bytes: &[u8], out: &mut O
 
 // Widens one 64-byte ASCII block.
 #[inline(always)]
-fn put_ascii_64<O: Output, E: ByteOrder>(bytes: &[u8], place: usize, out: &mut O)
+pub(crate) fn put_ascii_64<O: Output, E: ByteOrder>(bytes: &[u8], place: usize, out: &mut O)
     requires within { place + 64 ≤ length bytes.now }
     requires room { 128 ≤ O.room out.old }
     ensures { O.appends out.old (widened E.HIGH_FIRST (take 64 (drop place bytes.now))) out.new }

@@ -8,7 +8,7 @@ ghost use Rattle.recoding.specs.Strict.{PutsText};
 use crate::block_output::BlockOutput;
 use crate::form::{Form, WIDEST};
 use crate::form_calls::{next_of, put_shown};
-use crate::kernels::{Copied, Damaged, Kernel, MANY, NOTHING, Narrowed, Turned, Widened, by_forms};
+use crate::kernels::{Copied, Damaged, Kernel, MANY, Narrowed, Turned, Widened, by_forms};
 use crate::next_scalar::{ShownPiece, first_four};
 use crate::output::Output;
 use crate::repair::Repair;
@@ -101,7 +101,7 @@ pub(crate) fn run<S: Text, T: Text, K: Kernel<S, T>, O: BlockOutput>(
     }
 }
 
-// Transcodes damaged bytes in windows, if faults are near.
+// Transcodes damaged bytes in windows: in all if faults are near, otherwise only in those that cost little.
 #[inline(always)]
 fn put_near<S: Text, T: Text, K: Kernel<S, T>, O: BlockOutput>(
     way: Way<'_>,
@@ -116,7 +116,7 @@ fn put_near<S: Text, T: Text, K: Kernel<S, T>, O: BlockOutput>(
     if is_near {
         return K::put_damaged(way, is_ample, bytes, out);
     }
-    NOTHING
+    K::put_plain(way, bytes, out)
 }
 
 #[inline(always)]

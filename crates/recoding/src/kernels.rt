@@ -1,13 +1,14 @@
 //! Blocks transcoded from one encoding to another, to any output: copied, widened or narrowed.
-ghost use Rattle.std.specs.Prelude.{◌-◌, ◌+◌, ◌*◌, ◌<◌, ◌≤◌, length, slice_range, IsTrue, IsFalse, IsUtf8};
+ghost use Rattle.std.specs.Prelude.{◌≡◌, ◌-◌, ◌+◌, ◌*◌, ◌<◌, ◌≤◌, length, slice_index, slice_range, IfNone, IfSome, IsTrue, IsFalse, IsUtf8};
 ghost use Rattle.recoding.specs.Recodes.{FitsAll};
 ghost use Rattle.recoding.specs.Replacing.{Recodes};
 ghost use Rattle.recoding.specs.Strict.{PutsText};
 ghost use Rattle.recoding.specs.NextScalars.{utf16_form};
 ghost use Rattle.recoding.specs.declared.form.Form.TheVariants as form;
-ghost use Rattle.utf_lanes.specs.Utf8ToUtf16.{utf16_bytes};
+ghost use Rattle.utf_lanes.specs.PlainWindows.{plain_unit};
+ghost use Rattle.utf_lanes.specs.Utf8ToUtf16.{concat_range, utf16_bytes};
 
-use crate::ascii_to_utf16::{put_ascii_as_utf16, put_ascii_front};
+use crate::ascii_to_utf16::{put_ascii_64, put_ascii_as_utf16, put_ascii_front};
 use crate::block_output::BlockOutput;
 use crate::form::WIDEST;
 use crate::next_scalar::ascii_of_units;
@@ -16,9 +17,10 @@ use crate::repair::Repair;
 use crate::text::{Text, Utf8, Utf16};
 use crate::turned::copy_units;
 use crate::way::{Way, Windowed};
-use utf_lanes::ascii_texts::is_ascii;
+use utf_lanes::ascii_texts::{is_ascii, is_ascii_block};
 use utf_lanes::byte_order::ByteOrder;
 use utf_lanes::mending::{LEAST, MADE, mend};
+use utf_lanes::plain_windows::{lone_count, plain_units};
 use utf_lanes::replacements::{Each, Subparts};
 use utf_lanes::text_blocks::{are_text, ends_character, text_end, text_len};
 use utf_lanes::text_puts::{write_few, write_first, write_rest};
@@ -32,6 +34,9 @@ pub(crate) const MANY: usize = PART - 4;
 
 // The number of bytes of text after which damaged bytes end: faults farther apart take less time one by one.
 const LONG: usize = 1024;
+
+// The number of bytes that have to be left for a plain window: its own, and the three that decide what its last bytes are.
+const PLAIN: usize = 67;
 
 // The greatest number of bytes that are first tested for ASCII. Above this, an error would rescan too much.
 const SHORT: usize = 1024;
@@ -75,6 +80,14 @@ pub(crate) trait Kernel<S: Text, T: Text> {
         _out: &mut O,
     ) -> Damaged
         requires { IsTrue _is_ample → FitsAll _bytes.now (O.room _out.old) }
+        ensures { Recodes O.appends _way.entry S.form T.form _bytes.now _out.old _out.new result.read result.replaced }
+    {
+        NOTHING
+    }
+
+    // Transcodes damaged bytes in windows that cost little to set up, so that a single fault is worth one, as far as
+    // there is capacity; nothing if this pair of encodings has none.
+    fn put_plain<O: BlockOutput>(_way: Way<'_>, _bytes: &[u8], _out: &mut O) -> Damaged
         ensures { Recodes O.appends _way.entry S.form T.form _bytes.now _out.old _out.new result.read result.replaced }
     {
         NOTHING
@@ -213,9 +226,22 @@ impl<E: ByteOrder> Kernel<Utf8, Utf16<E>> for Widened {
             Way::Table(repair) => widen_damaged::<Repair<'_>, O, E>(repair, &bytes[..most], out),
         }
     }
+
+    #[inline(always)]
+    fn put_plain<O: BlockOutput>(way: Way<'_>, bytes: &[u8], out: &mut O) -> Damaged {
+        if !may_be_plain(bytes) {
+            return NOTHING;
+        }
+        match way {
+            Way::Faults => widen_plain::<Each, O, E>(Each, bytes, out),
+            Way::Subparts => widen_plain::<Subparts, O, E>(Subparts, bytes, out),
+            Way::Table(_) => NOTHING,
+        }
+    }
 }
 
-// Appends the units of damaged bytes, mended, up to the last few: between damaged windows also those of text.
+// Appends the units of damaged bytes, mended, up to the last few: between damaged windows also those of plain windows
+// and of text.
 #[inline(never)]
 fn widen_damaged<F: Windowed, O: BlockOutput, E: ByteOrder>(
     by: F,
@@ -236,6 +262,9 @@ fn widen_damaged<F: Windowed, O: BlockOutput, E: ByteOrder>(
         put_mended::<O, E>(&made[..done.len], out);
         read += done.read;
         replaced += done.replaced;
+        let plain = put_plain::<F, O, E>(by, &bytes[read..], out);
+        read += plain.read;
+        replaced += plain.replaced;
         let end = put_next_text::<O, E>(bytes, read, out);
         if LONG <= end - read {
             return Damaged {
@@ -245,6 +274,83 @@ fn widen_damaged<F: Windowed, O: BlockOutput, E: ByteOrder>(
         }
         read = end;
     }
+}
+
+// Returns false if there is no plain window at the front of the bytes: this takes less time than to look at all of one.
+#[inline(always)]
+fn may_be_plain(bytes: &[u8]) -> bool
+    ensures enough { IsTrue result → PLAIN ≤ length bytes.now }
+    ensures first { IsTrue result → 0x80 ≤ slice_index bytes.now 0 → slice_index bytes.now 1 < 0x80 }
+{
+    PLAIN <= bytes.len() && (bytes[0] < 0x80 || bytes[1] < 0x80)
+}
+
+// `put_plain`, outlined.
+#[inline(never)]
+fn widen_plain<F: Windowed, O: Output, E: ByteOrder>(by: F, bytes: &[u8], out: &mut O) -> Damaged
+    ensures { Recodes O.appends (F.way by) form.Utf8 (utf16_form E.HIGH_FIRST) bytes.now
+        out.old out.new result.read result.replaced }
+{
+    put_plain::<F, O, E>(by, bytes, out)
+}
+
+// Appends the units of the plain windows at the front of the bytes: in these each byte is ASCII, or is replaced by
+// itself.
+#[inline(always)]
+fn put_plain<F: Windowed, O: Output, E: ByteOrder>(by: F, bytes: &[u8], out: &mut O) -> Damaged
+    ensures { Recodes O.appends (F.way by) form.Utf8 (utf16_form E.HIGH_FIRST) bytes.now
+        out.old out.new result.read result.replaced }
+{
+    let mut read = 0;
+    let mut replaced = 0;
+    while PLAIN <= bytes.len() - read && 128 <= out.room() {
+        match put_plain_window::<F, O, E>(by, &bytes[read..], out) {
+            None => return Damaged { read, replaced },
+            Some(faults) => {
+                read += 64;
+                replaced += faults;
+            }
+        }
+    }
+    Damaged { read, replaced }
+}
+
+// Appends the units of the first 64 bytes, if each is ASCII, or is replaced by itself. Returns the number of those
+// that are replaced.
+#[inline(always)]
+fn put_plain_window<F: Windowed, O: Output, E: ByteOrder>(
+    by: F,
+    bytes: &[u8],
+    out: &mut O,
+) -> Option<usize>
+    requires enough { PLAIN ≤ length bytes.now }
+    requires room { 128 ≤ O.room out.old }
+    ensures some { IfSome result (λ faults. Recodes O.appends (F.way by) form.Utf8 (utf16_form E.HIGH_FIRST)
+        bytes.now out.old out.new 64 faults) }
+    ensures none { IfNone result (out.new ≡ out.old) }
+{
+    if is_ascii_block(bytes, 0) {
+        put_ascii_64::<O, E>(bytes, 0, out);
+        return Some(0);
+    }
+    if !F::is_replacement() {
+        return None;
+    }
+    let faults = lone_count(bytes, 0)?;
+    put_plain_64::<O, E>(bytes, out);
+    Some(faults)
+}
+
+// Appends the units of the first 64 bytes, of which each is ASCII, or is replaced by U+FFFD.
+#[inline(always)]
+fn put_plain_64<O: Output, E: ByteOrder>(bytes: &[u8], out: &mut O)
+    requires enough { 64 ≤ length bytes.now }
+    requires room { 128 ≤ O.room out.old }
+    ensures { O.appends out.old (concat_range (λ k. plain_unit E.HIGH_FIRST (slice_index bytes.now k)) 0 64) out.new }
+{
+    let (first, second) = plain_units::<E>(bytes, 0);
+    out.put_wide(first);
+    out.put_wide(second);
 }
 
 // Appends the units of a text of 32 bytes or more, or nothing for bytes that were all left out.
@@ -259,9 +365,8 @@ fn put_mended<O: BlockOutput, E: ByteOrder>(text: &[u8], out: &mut O)
     }
 }
 
-// Appends the units of the text that begins at an offset, at most those of a part, as far as the worst-case output
-// fits. Returns where it ends. Of text that begins with blocks of ASCII it takes only those: the window of the next
-// invalid byte takes the few bytes after them too.
+// Appends the units of the text that begins at an offset, at most those of a part, if it is long enough and the
+// worst-case output fits. Returns where it ends.
 #[inline(always)]
 fn put_next_text<O: BlockOutput, E: ByteOrder>(bytes: &[u8], place: usize, out: &mut O) -> usize
     requires { place ≤ length bytes.now }
@@ -271,11 +376,6 @@ fn put_next_text<O: BlockOutput, E: ByteOrder>(bytes: &[u8], place: usize, out: 
     ensures appends { O.appends out.old (utf16_bytes E.HIGH_FIRST (slice_range bytes.now place result) 0
         (length (slice_range bytes.now place result))) out.new }
 {
-    let most = PART.min(bytes.len() - place).min(out.room() / WIDEST);
-    let front = put_ascii_front::<O, E>(&bytes[place..place + most], out);
-    if 0 < front {
-        return place + front;
-    }
     let end = next_text_end(bytes, place);
     if end - place < 32 || out.room() / WIDEST < end - place {
         return place;

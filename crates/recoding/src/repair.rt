@@ -106,6 +106,9 @@ impl<'a> Repair<'a> {
     }
 }
 
+// What replaces a byte depends on the byte.
+const IS_REPLACEMENT: bool = false;
+
 impl Mending for Repair<'_> {
     ghost use Rattle.std.specs.Prelude.{false};
 
@@ -118,6 +121,13 @@ impl Mending for Repair<'_> {
         ensures { result ≡ false }
     {
         false
+    }
+
+    #[inline(always)]
+    fn is_replacement() -> bool
+        ensures { result ≡ false }
+    {
+        IS_REPLACEMENT
     }
 
     #[inline(always)]

@@ -9,7 +9,7 @@ use Rattle.std.proofs.lemmas.Bool.{cases_lt}
 use Rattle.std.proofs.lemmas.Grind.{common_steps}
 use Rattle.std.proofs.lemmas.List.{get_or_append_left, get_or-append_right, length-replicate}
 use Rattle.utf_lanes.specs.TextBlocks.{EndsCharacter}
-use Rattle.utf_lanes.specs.Utf8ToUtf16.{concat_range, utf16_bytes, utf16_bytes_at, ends_unit, halves, unit_low, unit_high}
+use Rattle.utf_lanes.specs.Utf8ToUtf16.{concat_range, utf16_bytes, utf16_bytes_at, ends_unit, halves, halves_at, unit_low, unit_high}
 use Rattle.utf_lanes.proofs.Joined.{joined_same, joined_moved}
 use Rattle.utf_lanes.proofs.TextUnits.{given_here}
 
@@ -41,6 +41,14 @@ unfolding concat_range
 beside ys d p zero = refl
 beside ys d p (suc n) = ap (λ zs. get_or ys p 0 ∷ get_or ys (p + d) 0 ∷ zs) (beside ys d (suc p) n)
 
+module _ (d : ℕ) (xs ys : List ℕ) (p : length xs ≡ d) (q : length ys ≡ d) where
+  pub lanes_beside : (i n : ℕ) → i + n ≤ d → map (λ k. get_or (xs ++ ys) k 0) (side_places d i n) ≡ concat_range (λ k. get_or xs k 0 ∷ get_or ys k 0 ∷ []) i n
+  lanes_beside i n within =
+      beside (xs ++ ys) d i n ∙ joined_same _ _ i n (λ k ge lt.
+      let back : k + d - d ≡ k = omega arith in
+      ap₂ (λ x y. x ∷ y ∷ []) (get_or_append_left xs ys 0 k (omega arith))
+      (get_or-append_right xs ys d (k + d) 0 p (omega arith) ∙ ap (λ j. get_or ys j 0) back))
+
 module _ (d : ℕ) (xs : List ℕ) (long : length xs ≡ d) where
   abbrev nuls : List ℕ
   nuls = replicate d 0
@@ -63,6 +71,10 @@ module _ (d : ℕ) (xs : List ℕ) (long : length xs ≡ d) where
 
   pub nuls_first : (p n : ℕ) → p + n ≤ d → map (λ k. get_or (nuls ++ xs) k 0) (side_places d p n) ≡ concat_range (λ k. halves true (get_or xs k 0) 0) p n
   nuls_first p n within = beside (nuls ++ xs) d p n ∙ joined_same _ _ p n (λ k ge lt. left k (omega arith))
+
+-- beside NULs
+pub nuls_beside : (high : Bool) (xs : List ℕ) (p n : ℕ) → p + n ≤ 64 → concat_range (halves_at high xs (replicate 64 0)) p n ≡ concat_range (λ k. halves high (get_or xs k 0) 0) p n
+nuls_beside high xs p n within = joined_same _ _ p n (λ k ge lt. ap (halves high (get_or xs k 0)) (get_or-replicate {A = ℕ} 64 k 0 0 (omega arith)))
 
 -- the unit of an ASCII byte after bytes that ask for no more
 one_given : (high : Bool) (xs : List ℕ) (k : ℕ) → get_or xs k 0 < 0xF0 → get_or xs (k + 1) 0 < 0xE0 → get_or xs (k + 2) 0 < 0xC0 → get_or xs (k + 3) 0 < 0x80

@@ -1,5 +1,5 @@
 -- The table of kinds: each entry is the kind by the first byte and by what follows it.
-use Rattle.std.proofs.Common.{◌≡◌, ◌⊎◌, lit<, length-drop, ◌↔◌, ℕ, ◌+◌, ◌-◌, ◌*◌, ◌/◌, ◌%◌, ◌<◌, ◌≤◌, List, length, get_or, drop, map, arith, refl, sym, ap, ◌∙◌, subst, Some, None, Bool, Option, true, false, not, ◌&&◌, ◌||◌, inl, inr, if◌then◌else◌, nat_lt, nat_le, ◌==◌, eqb, ltb}
+use Rattle.std.proofs.Common.{◌≡◌, ◌⊎◌, lit<, length-drop, ◌↔◌, ℕ, ◌+◌, ◌-◌, ◌*◌, ◌/◌, ◌%◌, ◌<◌, ◌≤◌, List, length, get_or, drop, map, arith, refl, sym, ap, ◌∙◌, Some, None, Bool, Option, true, false, ◌&&◌, ◌||◌, inl, inr, if◌then◌else◌, nat_lt, nat_le, ◌==◌, eqb, ltb}
 use Rattle.std.proofs.lemmas.Bool.{cases_lt, cases_eq}
 use Rattle.std.proofs.lemmas.Grind.{common_steps}
 use Rattle.std.proofs.lemmas.List.{get_or-drop}
@@ -8,7 +8,7 @@ use Rattle.std.specs.List.{range_with_len}
 use Rattle.utf_base.specs.declared.errors.Utf8ErrorKind.{Utf8ErrorKind}
 use Rattle.utf_base.specs.declared.errors.Utf8ErrorKind.TheVariants.{NonUtf8Byte, UnexpectedContinuationByte, InterruptedSequence, OverlongEncoding, Utf16ReservedCodepoint, TooHighCodepoint}
 use Rattle.utf_base.specs.Code.{utf8}
-use Rattle.utf_base.specs.Kinds.{all_continue, asked_by, fault_kind, is_continuation}
+use Rattle.utf_base.specs.Kinds.{all_continue, fault_kind, is_continuation}
 use Rattle.utf_base.specs.Piece.{IsPieceAt}
 use Rattle.utf_base.specs.Scalar.{IsScalar}
 use Rattle.utf_base.proofs.FrontLemmas.{asked-0, code_where_no_fault, least_value-below_3, least_value-3, least_value-4}

@@ -1,5 +1,5 @@
 -- Bytes that may each follow the three before them, after a place at which those before ask for no more.
-use Rattle.std.proofs.Common.{◌≡◌, ℕ, suc, ◌+◌, ◌-◌, ◌<◌, ◌≤◌, List, ◌∷◌, length, get_or, drop, arith, refl, ap, ◌∙◌, inl, inr, subst, sym, lit<}
+use Rattle.std.proofs.Common.{◌≡◌, ℕ, ◌+◌, ◌-◌, ◌<◌, ◌≤◌, List, ◌∷◌, get_or, drop, arith, refl, ap, ◌∙◌, inl, inr, subst, sym}
 use Rattle.std.proofs.lemmas.Bool.{cases_lt, cases_eq}
 use Rattle.std.proofs.lemmas.List.{get_or-drop}
 use Rattle.utf_lanes.specs.TextBlocks.{AllMayFollow, EndsCharacter, Follows}

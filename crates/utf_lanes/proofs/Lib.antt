@@ -32,3 +32,4 @@ pub mod FaultKinds
 pub mod MendedTexts
 pub mod MendedWindows
 pub mod LaterText
+pub mod PlainWindows

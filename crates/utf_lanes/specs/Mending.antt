@@ -1,5 +1,5 @@
 -- Damaged bytes as text: what is invalid becomes a character, as U+FFFD, or nothing.
-use Rattle.std.specs.Prelude.{◌≡◌, ℕ, ◌+◌, ◌*◌, ◌<◌, ◌≤◌, Bool, false, true, List, [], ◌∷◌, ◌++◌, length, take, flat_map, get_or, Option, Some, None, All, count_by, is_none}
+use Rattle.std.specs.Prelude.{◌≡◌, ℕ, ◌+◌, ◌*◌, ◌<◌, ◌≤◌, Bool, false, true, List, [], ◌∷◌, length, take, flat_map, get_or, Option, Some, None, All, count_by, is_none}
 use Rattle.utf_base.specs.Code.{utf8}
 use Rattle.utf_base.specs.CutLaws.{Follow}
 use Rattle.utf_base.specs.Piece.{IsPieceAt, Piece}

@@ -4,7 +4,7 @@ ghost use Rattle.utf_lanes.specs.Mending.{IsCodeShown};
 
 /// What replaces invalid bytes.
 pub trait Mending: Copy + Drop {
-    ghost use Rattle.std.specs.Prelude.{ℕ, Bool, Option};
+    ghost use Rattle.std.specs.Prelude.{◌≡◌, ℕ, Bool, IsTrue, Option, Some};
 
     ghost subparts: { Bool };
 
@@ -15,6 +15,10 @@ pub trait Mending: Copy + Drop {
     fn is_by_subparts() -> bool
         ensures { result ≡ subparts };
 
+    /// Returns true if U+FFFD replaces whatever is invalid.
+    fn is_replacement() -> bool
+        ensures { IsTrue result → (by : Self) (byte : ℕ) → shown by byte ≡ Some 0xFFFD };
+
     /// The code of the character that replaces an invalid byte, and its length: at most three bytes, or 0 if none does.
     fn code(self, byte: u8) -> ([u8; 3], usize)
         ensures { IsCodeShown (shown self byte) result.0 result.1 };
@@ -22,6 +26,9 @@ pub trait Mending: Copy + Drop {
 
 // The code of U+FFFD.
 const REPLACEMENT: [u8; 3] = [0xef, 0xbf, 0xbd];
+
+// U+FFFD replaces whatever is invalid.
+const IS_REPLACEMENT: bool = true;
 
 /// U+FFFD replaces each invalid byte.
 #[derive(Clone, Copy, Drop)]
@@ -44,6 +51,11 @@ impl Mending for Each {
     }
 
     #[inline(always)]
+    fn is_replacement() -> bool {
+        IS_REPLACEMENT
+    }
+
+    #[inline(always)]
     #[tactic(auto, using(crate::proofs::MendedTexts::replacement_code))]
     fn code(self, _byte: u8) -> ([u8; 3], usize) {
         (REPLACEMENT, 3)
@@ -60,6 +72,11 @@ impl Mending for Subparts {
     #[inline(always)]
     fn is_by_subparts() -> bool {
         true
+    }
+
+    #[inline(always)]
+    fn is_replacement() -> bool {
+        IS_REPLACEMENT
     }
 
     #[inline(always)]

@@ -219,10 +219,18 @@ pub fn interleave_zeros_wide<E: ByteOrder>(bytes: u8x64) -> (u8x64, u8x64)
     ensures first { result.0 ≡ concat_range (λ k. halves E.HIGH_FIRST (slice_index bytes k) 0) 0 32 }
     ensures second { result.1 ≡ concat_range (λ k. halves E.HIGH_FIRST (slice_index bytes k) 0) 32 32 }
 {
-    let nuls = u8x64::splat(0);
+    interleave_wide::<E>(bytes, u8x64::splat(0))
+}
+
+// The halves of units, side by side: of the first 32 units, and of the others.
+#[inline(always)]
+pub(crate) fn interleave_wide<E: ByteOrder>(lows: u8x64, highs: u8x64) -> (u8x64, u8x64)
+    ensures first { result.0 ≡ concat_range (halves_at E.HIGH_FIRST lows highs) 0 32 }
+    ensures second { result.1 ≡ concat_range (halves_at E.HIGH_FIRST lows highs) 32 32 }
+{
     if E::HIGH_FIRST {
-        nuls.interleave(bytes)
+        highs.interleave(lows)
     } else {
-        bytes.interleave(nuls)
+        lows.interleave(highs)
     }
 }

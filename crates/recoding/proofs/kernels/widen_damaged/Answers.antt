@@ -13,7 +13,8 @@ returns-then-end-read-ge-LONG g c =
     let end = c.put_next_text-end.ensures in
     let done = c.mend-done.ensures in
     let short = done.mends.short in
-    let runs = Recodes-then law c.parts.invariant.runs (Recodes-widened g.E.ByteOrder.HIGH_FIRST (is_utf16 _) (mends_by _ (g.met.F.Windowed.joined c.args.by) (g.met.F.Windowed.windowed c.args.by) done.mends) (omega arith) done.left _ refl c.put_mended.ensures) in
+    let mended = Recodes-then law c.parts.invariant.runs (Recodes-widened g.E.ByteOrder.HIGH_FIRST (is_utf16 _) (mends_by _ (g.met.F.Windowed.joined c.args.by) (g.met.F.Windowed.windowed c.args.by) done.mends) (omega arith) done.left _ refl c.put_mended.ensures) in
+    let runs = Recodes-then law mended c.put_plain-plain.ensures in
     Recodes-then-units law g.E.ByteOrder.HIGH_FIRST (is_utf16 _) runs end.least end.within end.text end.appends
 
 pub parts-preserved : goal.parts-preserved
@@ -22,5 +23,6 @@ parts-preserved g c =
     let end = c.put_next_text-end.ensures in
     let done = c.mend-done.ensures in
     let short = done.mends.short in
-    let runs = Recodes-then law c.parts.invariant.runs (Recodes-widened g.E.ByteOrder.HIGH_FIRST (is_utf16 _) (mends_by _ (g.met.F.Windowed.joined c.args.by) (g.met.F.Windowed.windowed c.args.by) done.mends) (omega arith) done.left _ refl c.put_mended.ensures) in
+    let mended = Recodes-then law c.parts.invariant.runs (Recodes-widened g.E.ByteOrder.HIGH_FIRST (is_utf16 _) (mends_by _ (g.met.F.Windowed.joined c.args.by) (g.met.F.Windowed.windowed c.args.by) done.mends) (omega arith) done.left _ refl c.put_mended.ensures) in
+    let runs = Recodes-then law mended c.put_plain-plain.ensures in
     record { room = omega arith; runs = Recodes-then-units law g.E.ByteOrder.HIGH_FIRST (is_utf16 _) runs end.least end.within end.text end.appends }

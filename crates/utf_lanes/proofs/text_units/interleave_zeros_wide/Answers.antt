@@ -1,15 +1,9 @@
-use Rattle.std.proofs.Common.{sym, ◌∙◌, arith}
-use Rattle.utf_lanes.proofs.AsciiTexts.{nuls_first, nuls_second}
+use Rattle.std.proofs.Common.{◌∙◌, arith}
+use Rattle.utf_lanes.proofs.AsciiTexts.{nuls_beside}
 use Rattle.utf_lanes.proofs.text_units.interleave_zeros_wide.Goals as goal
 
-pub returns-then-HIGH_FIRST-clause-first : goal.returns-then-HIGH_FIRST-clause-first
-returns-then-HIGH_FIRST-clause-first g c = rw (sym c.HIGH_FIRST.ensures ∙ c.if-HIGH_FIRST.true) (nuls_first 64 c.args.bytes c.fits-bytes.0 0 32 (omega arith))
+pub returns-clause-first : goal.returns-clause-first
+returns-clause-first g c = c.interleave_wide.ensures.first ∙ nuls_beside g.E.ByteOrder.HIGH_FIRST c.args.bytes 0 32 (omega arith)
 
-pub returns-then-HIGH_FIRST-clause-second : goal.returns-then-HIGH_FIRST-clause-second
-returns-then-HIGH_FIRST-clause-second g c = rw (sym c.HIGH_FIRST.ensures ∙ c.if-HIGH_FIRST.true) (nuls_first 64 c.args.bytes c.fits-bytes.0 32 32 (omega arith))
-
-pub returns-else-HIGH_FIRST-clause-first : goal.returns-else-HIGH_FIRST-clause-first
-returns-else-HIGH_FIRST-clause-first g c = rw (sym c.HIGH_FIRST.ensures ∙ c.if-HIGH_FIRST.false) (nuls_second 64 c.args.bytes c.fits-bytes.0 0 32 (omega arith))
-
-pub returns-else-HIGH_FIRST-clause-second : goal.returns-else-HIGH_FIRST-clause-second
-returns-else-HIGH_FIRST-clause-second g c = rw (sym c.HIGH_FIRST.ensures ∙ c.if-HIGH_FIRST.false) (nuls_second 64 c.args.bytes c.fits-bytes.0 32 32 (omega arith))
+pub returns-clause-second : goal.returns-clause-second
+returns-clause-second g c = c.interleave_wide.ensures.second ∙ nuls_beside g.E.ByteOrder.HIGH_FIRST c.args.bytes 32 32 (omega arith)
