@@ -1,4 +1,4 @@
-use Rattle.std.proofs.Common.{arith, ap, ◌∙◌, ◌++◌, ◌≤◌, length, take, get_or}
+use Rattle.std.proofs.Common.{arith, ap, ◌∙◌, ◌++◌, ◌≤◌, take, get_or}
 use Rattle.utf_lanes.proofs.MendedTexts.{Mends-one, MendsFront-on, few_set, three_len}
 use Rattle.utf_lanes.proofs.mending.put_shown.Goals as goal
 
