@@ -305,7 +305,7 @@ fn recode_faults<'a, S: Text, T: Text, F: Replacing<'a>, O: Output>(
                 stop = read + AFTER_FAULT;
                 T::put_any(S::replacement(by.way(), &bytes[read..]), out);
                 read += len;
-                replaced += 1;
+                replaced += S::count_parts(len);
             }
         }
     }
@@ -341,7 +341,7 @@ fn recode_faults_within<'a, S: Text, T: Text, F: Replacing<'a>, O: Output>(
                     return ended(read, replaced, true, false);
                 }
                 read += len;
-                replaced += 1;
+                replaced += S::count_parts(len);
             }
         }
     }

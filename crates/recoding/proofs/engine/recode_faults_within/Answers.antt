@@ -1,4 +1,5 @@
 use Rattle.std.proofs.Common.{rules, Some}
+use Rattle.recoding.specs.Rooms.{parts_of}
 use Rattle.recoding.proofs.NextPieces.{begins_replaced}
 use Rattle.recoding.proofs.Recodes.{Reaches-full, Reaches-on, Reaches-waiting, Recodes-char, Recodes-code, Recodes-none}
 use Rattle.recoding.proofs.engine.recode_faults_within.Goals as goal
@@ -14,8 +15,8 @@ loop-read-preserved-in-Char g c =
 pub loop-read-preserved : goal.loop-read-preserved
 loop-read-preserved g c =
     let settles = rw (c.way.ensures, c.in-Fault.is) at c.in-Some.ensures.some in
-    let begins = begins_replaced (g.F.Replacing.way c.args.by) g.S.Text.form c.args.bytes.now c.loop-read.read c.in-Fault.len c.replacement-c.result (rw c.way-in-Fault.ensures at c.replacement-c.ensures) settles in
-    Recodes-code g.met.O.Output.appends_more c.replacement-c.result c.loop-read.invariant begins (c.if-not-put_shown.ensures.put (search rules))
+    let begins = begins_replaced (g.F.Replacing.way c.args.by) g.S.Text.form c.args.bytes.now c.loop-read.read c.in-Fault.len (parts_of g.S.Text.form c.in-Fault.len) c.replacement-c.result (rw c.way-in-Fault.ensures at c.replacement-c.ensures) settles in
+    rw c.count_parts-replaced.ensures (Recodes-code g.met.O.Output.appends_more c.replacement-c.result c.loop-read.invariant begins (c.if-not-put_shown.ensures.put (search rules)))
 
 pub returns-in_default-clause-reaches : goal.returns-in_default-clause-reaches
 returns-in_default-clause-reaches g c = rw c.ended.ensures (Reaches-waiting c.loop-read.invariant c.in_default.ensures.few c.in_default.ensures.lacks)
@@ -29,7 +30,7 @@ returns-then-not-put_fitting-clause-reaches g c =
 pub returns-then-not-put_shown-clause-reaches : goal.returns-then-not-put_shown-clause-reaches
 returns-then-not-put_shown-clause-reaches g c =
     let settles = rw (c.way.ensures, c.in-Fault.is) at c.in-Some.ensures.some in
-    let begins = begins_replaced (g.F.Replacing.way c.args.by) g.S.Text.form c.args.bytes.now c.loop-read.read c.in-Fault.len c.replacement-c.result (rw c.way-in-Fault.ensures at c.replacement-c.ensures) settles in
+    let begins = begins_replaced (g.F.Replacing.way c.args.by) g.S.Text.form c.args.bytes.now c.loop-read.read c.in-Fault.len (parts_of g.S.Text.form c.in-Fault.len) c.replacement-c.result (rw c.way-in-Fault.ensures at c.replacement-c.ensures) settles in
     let put = c.if-not-put_shown.ensures in
     rw c.ended-then-not-put_shown.ensures (Reaches-full c.replacement-c.result c.loop-read.invariant (put.kept (search rules)) begins (put.full (search rules)) (put.short (search rules)))
 
