@@ -197,14 +197,15 @@ typedef struct {
  * because the rest of a character has not come, or because the output did not fit. A strict call also holds bytes
  * if it has to see the next ones to tell the kind of a fault. In big-endian UTF-16 a single byte is held, and a leading surrogate
  * before it, even if the byte cannot complete a pair. nody_recoder_held gives the bytes. `replaced` is the number of
- * faults that became U+FFFD, or what a table has for them, also if that is nothing; the lossy calls do not count. nody_recoder_finish
- * does not reset it. The count stops at UINT64_MAX. You may read it, and set it to 0. Leave the other fields alone. */
+ * faults that became U+FFFD, or what a table has for them, also if that is nothing. The lossy calls count faults too, and not U+FFFD:
+ * a maximal subpart of three bytes adds three. nody_recoder_finish does not reset it. The count stops at UINT64_MAX. You may read it,
+ * and set it to 0. Leave the other fields alone. */
 typedef struct {
     nody_encoding_t from;
     nody_encoding_t to;
     uint8_t count;
     uint8_t held[3];
-    uint64_t replaced; /* how many faults were replaced since nody_recoder, by all calls but the lossy ones */
+    uint64_t replaced; /* how many faults were replaced since nody_recoder */
 } nody_recoder_t;
 
 /* A decoder of input that comes in parts. It holds up to three bytes of input from one call to the next: those that
@@ -896,8 +897,8 @@ nody_status_t nody_recoder_finish_strict(nody_recoder_t *recoder, uint8_t *out, 
  * from_utf8_lossy do it. In UTF-16 this call and nody_recoder_feed write the same, but for one end: a leading surrogate and a single
  * byte after it are one subpart, if the input ends there. In valid input they write the same.
  *
- * recoder: the recoder. `recoder->replaced` does not change. You may mix calls of this, of nody_recoder_feed and of
- * nody_recoder_feed_strict. End the input by nody_recoder_finish_lossy.
+ * recoder: the recoder. The number of faults is added to `recoder->replaced`, and not that of U+FFFD: E2 82 41 adds two. You may
+ * mix calls of this, of nody_recoder_feed and of nody_recoder_feed_strict. End the input by nody_recoder_finish_lossy.
  * in, in_len: the part. Parts that you feed to one recoder may end anywhere. nody_recoder_feed lets you divide the input at
  * nody_boundary_before and give the sides to two recoders. This call does not: the boundary may lie inside a maximal subpart.
  * out, capacity, read, written: as for nody_recoder_feed. Three bytes for each byte that is fed or held are always enough.
@@ -905,7 +906,7 @@ nody_status_t nody_recoder_finish_strict(nody_recoder_t *recoder, uint8_t *out, 
  *
  *     nody_recoder_t recoder = nody_recoder(NODY_UTF8, NODY_UTF8);
  *     nody_recoder_feed_lossy(&recoder, (const uint8_t *)"\xe2\x82" "A", 3, out, sizeof out, &read, &written);
- *     // written is 4: EF BF BD 41
+ *     // written is 4: EF BF BD 41; recoder.replaced is 2
  */
 nody_status_t nody_recoder_feed_lossy(nody_recoder_t *recoder, const uint8_t *in, size_t in_len, uint8_t *out, size_t capacity,
                                       size_t *read, size_t *written);
@@ -913,7 +914,8 @@ nody_status_t nody_recoder_feed_lossy(nody_recoder_t *recoder, const uint8_t *in
 /* Ends the input after nody_recoder_feed_lossy. If the recoder holds the front of a character, that becomes one U+FFFD, in each
  * encoding.
  *
- * recoder: the recoder. `recoder->replaced` does not change.
+ * recoder: the recoder. The number of faults is added to `recoder->replaced`: each byte of that front, or in UTF-16 its unit and a
+ * single byte after it.
  * out, capacity, written: as for nody_recoder_finish.
  * Result, errors, cost: as for nody_recoder_finish.
  *

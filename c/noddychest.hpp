@@ -821,7 +821,7 @@ public:
         return it;
     }
 
-    // How many faults were replaced (feed_lossy does not count), how many bytes were read, and how many of these are held.
+    // How many faults were replaced (feed_lossy counts each byte of a maximal subpart), how many bytes were read, and how many of these are held.
     std::uint64_t replaced() const noexcept { return state_.replaced; }
     std::uint64_t read() const noexcept { return read_; }
     std::size_t held() const noexcept {

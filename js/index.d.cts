@@ -364,8 +364,9 @@ export class Recoder {
     /** What the bytes that are still held become: call it once, after the last part. */
     finish(): Uint8Array;
     /**
-     * How many invalid bytes, or units, were replaced so far, by U+FFFD or by what a table has for them, also if that is nothing: with `lossy`
-     * and `strict` it is 0. A U+FFFD in the input does not count. A number, not a BigInt: exact up to `Number.MAX_SAFE_INTEGER`.
+     * How many invalid bytes, or units, were replaced so far, by U+FFFD or by what a table has for them, also if that is nothing. With `lossy`
+     * each byte of a maximal subpart counts; with `strict` it is 0. A U+FFFD in the input does not count. A number, not a BigInt: exact up to
+     * `Number.MAX_SAFE_INTEGER`.
      */
     readonly replaced: number;
 }

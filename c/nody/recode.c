@@ -79,9 +79,9 @@ static void put_recoded(struct run *run, struct worker *worker) {
     if (worker->count) tell_first(run, worker);
 }
 
-/* Says how many invalid bytes there were, and what became of them. (of --errors lossy they are not counted) */
+/* Says how many invalid bytes there were, and what became of them. */
 void tell_replaced(const struct run *run) {
-    static const char *const became[] = {[DROP] = " dropped\n", [WINDOWS_1252] = " read as Windows-1252\n", [LATIN_1] = " read as ISO-8859-1\n"};
+    static const char *const became[] = {[REPLACE] = " became U+FFFD\n", [LOSSY] = " became U+FFFD\n", [DROP] = " dropped\n", [WINDOWS_1252] = " read as Windows-1252\n", [LATIN_1] = " read as ISO-8859-1\n"};
     int errors = run->request->errors == DROP || run->source.encoding == NODY_UTF8 ? run->request->errors : REPLACE;
     if (run->request->is_quiet || !run->invalid) return;
     put_text(&err, "nody: ");
@@ -90,7 +90,7 @@ void tell_replaced(const struct run *run) {
     put_number(&err, run->invalid);
     put_text(&err, " ");
     put_text(&err, noun_of_invalid(run->source.encoding, run->invalid));
-    put_text(&err, errors == REPLACE ? " became U+FFFD\n" : became[errors]);
+    put_text(&err, became[errors]);
     flush_output(&err);
 }
 

@@ -596,32 +596,36 @@ static void replaced(void) {
     expect(nody_recoder_feed(&none, in, 7, out, 32, &read, &written) == NODY_STATUS_REFUSED && nody_recoder_finish(&none, out, 32, &written) == NODY_STATUS_REFUSED && none.replaced == 7, "no recoder counts nothing");
 }
 
-/* One U+FFFD for each maximal subpart: what Python's bytes.decode with "replace" gives for the same bytes, cut at each place. */
+/* One U+FFFD for each maximal subpart: what Python's bytes.decode with "replace" gives for the same bytes, cut at each place. `faults` is the
+ * sum of `end - start` of the errors that a handler of that call is given. */
 static void lossy(void) {
     static const struct {
         const char *in, *want;
+        uint64_t faults;
     } cases[] = {
-        {"A\xe2\x82" "A", "A\xef\xbf\xbd" "A"},
-        {"\xe0\x80", "\xef\xbf\xbd\xef\xbf\xbd"},
-        {"\xf0\x9f\x98", "\xef\xbf\xbd"},
-        {"\xed\xa0\x80\xff\xf4\x90", "\xef\xbf\xbd\xef\xbf\xbd\xef\xbf\xbd\xef\xbf\xbd\xef\xbf\xbd\xef\xbf\xbd"},
-        {"a\xf1\x80\x80" "b\xc0\xaf" "c", "a\xef\xbf\xbd" "b\xef\xbf\xbd\xef\xbf\xbd" "c"},
-        {"\xe2\x82\xac\xf0\x9f\x82\xa0", "\xe2\x82\xac\xf0\x9f\x82\xa0"},
+        {"A\xe2\x82" "A", "A\xef\xbf\xbd" "A", 2},
+        {"\xe0\x80", "\xef\xbf\xbd\xef\xbf\xbd", 2},
+        {"\xf0\x9f\x98", "\xef\xbf\xbd", 3},
+        {"\xed\xa0\x80\xff\xf4\x90", "\xef\xbf\xbd\xef\xbf\xbd\xef\xbf\xbd\xef\xbf\xbd\xef\xbf\xbd\xef\xbf\xbd", 6},
+        {"a\xf1\x80\x80" "b\xc0\xaf" "c", "a\xef\xbf\xbd" "b\xef\xbf\xbd\xef\xbf\xbd" "c", 5},
+        {"\xe2\x82\xac\xf0\x9f\x82\xa0", "\xe2\x82\xac\xf0\x9f\x82\xa0", 0},
     };
-    /* what bytes.decode("utf-16-le", "replace") gives, as UTF-8; in "utf-16-be" the bytes of each unit are the other way round */
+    /* what bytes.decode("utf-16-le", "replace") gives, as UTF-8; in "utf-16-be" the bytes of each unit are the other way round. `faults`
+     * is how many lone surrogates, and single bytes at the end, there are */
     static const struct {
         size_t len, need;
         uint8_t in[8];
         const char *want;
+        uint64_t faults;
     } ends[] = {
-        {3, 3, {0x00, 0xd8, 0x00}, "\xef\xbf\xbd"},
-        {3, 6, {0x00, 0xdc, 0x00}, "\xef\xbf\xbd\xef\xbf\xbd"},
-        {3, 4, {0x41, 0x00, 0x00}, "A\xef\xbf\xbd"},
-        {5, 6, {0x00, 0xd8, 0x00, 0xd8, 0x00}, "\xef\xbf\xbd\xef\xbf\xbd"},
-        {5, 7, {0x00, 0xd8, 0x41, 0x00, 0x41}, "\xef\xbf\xbd" "A\xef\xbf\xbd"},
-        {5, 7, {0x00, 0xd8, 0x00, 0xdc, 0x00}, "\xf0\x90\x80\x80\xef\xbf\xbd"},
-        {1, 3, {0xd8}, "\xef\xbf\xbd"},
-        {2, 3, {0x00, 0xd8}, "\xef\xbf\xbd"},
+        {3, 3, {0x00, 0xd8, 0x00}, "\xef\xbf\xbd", 2},
+        {3, 6, {0x00, 0xdc, 0x00}, "\xef\xbf\xbd\xef\xbf\xbd", 2},
+        {3, 4, {0x41, 0x00, 0x00}, "A\xef\xbf\xbd", 1},
+        {5, 6, {0x00, 0xd8, 0x00, 0xd8, 0x00}, "\xef\xbf\xbd\xef\xbf\xbd", 3},
+        {5, 7, {0x00, 0xd8, 0x41, 0x00, 0x41}, "\xef\xbf\xbd" "A\xef\xbf\xbd", 2},
+        {5, 7, {0x00, 0xd8, 0x00, 0xdc, 0x00}, "\xf0\x90\x80\x80\xef\xbf\xbd", 1},
+        {1, 3, {0xd8}, "\xef\xbf\xbd", 1},
+        {2, 3, {0x00, 0xd8}, "\xef\xbf\xbd", 1},
     };
     nody_recoder_t none = nody_recoder(3, 0), small = nody_recoder(NODY_UTF8, NODY_UTF8), units = nody_recoder(NODY_UTF16LE, NODY_UTF8);
     static const uint8_t le[] = {0x00, 0xdc, 0x41, 0x00, 0x3c, 0xd8, 0x21};
@@ -635,7 +639,7 @@ static void lossy(void) {
             expect(nody_recoder_feed_lossy(&recoder, in, at, out, 32, &read, &written) == NODY_STATUS_DONE && read == at, "a part, lossily");
             expect(nody_recoder_feed_lossy(&recoder, in + at, len - at, out + written, 32 - written, &read, &more) == NODY_STATUS_DONE && read == len - at, "the rest, lossily");
             expect(nody_recoder_finish_lossy(&recoder, out + written + more, 32 - written - more, &last) == NODY_STATUS_DONE, "the end, lossily");
-            expect(written + more + last == need && memcmp(out, cases[i].want, need) == 0 && recoder.replaced == 0 && recoder.count == 0, "one U+FFFD for each maximal subpart");
+            expect(written + more + last == need && memcmp(out, cases[i].want, need) == 0 && recoder.replaced == cases[i].faults && recoder.count == 0, "one U+FFFD for each maximal subpart");
         }
         expect(nody_recode_lossy(NODY_UTF8, NODY_UTF8, in, len, out, need, &written) == NODY_STATUS_DONE && written == need && memcmp(out, cases[i].want, need) == 0, "at once, lossily");
         expect(nody_recode_lossy(NODY_UTF8, NODY_UTF8, in, len, out, need - 1, &written) == NODY_STATUS_FULL && written < need && memcmp(out, cases[i].want, written) == 0, "no room for all, lossily");
@@ -643,7 +647,7 @@ static void lossy(void) {
     expect(nody_recoder_feed_lossy(&small, (const uint8_t *)"\xe2\x82" "A", 3, out, 3, &read, &written) == NODY_STATUS_FULL && written == 3, "no room for the A");
     expect(nody_recoder_feed_lossy(&small, (const uint8_t *)"\xe2\x82" "A" + read, 3 - read, out, 1, &read, &written) == NODY_STATUS_DONE && written == 1 && out[0] == 'A', "room for it");
     expect(nody_recoder_feed_lossy(&small, (const uint8_t *)"\xe2\x82", 2, out, 0, &read, &written) == NODY_STATUS_DONE && read == 2 && nody_recoder_finish_lossy(&small, out, 2, &written) == NODY_STATUS_FULL && written == 0 && small.count == 2, "no room for the end");
-    expect(nody_recoder_feed_lossy(&units, le, 7, out, 32, &read, &written) == NODY_STATUS_DONE && written == 4 && nody_recoder_finish_lossy(&units, out, 32, &written) == NODY_STATUS_DONE && written == 3 && units.replaced == 0, "a leading surrogate and half a unit");
+    expect(nody_recoder_feed_lossy(&units, le, 7, out, 32, &read, &written) == NODY_STATUS_DONE && written == 4 && nody_recoder_finish_lossy(&units, out, 32, &written) == NODY_STATUS_DONE && written == 3 && units.replaced == 3, "a leading surrogate and half a unit");
     for (size_t i = 0; i < sizeof ends / sizeof *ends; i++)
         for (size_t at = 0; at <= ends[i].len; at++)
             for (nody_encoding_t encoding = NODY_UTF16LE; encoding <= NODY_UTF16BE; encoding++) {
@@ -653,7 +657,7 @@ static void lossy(void) {
                 nody_recoder_feed_lossy(&recoder, in, at, out, 32, &read, &written);
                 nody_recoder_feed_lossy(&recoder, in + at, ends[i].len - at, out + written, 32 - written, &read, &more);
                 nody_recoder_finish_lossy(&recoder, out + written + more, 32 - written - more, &last);
-                expect(written + more + last == ends[i].need && memcmp(out, ends[i].want, ends[i].need) == 0, "the end of UTF-16, lossily");
+                expect(written + more + last == ends[i].need && memcmp(out, ends[i].want, ends[i].need) == 0 && recoder.replaced == ends[i].faults, "the end of UTF-16, lossily");
             }
     expect(nody_recoder_feed_lossy(&none, le, 7, out, 32, &read, &written) == NODY_STATUS_REFUSED && read == 0 && written == 0 && nody_recoder_finish_lossy(&none, out, 32, &written) == NODY_STATUS_REFUSED, "no recoder, lossily");
     expect(nody_recode_lossy(3, 0, le, 7, out, 32, &written) == NODY_STATUS_REFUSED && written == 0 && nody_recode_lossy(0, 3, le, 7, out, 32, &written) == NODY_STATUS_REFUSED, "no encoding, lossily");

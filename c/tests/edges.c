@@ -257,7 +257,7 @@ static nody_status_t finish_by(const manner *by, nody_recoder_t *recoder, uint8_
     return nody_recoder_finish_repair(recoder, out, room, by->repair, by->table, by->len, written);
 }
 
-/* is_recoded_in for the lossy calls, which count no replaced bytes, and for those with a table. */
+/* is_recoded_in for the lossy calls and for those with a table. Both count each fault. */
 static int is_made_in(const manner *by, nody_encoding_t from, nody_encoding_t to, const uint8_t *in, size_t len, size_t split, size_t room, const uint8_t *want, size_t need, size_t replaced) {
     nody_recoder_t recoder = nody_recoder(from, to);
     size_t place = 0, made = 0, end = split;
@@ -283,10 +283,11 @@ static int is_made_in(const manner *by, nody_encoding_t from, nody_encoding_t to
 
 static int are_lossy(nody_encoding_t from, nody_encoding_t to, const uint8_t *in, size_t len, const cut_text *pieces) {
     uint8_t want[MADE];
-    size_t need = lossy_of(from, to, in, len, pieces, want);
+    size_t need = lossy_of(from, to, in, len, pieces, want), faults = 0;
+    for (size_t i = 0; i < pieces->count; i++) faults += (size_t)pieces->piece[i].is_fault;
     for (size_t room = 0; room < ROOMS; room++)
         for (size_t split = 0; split <= len; split++)
-            if (!is_made_in(&LOSSY, from, to, in, len, split, room, want, need, 0)) return 0;
+            if (!is_made_in(&LOSSY, from, to, in, len, split, room, want, need, faults)) return 0;
     return 1;
 }
 

@@ -408,7 +408,7 @@ static void try_recoder() {
     one.feed_lossy("\xE2\x82", lossy);
     one.feed_lossy("A\xF0\x9F", lossy);
     one.finish_lossy(lossy);
-    expect(lossy == "\xEF\xBF\xBD" "A\xEF\xBF\xBD", "maximal subparts");
+    expect(lossy == "\xEF\xBF\xBD" "A\xEF\xBF\xBD" && one.replaced() == 4, "maximal subparts, whose bytes are counted");
 }
 
 // Windows-1252 by Python's cp1252, ISO-8859-1, and tables of each type that gives one.

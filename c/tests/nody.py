@@ -246,7 +246,8 @@ def try_recode(program, given, shown, piped, data, form, reasons, words, chance)
     count = f"nody: {shown}: {len(wrong)} {noun(form, len(wrong))} became U+FFFD\n".encode() if wrong else b""
     got = run([*asked, given], piped)
     expect(got == (0, recoded(data, form, to, "replace"), count), f"recode {form} {to} of {data!r}: {got}")
-    says([*asked, "--errors", "lossy", given], 0, recoded(data, form, to, "lossy"), b"", piped)
+    got = run([*asked, "--errors", "lossy", given], piped)
+    expect(got == (0, recoded(data, form, to, "lossy"), count), f"recode {form} {to} --errors lossy of {data!r}: {got}")
     errors = chance.choice([*TABLES])
     told_of = count.replace(b"became U+FFFD", TABLES[errors][1].encode()) if form == "utf-8" or errors == "drop" else count
     got = run([*asked, "--errors", errors, given], piped)

@@ -7,15 +7,17 @@ const NAMES = { utf8: "utf-8", utf16le: "utf-16le", utf16be: "utf-16be" };
 const FORMS = Object.values(NAMES);
 
 test("a recoder counts what it replaced", () => {
-    const recoder = new Recoder("utf-8", "utf-16le");
-    const counts = ["61c3", "ff62", "efbfbd", "e282"].map((part) => {
-        recoder.feed(ofHex(part));
-        return recoder.replaced;
-    });
-    // (C3 and FF are invalid, EF BF BD is U+FFFD, and E2 82 waits for the end)
-    assert.deepEqual(counts, [0, 2, 2, 2]);
-    recoder.finish();
-    assert.equal(recoder.replaced, 4);
+    for (const errors of ["replace", "lossy", "drop"]) {
+        const recoder = new Recoder("utf-8", "utf-16le", { errors });
+        const counts = ["61c3", "ff62", "efbfbd", "e282"].map((part) => {
+            recoder.feed(ofHex(part));
+            return recoder.replaced;
+        });
+        // (C3 and FF are invalid, EF BF BD is U+FFFD, and E2 82, one maximal subpart, waits for the end)
+        assert.deepEqual(counts, [0, 2, 2, 2]);
+        recoder.finish();
+        assert.equal(recoder.replaced, 4);
+    }
     const strict = new Recoder("utf-8", "utf-8", { fatal: true });
     assert.throws(() => strict.feed(ofHex("ff")), FaultError);
     assert.equal(strict.replaced, 0);

@@ -68,7 +68,7 @@ class SameAsOne(InFolder):
                 expected = recode(data, form, to, errors)
                 made = parallel.recode(source, self.out, form, to, jobs, errors=errors)
                 self.assertEqual(self.read(), expected)
-                self.assertEqual(made, Recoded(len(data), len(expected), len(wrong) if errors == "replace" else 0))
+                self.assertEqual(made, Recoded(len(data), len(expected), len(wrong)))
 
     def test_small_texts(self):
         self.small_shards()

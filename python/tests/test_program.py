@@ -162,7 +162,7 @@ class Program(unittest.TestCase):
     def test_recode(self):
         for errors in ("replace", "lossy"):
             expected = recode(SAMPLE, "utf8", "utf16le", errors)
-            told = "noddychest: -: 2 invalid bytes became U+FFFD\n" if errors == "replace" else ""
+            told = "noddychest: -: 2 invalid bytes became U+FFFD\n"
             self.assertEqual(ran("recode", "--from", "utf-8", "--to", "UTF-16LE", "--errors", errors, given=SAMPLE), (0, expected, told))
             self.assertEqual(ran("recode", "-q", "--to", "UTF-16LE", "--errors", errors, given=SAMPLE), (0, expected, ""))
         data = "é😀".encode() * 300_000

@@ -1,4 +1,5 @@
 """Transcoding whole inputs and parts, with replacement and strict."""
+import codecs
 import pickle
 import random
 import threading
@@ -206,6 +207,25 @@ class InParts(unittest.TestCase):
         self.assertEqual((recoder.feed(b"\xe2"), recoder.replaced), (b"", 2))
         self.assertEqual((recoder.finish(), recoder.replaced), ("\ufffd".encode(), 3))
         self.assertEqual((recoder.feed(b"\xff" * 1000 + b"a" * 3000 + b"\x80"), recoder.replaced)[1], 1004)
+
+    def test_bytes_of_maximal_subparts_are_counted(self):
+        """Each counts, however many of them are one U+FFFD: as Python's decoder says where each error begins and ends."""
+        errors = []
+        codecs.register_error("noddychest-lossy", lambda error: (errors.append(error.end - error.start), ("\ufffd", error.end))[1])
+        source = random.Random(12)
+        for data in outside.inputs(3000, 30, seed=13):
+            at = source.randint(0, len(data))
+            recoder = Recoder("utf8", "utf8", "lossy")
+            made = recoder.feed(data[:at]) + recoder.feed(data[at:]) + recoder.finish()
+            del errors[:]
+            self.assertEqual((made.decode(), recoder.replaced), (data.decode("utf-8", "noddychest-lossy"), sum(errors)), data)
+            for form, to in PAIRS:
+                recoder = Recoder(form, to, "lossy")
+                recoder.feed(data[:at]), recoder.feed(data[at:]), recoder.finish()
+                self.assertEqual(recoder.replaced, len(faults(data, form)), (data, form))
+        recoder = Recoder("utf16le", "utf8", "lossy")
+        self.assertEqual((recoder.feed(b"\x00\xdc\x00\xd8"), recoder.replaced), ("\ufffd".encode(), 1))
+        self.assertEqual((recoder.feed(b"\x21") + recoder.finish(), recoder.replaced), ("\ufffd".encode(), 3))
 
 
 if __name__ == "__main__":

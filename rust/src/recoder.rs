@@ -300,9 +300,10 @@ impl Recoder {
     ///
     /// ```
     /// use noddychest::{Encoding, Recoder};
-    /// let mut buffer = [0; 8];
-    /// let did = Recoder::lossy(Encoding::Utf8, Encoding::Utf8).feed(b"\xE2\x82A", &mut buffer);
+    /// let (mut recoder, mut buffer) = (Recoder::lossy(Encoding::Utf8, Encoding::Utf8), [0; 8]);
+    /// let did = recoder.feed(b"\xE2\x82A", &mut buffer);
     /// assert_eq!(&buffer[..did.written], "\u{FFFD}A".as_bytes());
+    /// assert_eq!(recoder.replaced(), 2);
     /// ```
     ///
     /// [`String::from_utf8_lossy`]: https://doc.rust-lang.org/std/string/struct.String.html#method.from_utf8_lossy
@@ -386,7 +387,8 @@ impl Recoder {
     }
 
     /// How many invalid bytes (of UTF-16 units) it has replaced so far: by U+FFFD, or by what a [`Repair`] has for them, also if that is
-    /// nothing. A U+FFFD in the text does not count; a strict recoder replaces none, and a lossy one does not count. After [`finish`](Recoder::finish) is done, it is the number for the whole text.
+    /// nothing. A lossy recoder counts them too, and not U+FFFD: a maximal subpart of three bytes counts as three. A U+FFFD in the text does
+    /// not count, and a strict recoder replaces none. After [`finish`](Recoder::finish) is done, it is the number for the whole text.
     ///
     /// ```
     /// use noddychest::{Encoding, Recoder};

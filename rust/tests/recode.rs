@@ -229,9 +229,9 @@ fn each_byte_becomes_what_its_table_has() {
     }
 }
 
-/// Invalid bytes, lone surrogates and odd last bytes are counted, also those that are left out; U+FFFD in the text is not.
+/// Invalid bytes, lone surrogates and odd last bytes are counted in each way, also those that are left out; U+FFFD in the text is not.
 #[test]
-fn what_was_repaired_is_counted() {
+fn what_was_replaced_is_counted() {
     let mut chance = Chance(22);
     for _ in 0..2_000 {
         for (from, to) in pairs() {
@@ -239,12 +239,14 @@ fn what_was_repaired_is_counted() {
             bytes.extend(text_of(from, &mut chance, 16));
             let at = chance.below(bytes.len() + 1);
             let (_, repair) = some_repair(&mut chance);
-            let (mut recoder, mut out) = (Recoder::repair(from, to, repair), Vec::new());
-            for part in [&bytes[..at], &bytes[at..]] {
-                assert_eq!(recoder.feed_to_vec(part, &mut out).status, Status::Done);
+            for mut recoder in [Recoder::repair(from, to, repair), Recoder::lossy(from, to), Recoder::new(from, to)] {
+                let mut out = Vec::new();
+                for part in [&bytes[..at], &bytes[at..]] {
+                    assert_eq!(recoder.feed_to_vec(part, &mut out).status, Status::Done);
+                }
+                let _ = recoder.finish_to_vec(&mut out);
+                assert_eq!(recoder.replaced(), faults(from, &bytes).len() as u64, "{recoder:?} {repair:?} {bytes:x?}");
             }
-            let _ = recoder.finish_to_vec(&mut out);
-            assert_eq!(recoder.replaced(), faults(from, &bytes).len() as u64, "{from} {to} {repair:?} {bytes:x?}");
         }
     }
 }

@@ -1,13 +1,14 @@
 //! Transcoding into a caller-supplied buffer, with one U+FFFD for each maximal subpart.
-ghost use Rattle.std.specs.Prelude.{◌≡◌, ◌+◌, ◌-◌, ◌<◌, length};
+ghost use Rattle.std.specs.Prelude.{◌≡◌, ◌+◌, ◌-◌, ◌<◌, length, take};
 ghost use Rattle.cuts.specs.Recoded.{Lacks};
 ghost use Rattle.cuts.specs.LossyBytes.{FeedsLossy, FinishesLossy, IsFullLossy, IsLastFullLossy};
-ghost use Rattle.c_api.specs.Api.{IfRecoder, IsRecoder};
+ghost use Rattle.c_api.specs.Api.{CountsEnd, CountsPart, IfRecoder, IsRecoder};
 
-use crate::recodings::{DONE, FULL, NodyRecoder, REFUSED, is_recoder, keep, opened};
+use crate::recodings::{DONE, FULL, NodyRecoder, REFUSED, is_recoder, keep, opened, with_more};
 
-/// Feeds a part as `nody_recoder_feed` does, but writes one U+FFFD for each maximal subpart, and does not
-/// count them.
+/// Feeds a part as `nody_recoder_feed` does, but writes one U+FFFD for each maximal subpart. Adds to `replaced` the
+/// number of invalid bytes, lone surrogates and odd last bytes, and not that of U+FFFD: a maximal subpart of three
+/// bytes adds three.
 #[unsafe(no_mangle)]
 pub extern "C" fn nody_recoder_feed_lossy(
     recoder: &mut NodyRecoder,
@@ -25,7 +26,7 @@ pub extern "C" fn nody_recoder_feed_lossy(
         (λ r s. result ≡ 1 → IsFullLossy s part.now read.new (length room.old - written.new)) }
     ensures short { IsRecoder recoder.old → result ≡ 1 → length room.old < written.new + 4 }
     ensures status { IsRecoder recoder.old → result < 2 }
-    ensures uncounted { recoder.new.replaced ≡ recoder.old.replaced }
+    ensures counts { IsRecoder recoder.old → CountsPart recoder.old (take read.new part.now) recoder.new }
     ensures refused { result ≡ 2 → (recoder.new ≡ recoder.old) × (room.new ≡ room.old) }
     ensures none { result ≡ 2 → (read.new ≡ 0) × (written.new ≡ 0) }
     ensures wrong { ¬ IsRecoder recoder.old → result ≡ 2 }
@@ -38,13 +39,14 @@ pub extern "C" fn nody_recoder_feed_lossy(
     let mut inner = opened(recoder);
     let progress = inner.feed_lossy_into(part, room);
     keep(recoder, &inner);
+    recoder.replaced = with_more(recoder.replaced, progress.replaced);
     *read = progress.read;
     *written = progress.written;
     if progress.is_full { FULL } else { DONE }
 }
 
 /// Finishes a recoder that was fed by `nody_recoder_feed_lossy`: a truncated character that is carried over becomes
-/// one U+FFFD.
+/// one U+FFFD, and its bytes are added to `replaced`.
 #[unsafe(no_mangle)]
 pub extern "C" fn nody_recoder_finish_lossy(
     recoder: &mut NodyRecoder,
@@ -59,7 +61,7 @@ pub extern "C" fn nody_recoder_finish_lossy(
         (λ r s. result ≡ 1 → IsLastFullLossy s (length room.old - written.new)) }
     ensures short { IsRecoder recoder.old → result ≡ 1 → length room.old < written.new + 4 }
     ensures status { IsRecoder recoder.old → result < 2 }
-    ensures uncounted { recoder.new.replaced ≡ recoder.old.replaced }
+    ensures counts { IsRecoder recoder.old → CountsEnd recoder.old recoder.new }
     ensures refused { result ≡ 2 → (recoder.new ≡ recoder.old) × (room.new ≡ room.old) }
     ensures none { result ≡ 2 → written.new ≡ 0 }
     ensures wrong { ¬ IsRecoder recoder.old → result ≡ 2 }
@@ -71,6 +73,7 @@ pub extern "C" fn nody_recoder_finish_lossy(
     let mut inner = opened(recoder);
     let progress = inner.finish_lossy_into(room);
     keep(recoder, &inner);
+    recoder.replaced = with_more(recoder.replaced, progress.replaced);
     *written = progress.written;
     if progress.is_full { FULL } else { DONE }
 }

@@ -19,7 +19,7 @@ pub struct NodyRecoder {
     pub count: u8,
     /// The carried-over bytes, followed by unused ones.
     pub held: [u8; 3],
-    /// The number of invalid bytes, lone surrogates and odd last bytes that have become U+FFFD.
+    /// The number of invalid bytes, lone surrogates and odd last bytes that were replaced.
     pub replaced: u64,
 }
 

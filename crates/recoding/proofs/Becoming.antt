@@ -112,7 +112,7 @@ pub BeginsLast-of : {way : Way} {from : Form} {w : List ℕ} {c : Option ℕ} {n
 BeginsLast-of {way} {from} {w} {c} {n} begins = record {
   leads = last_of_leads (reads_by way from) w n c begins.leads;
   few = begins.few;
-  counts = λ on. rw (append-nil w, append-nil (drop n w)) at (begins.counts on []);
+  counts = rw (append-nil w, append-nil (drop n w)) at (begins.counts []);
 }
 
 -- the piece that begins them is longer than the buffer
@@ -126,19 +126,19 @@ none_before : (n : ℕ) → n ≡ 0 + n
 none_before n = omega arith
 
 pub Becomes-none : (way : Way) (from to : Form) (bytes : List ℕ) → Becomes way from to bytes [] 0 bytes
-Becomes-none way from to bytes = record { same = λ later. refl; counts = λ on later. none_before _ }
+Becomes-none way from to bytes = record { same = λ later. refl; counts = λ later. none_before _ }
 
 pub Becomes-then : {way : Way} {from to : Form} {a g b k c : List ℕ} {m n : ℕ} → Becomes way from to a g m b → Becomes way from to b k n c → Becomes way from to a (g ++ k) (m + n) c
 Becomes-then {way} {from} {to} {a} {g} {b} {k} {c} h i = record {
   same = λ later. h.same later ∙ ap (λ xs. g ++ xs) (i.same later) ∙ sym (append_assoc g k (list_by way from to (c ++ later)));
-  counts = λ on later. omega (arith, h.counts on later, i.counts on later);
+  counts = λ later. omega (arith, h.counts later, i.counts later);
 }
 
 -- the same bytes after both outputs
 pub Becomes-more : {way : Way} {from to : Form} {a g b : List ℕ} {n : ℕ} (x : List ℕ) → Becomes way from to a g n b → Becomes way from to (a ++ x) g n (b ++ x)
 Becomes-more {way} {from} {to} {a} {g} {b} x h = record {
   same = λ later. ap (list_by way from to) (append_assoc a x later) ∙ h.same (x ++ later) ∙ ap (λ xs. g ++ list_by way from to xs) (sym (append_assoc b x later));
-  counts = λ on later. rw (append_assoc a x later, append_assoc b x later) (h.counts on (x ++ later));
+  counts = λ later. rw (append_assoc a x later, append_assoc b x later) (h.counts (x ++ later));
 }
 
 pub Becomes-front : {way : Way} {from : Form} {to : Form} {w : List ℕ} {c : Option ℕ} {n k : ℕ} → BeginsBy way from w c n k → Becomes way from to w (code_of to c) k (drop n w)
@@ -147,7 +147,7 @@ Becomes-front {way} {from} {to} {w} {c} {n} d = record { same = list_first way f
 Becomes-text : {way : Way} {from to : Form} {text out : List ℕ} → Transcodes from to text out → Becomes way from to text out 0 []
 Becomes-text {way} {from} {to} {text} {out} t = record {
   same = λ later. list_text way from to text out later t;
-  counts = λ on later. rw (sym t.codes) at (text_counts from t.scalars later t.all) ∙ none_before _;
+  counts = λ later. rw (sym t.codes) at (text_counts from t.scalars later t.all) ∙ none_before _;
 }
 
 pub Becomes-where : {way : Way} {from to : Form} {a g b : List ℕ} {n : ℕ} (c d : List ℕ) → a ≡ c → b ≡ d → Becomes way from to a g n b → Becomes way from to c g n d

@@ -4,7 +4,7 @@ use Rattle.std.proofs.lemmas.List.{append-nil}
 use Rattle.std.proofs.lemmas.Nat.{mul-le}
 use Rattle.recoding.specs.declared.form.Form.{Form}
 use Rattle.recoding.specs.declared.form.Form.TheVariants.{Utf8}
-use Rattle.recoding.proofs.Forms.{by_form, is_units}
+use Rattle.recoding.proofs.Forms.{by_form, is_units, no_more_parts}
 use Rattle.recoding.specs.Recoded.{Recoding, Reads, written, IsRecoded}
 use Rattle.recoding.specs.Rooms.{FeedsInto, LastIsTooLong, NextIsTooLong, most_bytes, parts_of, widest}
 use Rattle.recoding.specs.Bounds.{LossyIsBounded, RecodedIsShort, FeedsInRoom, RoomIsLeft, FinishesInRoom}
@@ -85,9 +85,6 @@ three_each from to n = mul-le (widest to) (parts_of from n) 3 n (at_most_three t
   where
     at_most_three : (to : Form) → widest to ≤ 3
     at_most_three = by_form _ (omega arith) (λ high. rw (is_units high, widest) (omega arith))
-
-    no_more_parts : (from : Form) (n : ℕ) → parts_of from n ≤ n
-    no_more_parts = by_form _ (λ n. omega arith) (λ high. rw (is_units high, parts_of) (λ n. omega arith))
 
 pub recoded_is_short : RecodedIsShort
 recoded_is_short from to bytes = omega (arith, recoded_bound from to bytes (recoded from to bytes) (recoded_is from to bytes), three_each from to (length bytes))

@@ -1,15 +1,17 @@
 -- The number of faults in bytes, piece by piece.
-use Rattle.std.proofs.Common.{◌≡◌, ℕ, suc, ◌+◌, ◌<◌, Bool, cond, List, [], ◌∷◌, ◌++◌, length, drop, map, flat_map, arith, refl, ap, sym, ◌∙◌, subst, append_assoc, Some, None, Option}
-use Rattle.std.proofs.lemmas.List.{append-nil, drop_all, drop-append-le}
+use Rattle.std.proofs.Common.{◌≡◌, ℕ, zero, suc, ◌+◌, ◌<◌, Bool, cond, List, [], ◌∷◌, ◌++◌, length, drop, map, flat_map, arith, refl, ap, sym, ◌∙◌, subst, append_assoc, Some, None, Option}
+use Rattle.std.proofs.lemmas.List.{append-nil, drop_all, drop-append-le, drop-drop}
 use Rattle.std.proofs.lemmas.List.Sums.{sum_by-cons}
 use Rattle.std.specs.Prelude.{All, is_none}
 use Rattle.utf_base.specs.Code.{utf8, utf16, IsCode}
-use Rattle.utf_base.specs.Piece.{Piece, Stands}
+use Rattle.utf_base.specs.Piece.{Covered, IsPieceAt, Piece, Stands}
 use Rattle.utf_base.specs.Scalar.{IsScalar}
+use Rattle.utf_base.specs.Subparts.{IsMaximalSubpart}
 use Rattle.utf_base.proofs.Cuts.{cut_is_unique, cut_none}
 use Rattle.utf_base.proofs.CutChanges.{moved}
-use Rattle.utf_base.proofs.Rests.{BeginsCut, code_begins, cut_first, fault_begins}
+use Rattle.utf_base.proofs.Rests.{BeginsCut, code_begins, cut_first, fault_begins, piece_in_rest}
 use Rattle.utf_base.proofs.Standing.{stands_first}
+use Rattle.utf_base.proofs.SubpartLemmas.{subparts_are_faults}
 use Rattle.utf_base.proofs.Utf8Code.{utf8_is_code}
 use Rattle.utf_base.proofs.Utf16Code.{utf16_is_code}
 use Rattle.utf_lanes.specs.BytePairs.{units_of}
@@ -80,6 +82,30 @@ pub fault_counts : (code : ℕ → List ℕ) → IsCode code → (w later : List
 fault_counts code c w later m some none r =
     let e : drop 1 (w ++ later) ≡ drop 1 w ++ later = drop-append-le 1 w later (omega arith) in
     faults_first code c (w ++ later) 1 None m (fault_begins code c w later some none) (rw e r)
+
+-- elements at the front that are faults, each by itself
+faults_count : (code : ℕ → List ℕ) → IsCode code → (n : ℕ) (xs : List ℕ) (m : ℕ) → ((q : ℕ) → q < n → IsPieceAt code xs q 1 None) → HasFaults code (drop n xs) m → HasFaults code xs (n + m)
+faults_count code c zero xs m each r = let e : m ≡ 0 + m = omega arith in subst (λ k. HasFaults code xs k) e r
+faults_count code c (suc n) xs m each r =
+    let first = each 0 (omega arith) in
+    let some = first.0 in
+    let here : 1 + n ≡ suc n = omega arith in
+    let rest : HasFaults code (drop n (drop 1 xs)) m = subst (λ ys. HasFaults code ys m) (sym (drop-drop n 1 xs ∙ ap (λ k. drop k xs) here)) r in
+    let next : HasFaults code (drop 1 xs) (n + m) =
+    faults_count code c n (drop 1 xs) m (λ q lt. piece_in_rest code xs 1 (suc q) q 1 None (omega arith) (omega arith) (each (suc q) (omega arith))) rest in
+    let begins : BeginsCut code xs 1 None = record {
+      piece = first;
+      within = omega arith;
+      outside = λ i. let before = i.begins in let ends = i.ends in first.2 (record { from = i.from; char = i.char; stands = i.stands; begins = omega arith; ends = omega arith });
+    } in
+    let e : 1 + (n + m) ≡ suc n + m = omega arith in
+    subst (λ k. HasFaults code xs k) e (faults_first code c xs 1 None (n + m) begins next)
+
+-- a maximal subpart is as many faults as it has elements
+pub subpart_counts : (code : ℕ → List ℕ) → IsCode code → (xs : List ℕ) (n m : ℕ) → IsMaximalSubpart code xs 0 n → HasFaults code (drop n xs) m → HasFaults code xs (n + m)
+subpart_counts code c xs n m h r =
+    let uncovered : Covered code xs 0 → ⊥ = λ v. let e : v.from ≡ 0 = omega (arith, v.begins) in h.offset.none v.char (rw e at v.stands) in
+    faults_count code c n xs m (λ q lt. subparts_are_faults code c xs 0 n q (h.offset.within, refl, uncovered) h (omega arith) (omega arith)) r
 
 -- Bytes of an encoding that have k more faults than others.
 

@@ -112,13 +112,13 @@ Decides-subpart w n le h = record {
 }
 
 -- the front of a code that nothing follows is one subpart
-pub Ends-front : (w : List ℕ) → 0 < length w → IsProperFront utf8 w → Ends (ReadsParts Utf8) w 0xFFFD (length w)
-Ends-front w some f = record {
+pub front_is_subpart : (w : List ℕ) → 0 < length w → IsProperFront utf8 w → IsMaximalSubpart utf8 w 0 (length w)
+front_is_subpart w some f = record {
+  offset = record { within = some; none = λ s h. no_code_in_front utf8 utf8_is_code w f.char s f.scalar f.longer f.front h };
   some = some;
   within = omega arith;
-  scalar = replacement;
-  wide = λ high. absurd (omega arith);
-  first = λ ss r. part_shows_first utf8 w (length w) None ss (omega arith) (whole) r;
+  front = λ more. rw all (record { char = f.char; scalar = f.scalar; within = omega (arith, f.longer); front = f.front });
+  longest = λ n fits g. omega arith;
 }
   where
     span : 0 + length w - 0 ≡ length w
@@ -127,14 +127,14 @@ Ends-front w some f = record {
     all : slice_range w 0 (0 + length w) ≡ w
     all = rw span (take_all (length w) w (omega arith))
 
-    whole : IsMaximalSubpart utf8 w 0 (length w)
-    whole = record {
-      offset = record { within = some; none = λ s h. no_code_in_front utf8 utf8_is_code w f.char s f.scalar f.longer f.front h };
-      some = some;
-      within = omega arith;
-      front = λ more. rw all (record { char = f.char; scalar = f.scalar; within = omega (arith, f.longer); front = f.front });
-      longest = λ n fits g. omega arith;
-    }
+pub Ends-front : (w : List ℕ) → 0 < length w → IsProperFront utf8 w → Ends (ReadsParts Utf8) w 0xFFFD (length w)
+Ends-front w some f = record {
+  some = some;
+  within = omega arith;
+  scalar = replacement;
+  wide = λ high. absurd (omega arith);
+  first = λ ss r. part_shows_first utf8 w (length w) None ss (omega arith) (front_is_subpart w some f) r;
+}
 
 -- Text.
 

@@ -1,10 +1,10 @@
 -- Damaged bytes that were mended, as transcoded bytes: the text of each of their parts, whatever follows.
-use Rattle.std.proofs.Common.{◌≡◌, ℕ, suc, ◌+◌, ◌-◌, ◌*◌, ◌<◌, ◌≤◌, Bool, false, true, List, [], ◌∷◌, ◌++◌, cond, length, get_or, take, drop, refl, lit<, Option, Some, None, arith, ap, ap₂, sym, subst, ◌∙◌, inl, inr, length-append, length-drop, length-take, take-append-drop}
+use Rattle.std.proofs.Common.{◌≡◌, ℕ, suc, ◌+◌, ◌-◌, ◌*◌, ◌<◌, ◌≤◌, Bool, false, true, List, [], ◌∷◌, ◌++◌, length, get_or, take, drop, refl, lit<, Option, Some, None, arith, ap, ap₂, sym, subst, ◌∙◌, inl, inr, length-append, length-drop, length-take, take-append-drop}
 use Rattle.std.proofs.lemmas.Bool.{cases_lt}
 use Rattle.std.proofs.lemmas.List.{drop-drop, drop-take, get_or-drop, get_or-take, take-append-le, take-take, take_all, take_rest}
-use Rattle.std.proofs.lemmas.List.Sums.{sum_by-append}
+use Rattle.std.proofs.lemmas.List.Sums.{sum_by-cons}
 use Rattle.std.proofs.lemmas.List.Elements.{All-cons, All-nil}
-use Rattle.std.specs.Prelude.{All, IsUtf8, count_by, flat_map, is_none, slice_range}
+use Rattle.std.specs.Prelude.{All, IsUtf8, flat_map, if◌then◌else◌, is_none, slice_range}
 use Rattle.utf_base.specs.Code.{utf8}
 use Rattle.utf_base.specs.CutLaws.{Follow}
 use Rattle.utf_base.specs.Piece.{Covered, Piece, Stands, end_of}
@@ -12,7 +12,7 @@ use Rattle.utf_base.specs.Scalar.{IsScalar}
 use Rattle.utf_base.specs.Subparts.{IsFrontOfCode, IsMaximalSubpart}
 use Rattle.utf_base.proofs.Rests.{stands_in_list, stands_on}
 use Rattle.utf_base.proofs.Utf8Code.{length_utf8, utf8_is_code}
-use Rattle.utf_lanes.specs.Mending.{IsMendedAt, MendsFront, all_shown, scalars_of, shown_as}
+use Rattle.utf_lanes.specs.Mending.{IsMendedAt, MendsFront, all_shown, invalid_bytes, scalars_of, shown_as}
 use Rattle.utf_lanes.specs.Utf8ToUtf16.{utf16_bytes}
 use Rattle.recoding.specs.Lossy.{BeginsNoCode, BeginsSubpart}
 use Rattle.recoding.specs.NextScalars.{HasByteOrder}
@@ -93,7 +93,7 @@ no_char_covers : (xs : List ℕ) (p : ℕ) → (Covered utf8 xs p → ⊥) → (
 no_char_covers xs p none s stands = none (record { from = p; char = s; stands = stands; begins = omega arith; ends = omega (arith, utf8_is_code.some s stands.scalar) })
 
 part_begins : (way : Way) (xs : List ℕ) (p n : ℕ) (a : Option ℕ) → p + 4 ≤ length xs → IsMendedAt (joins way) xs p n a
-    → BeginsBy way Utf8 (take 4 (drop p xs)) (shown_as a (byte_shown way (get_or xs p 0))) n (cond (is_none a) 1 0)
+    → BeginsBy way Utf8 (take 4 (drop p xs)) (shown_as a (byte_shown way (get_or xs p 0))) n (if is_none a then n else 0)
 part_begins Faults xs p n (Some s) four h = rw h.1 (Begins-char Faults (char_begins xs p four s h.0))
 part_begins Subparts xs p n (Some s) four h = rw h.1 (Begins-char Subparts (char_begins xs p four s h.0))
 part_begins (Table t) xs p n (Some s) four h = rw h.1 (Begins-char (Table t) (char_begins xs p four s h.0))
@@ -123,10 +123,8 @@ part_scalar way xs p n None h s e = byte_scalar way (get_or xs p 0) s e
 
 -- All parts, one after another.
 
-pub count_first : (x : Piece) (ps : List Piece) → cond (is_none x.char) 1 0 + count_by (λ y. is_none y.char) ps ≡ count_by (λ y. is_none y.char) (x ∷ ps)
-count_first x ps =
-    let one : cond (is_none x.char) 1 0 ≡ 0 + cond (is_none x.char) 1 0 = omega arith in
-    ap (λ n. n + count_by (λ y. is_none y.char) ps) one ∙ sym (sum_by-append (λ y. cond (is_none y.char) 1 0) (x ∷ []) ps)
+pub count_first : (x : Piece) (ps : List Piece) → (if is_none x.char then x.len else 0) + invalid_bytes ps ≡ invalid_bytes (x ∷ ps)
+count_first x ps = sym (sum_by-cons (λ y. if is_none y.char then y.len else 0) x ps)
 
 follow_up : (i : ℕ) (ps : List Piece) (j : ℕ) → Follow i ps j → i ≤ j
 follow_up i [] j f = omega arith
@@ -138,7 +136,7 @@ code_then to None ss = refl
 code_then to (Some s) ss = refl
 
 pub parts_become : (way : Way) (to : Form) (xs : List ℕ) (ps : List Piece) (i j : ℕ) → All (λ x. IsMendedAt (joins way) xs x.start x.len x.char) ps → Follow i ps j → j + 3 ≤ length xs
-    → Becomes way Utf8 to (take (j - i + 3) (drop i xs)) (flat_map (written to) (all_shown (byte_shown way) xs ps)) (count_by (λ x. is_none x.char) ps) (take 3 (drop j xs))
+    → Becomes way Utf8 to (take (j - i + 3) (drop i xs)) (flat_map (written to) (all_shown (byte_shown way) xs ps)) (invalid_bytes ps) (take 3 (drop j xs))
 parts_become way to xs [] i j each f le =
     let e : j - i + 3 ≡ 3 = omega arith in
     Becomes-where (take (j - i + 3) (drop i xs)) (take 3 (drop j xs)) (ap (λ n. take n (drop i xs)) (sym e)) (ap (λ n. take 3 (drop n xs)) f) (Becomes-none way Utf8 to (take 3 (drop i xs)))

@@ -1,9 +1,9 @@
 -- The piece that begins some bytes in each way of replacing, derived from the piece that a decoder gives.
-use Rattle.std.proofs.Common.{◌≡◌, ℕ, ◌+◌, ◌-◌, ◌<◌, ◌≤◌, ⊎_elim, inl, inr, Bool, true, Some, None, Option, List, [], ◌∷◌, ◌++◌, get_or, length, min, take, drop, flat_map, arith, refl, ap, sym, ◌∙◌, subst, append_assoc, take-append-drop, length-take, lit<}
+use Rattle.std.proofs.Common.{◌≡◌, ℕ, ◌+◌, ◌-◌, ◌/◌, ◌<◌, ◌≤◌, ⊎_elim, inl, inr, Bool, true, Some, None, Option, List, [], ◌∷◌, ◌++◌, get_or, length, min, take, drop, flat_map, arith, refl, ap, sym, ◌∙◌, subst, append_assoc, take-append-drop, length-take, lit<}
 use Rattle.std.specs.Prelude.{All}
 use Rattle.std.specs.Option.{option_map}
 use Rattle.std.proofs.lemmas.Bool.{cases_lt}
-use Rattle.std.proofs.lemmas.List.{append-nil, drop_all, get_or-take, take-append-le, take_rest}
+use Rattle.std.proofs.lemmas.List.{append-nil, drop_all, drop-append-le, get_or-take, take-append-le, take_rest}
 use Rattle.std.proofs.lemmas.List.Elements.{All-cons, All-nil}
 use Rattle.utf_base.specs.Code.{utf8, utf16}
 use Rattle.utf_base.specs.Front.{NoneBegins}
@@ -23,11 +23,12 @@ use Rattle.recoding.specs.declared.faults.FaultKind.{FaultKind}
 use Rattle.recoding.specs.declared.faults.FaultKind.TheVariants as kind
 use Rattle.recoding.specs.declared.form.Form.{Form}
 use Rattle.recoding.specs.declared.form.Form.TheVariants.{Utf8}
-use Rattle.recoding.proofs.Forms.{by_form, is_units}
+use Rattle.recoding.proofs.Forms.{by_form, is_units, no_more_parts, parts_of_utf16}
 use Rattle.recoding.specs.Lossy.{BeginsNoCode, BeginsSubpart, ReadsParts, ShowsUnitParts}
 use Rattle.recoding.specs.Faults.{fault_count}
 use Rattle.recoding.specs.Recoded.{IsProperFront, Lacks, Reads, ShowsUnits, written}
 use Rattle.recoding.specs.NextScalars.{Ends, Leads, fault_len, utf16_form}
+use Rattle.recoding.specs.Rooms.{parts_of}
 use Rattle.recoding.specs.TextForms.{text_form}
 use Rattle.recoding.specs.RepairTables.{char_for, unit_for}
 use Rattle.recoding.specs.declared.repair.Repair.{Repair}
@@ -35,11 +36,11 @@ use Rattle.recoding.specs.Replacing.{BeginsBy, BeginsLast, len_at_end, reads_by,
 use Rattle.recoding.specs.declared.way.Way.{Way}
 use Rattle.recoding.specs.declared.way.Way.TheVariants.{Faults, Subparts, Table}
 use Rattle.recoding.specs.Strict.{AwaitsKind, BeginsChar, BeginsFault, kind_of}
-use Rattle.recoding.proofs.FaultCounts.{counts_more, fault_counts, units_count_more}
+use Rattle.recoding.proofs.FaultCounts.{counts_more, fault_counts, none_in_nothing, subpart_counts, units_count_more}
 use Rattle.recoding.proofs.FrontBytes.{byte_counts, byte_shows, fault_is_some, fault_shows_units, first_unit, lacks_second, leading_counts, leading_shows, odd_two, replacement, units_two}
 use Rattle.utf_base.proofs.LaterLemmas.{no_code_at_last}
 use Rattle.recoding.proofs.HeldFronts.{leading_by_itself, no_code_in_front, two_do_not_lack}
-use Rattle.recoding.proofs.LossyLists.{Decides-subpart, Ends-front, units_in_parts, units_show}
+use Rattle.recoding.proofs.LossyLists.{Decides-subpart, Ends-front, front_is_subpart, units_in_parts, units_show}
 use Rattle.recoding.proofs.OddParts.{odd_part_two}
 use Rattle.recoding.proofs.SubpartLengths.{some_where_no_code}
 use Rattle.utf_base.proofs.PartLists.{parts_show_none, parts_show_one}
@@ -69,7 +70,7 @@ Begins-char way {from} {w} {s} {n} b =
         first = λ later ss r. rw (whole later) at (text_reads way from (s ∷ []) one (drop n w ++ later) ss r);
       };
       few = omega arith;
-      counts = λ on later. rw (whole later) at (text_counts from (s ∷ []) (drop n w ++ later) one) ∙ omega arith;
+      counts = λ later. rw (whole later) at (text_counts from (s ∷ []) (drop n w ++ later) one) ∙ omega arith;
     }
 
 -- If there is a fault of UTF-8, no code begins the bytes.
@@ -98,7 +99,7 @@ no_code_of_four w four none later s h =
       equal = sym (take-append-le (0 + length (utf8 s) - 0) w later (omega arith)) ∙ h.equal;
     })
 
--- if no code begins the bytes, one byte is a fault, and a maximal subpart is one part
+-- if no code begins the bytes, one byte is a fault, and each byte of a maximal subpart is one
 pub Begins-byte : {w : List ℕ} → BeginsNoCode w → BeginsBy Faults Utf8 w (Some 0xFFFD) 1 1
 Begins-byte {w} none =
     let some = some_where_no_code w none in
@@ -111,15 +112,20 @@ Begins-byte {w} none =
         first = λ later ss r. fault_shows_first utf8 utf8_is_code w later ss some (none later) r;
       };
       few = omega arith;
-      counts = λ on later. counts_more (w ++ later) (drop 1 w ++ later) 1 (λ m r. fault_counts utf8 utf8_is_code w later m some (none later) r);
+      counts = λ later. counts_more (w ++ later) (drop 1 w ++ later) 1 (λ m r. fault_counts utf8 utf8_is_code w later m some (none later) r);
     }
 
 -- what a table has for the byte
 pub Begins-repaired : (repair : Repair) {w : List ℕ} → BeginsNoCode w → BeginsBy (Table repair) Utf8 w (char_for repair.chars.now (get_or w 0 0)) 1 1
 Begins-repaired repair none = record { leads = Leads-byte repair.chars.now _ none; few = omega arith; counts = (Begins-byte none).counts }
 
-pub Begins-subpart : {w : List ℕ} {n : ℕ} → n ≤ length w → BeginsSubpart w n → BeginsBy Subparts Utf8 w (Some 0xFFFD) n 1
-Begins-subpart {w} {n} le h = record { leads = Decides-subpart w n le h; few = omega arith; counts = λ on. absurd on }
+pub Begins-subpart : {w : List ℕ} {n : ℕ} → n ≤ length w → BeginsSubpart w n → BeginsBy Subparts Utf8 w (Some 0xFFFD) n n
+Begins-subpart {w} {n} le h = record {
+  leads = Decides-subpart w n le h;
+  few = omega arith;
+  counts = λ later.
+      counts_more (w ++ later) (drop n w ++ later) n (λ m r. subpart_counts utf8 utf8_is_code (w ++ later) n m (h later) (rw (sym (drop-append-le n w later le)) at r));
+}
 
 -- A fault of UTF-16 is one unit, and a subpart too.
 
@@ -181,17 +187,18 @@ unit_begins : (way : Way) (high : Bool) (w : List ℕ) (k : FaultKind) → 2 ≤
 unit_begins way high w k two kinds = record {
   leads = unit_decides way high w k two kinds;
   few = omega arith;
-  counts = λ on later.
+  counts = λ later.
       units_count_more high (utf16_form high) (w ++ later) (drop 2 w ++ later) 1 0 refl
       (λ m r. rw (units_two high w later two) (fault_counts utf16 utf16_is_code (first_unit high w ∷ []) (units_of high (drop 2 w ++ later)) m (lit< tt) (no_code_of_units high w k two kinds later) r))
       (ap length (odd_two w later two) ∙ omega arith);
 }
 
-pub Begins-unit : (way : Way) (high : Bool) {w : List ℕ} {k : FaultKind} {n : ℕ} → BeginsFault (utf16_form high) w k n → BeginsBy way (utf16_form high) w (replaced_by way (utf16_form high) w) n 1
+pub Begins-unit : (way : Way) (high : Bool) {w : List ℕ} {k : FaultKind} {n : ℕ} → BeginsFault (utf16_form high) w k n
+    → BeginsBy way (utf16_form high) w (replaced_by way (utf16_form high) w) n (parts_of (utf16_form high) n)
 Begins-unit way high {w} {k} {n} f =
     let two : n ≡ 2 = rw (is_units high, fault_len) at f.len in
     let within = f.within in
-    rw two (unit_begins way high w k (omega arith) (rw (is_units high, kind_of) at f.kind))
+    rw (two, parts_of_utf16 high 2) (unit_begins way high w k (omega arith) (rw (is_units high, kind_of) at f.kind))
 
 -- Too few bytes at the end: one fault after another, or all of them one subpart.
 
@@ -265,11 +272,43 @@ after_fault from w =
     (λ (ge : fault_len from ≤ length w). let same : min (fault_len from) (length w) ≡ fault_len from = omega arith in ap (λ k. drop k w) same)
     (cases_lt (length w) (fault_len from))
 
-pub BeginsLast-few : (way : Way) (from : Form) (w : List ℕ) → 0 < length w → Lacks from w → BeginsLast way from w (replaced_by way from w) (len_at_end way from (length w)) 1
+-- All of them are faults: each byte, or each unit and an odd byte.
+
+units_count : (high : Bool) (w : List ℕ) → 0 < length w → unit_fault_kind (units_of high w) ≡ Some Incomplete → fault_count (utf16_form high) w ≡ (length w + 1) / 2
+units_count high [] some h = absurd (omega arith)
+units_count high (a ∷ []) some h = omega (arith, byte_counts high (utf16_form high) (a ∷ []) refl (lit< tt) some, none_in_nothing (utf16_form high))
+units_count high (a ∷ b ∷ []) some h =
+    omega (arith, leading_counts high (utf16_form high) (a ∷ b ∷ []) refl (omega arith) (lit< tt) (leading_by_itself (unit_of high a b) h), none_in_nothing (utf16_form high))
+units_count high (a ∷ b ∷ c ∷ []) some h =
+    omega (
+      arith,
+      leading_counts high (utf16_form high) (a ∷ b ∷ c ∷ []) refl (omega arith) (lit< tt) (leading_by_itself (unit_of high a b) h),
+      byte_counts high (utf16_form high) (c ∷ []) refl (lit< tt) (lit< tt),
+      none_in_nothing (utf16_form high),
+    )
+units_count high (a ∷ b ∷ c ∷ d ∷ w) some h = absurd (two_do_not_lack _ _ _ h)
+
+bytes_count : (w : List ℕ) → 0 < length w → IsProperFront utf8 w → fault_count Utf8 w ≡ length w
+bytes_count w some f =
+    let none : drop (length w) w ≡ [] = drop_all (length w) w (omega arith) in
+    omega (
+      arith,
+      counts_more w [] (length w) (λ m r. subpart_counts utf8 utf8_is_code w (length w) m (front_is_subpart w some f) (rw none r)),
+      none_in_nothing Utf8,
+    )
+
+all_count : (from : Form) (w : List ℕ) → 0 < length w → Lacks from w → fault_count from w ≡ parts_of from (length w)
+all_count = by_form _ bytes_count (λ high. rw (is_units high, Lacks, parts_of) (units_count high))
+
+one_part : (from : Form) (n : ℕ) → 0 < n → parts_of from (min (fault_len from) n) ≡ 1
+one_part = by_form _ (λ n some. omega arith) (λ high. rw (is_units high, fault_len, parts_of) (λ n some. omega arith))
+
+pub BeginsLast-few : (way : Way) (from : Form) (w : List ℕ) → 0 < length w → Lacks from w
+    → BeginsLast way from w (replaced_by way from w) (len_at_end way from (length w)) (parts_of from (len_at_end way from (length w)))
 BeginsLast-few Faults from w some lacks =
     let e = ends_by_fault from w some lacks in
     let least = fault_is_some from in
-    record {
+    rw (one_part from (length w) some) (record {
       leads = record {
         some = omega arith;
         within = omega arith;
@@ -278,17 +317,23 @@ BeginsLast-few Faults from w some lacks =
         first = λ ss r. e.shows ss (rw (after_fault from w) at r);
       };
       few = omega arith;
-      counts = λ on. rw (after_fault from w) e.counts;
+      counts = rw (after_fault from w) e.counts;
+    })
+BeginsLast-few Subparts from w some lacks =
+    let none : drop (length w) w ≡ [] = drop_all (length w) w (omega arith) in
+    record {
+      leads = Ends-few from w some lacks;
+      few = no_more_parts from (length w);
+      counts = rw none (omega (arith, all_count from w some lacks, none_in_nothing from));
     }
-BeginsLast-few Subparts from w some lacks = record { leads = Ends-few from w some lacks; few = omega arith; counts = λ on. absurd on }
 BeginsLast-few (Table t) from w some lacks =
     let e = ends_by_fault from w some lacks in
     let least = fault_is_some from in
-    record {
+    rw (one_part from (length w) some) (record {
       leads = Leads-few from t.chars.now w (min (fault_len from) (length w)) (omega arith) (omega arith) (after_fault from w) lacks;
       few = omega arith;
-      counts = λ on. rw (after_fault from w) e.counts;
-    }
+      counts = rw (after_fault from w) e.counts;
+    })
 
 -- What replaces a fault is decided by its front.
 
@@ -300,8 +345,8 @@ replaced_by_front Faults from w n some = refl
 replaced_by_front Subparts from w n some = refl
 replaced_by_front (Table t) from w n some = repaired_front from t.chars.now w n some
 
-pub begins_replaced : (way : Way) (from : Form) (bytes : List ℕ) (read n : ℕ) (c : Option ℕ) → c ≡ replaced_by way from (take (length bytes - read) (drop read bytes))
-    → BeginsBy way from (take 4 (drop read bytes)) (replaced_by way from (take 4 (drop read bytes))) n 1 → BeginsBy way from (take 4 (drop read bytes)) c n 1
-begins_replaced way from bytes read n c e begins =
+pub begins_replaced : (way : Way) (from : Form) (bytes : List ℕ) (read n k : ℕ) (c : Option ℕ) → c ≡ replaced_by way from (take (length bytes - read) (drop read bytes))
+    → BeginsBy way from (take 4 (drop read bytes)) (replaced_by way from (take 4 (drop read bytes))) n k → BeginsBy way from (take 4 (drop read bytes)) c n k
+begins_replaced way from bytes read n k c e begins =
     let same : replaced_by way from (take 4 (drop read bytes)) ≡ c = replaced_by_front way from (drop read bytes) 4 (lit< tt) ∙ ap (replaced_by way from) (sym (take_rest bytes read)) ∙ sym e in
-    subst (λ a. BeginsBy way from (take 4 (drop read bytes)) a n 1) same begins
+    subst (λ a. BeginsBy way from (take 4 (drop read bytes)) a n k) same begins

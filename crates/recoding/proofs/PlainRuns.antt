@@ -8,7 +8,7 @@ use Rattle.utf_base.specs.CutLaws.{Follow}
 use Rattle.utf_base.specs.Piece.{Piece}
 use Rattle.utf_base.proofs.Utf16Code.{utf16-1}
 use Rattle.utf_lanes.specs.BytePairs.{bytes_of}
-use Rattle.utf_lanes.specs.Mending.{IsMendedAt, all_shown, shown_as}
+use Rattle.utf_lanes.specs.Mending.{IsMendedAt, all_shown, invalid_bytes, shown_as}
 use Rattle.utf_lanes.specs.PlainWindows.{ArePlain, char_alone, plain_unit}
 use Rattle.utf_lanes.specs.Utf8ToUtf16.{concat_range, halves}
 use Rattle.utf_lanes.proofs.Joined.{joined_add}
@@ -49,7 +49,7 @@ one_counted b = elim (cases_lt b 0x80) [
   | inr high ↦ rw (le-ltb b 0x80 high, le-leb 0x80 b high) refl
 ]
 
-parts_count : (xs : List ℕ) (p n : ℕ) → p + n ≤ length xs → count_by (leb 0x80) (take n (drop p xs)) ≡ count_by (λ x. is_none x.char) (plain_parts xs p n)
+parts_count : (xs : List ℕ) (p n : ℕ) → p + n ≤ length xs → count_by (leb 0x80) (take n (drop p xs)) ≡ invalid_bytes (plain_parts xs p n)
 unfolding plain_parts
 parts_count xs p zero le = refl
 parts_count xs p (suc n) le =
@@ -85,7 +85,7 @@ Recodes-plain {appends = appends} {way = way} {to = to} {xs = xs} {old = old} {n
     let each = parts_each (joins way) xs 0 64 (λ k ge lt. plain.each (joins way) k lt) in
     let follow = parts_follow xs 0 64 64 refl in
     let codes = parts_codes way high to form same xs 0 64 in
-    let count : n ≡ count_by (λ x. is_none x.char) ps = plain.count ∙ parts_count xs 0 64 (omega arith) in
+    let count : n ≡ invalid_bytes ps = plain.count ∙ parts_count xs 0 64 (omega arith) in
     record {
       grown = flat_map (written to) (all_shown (byte_shown way) xs ps);
       appended = subst (λ ys. appends old ys new) codes put;

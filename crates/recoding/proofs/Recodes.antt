@@ -12,7 +12,7 @@ use Rattle.recoding.specs.Outputs.{Extends}
 use Rattle.recoding.specs.FilledRooms.{FillsRoom}
 use Rattle.recoding.specs.Rooms.{HasRoomFor}
 use Rattle.recoding.specs.Strict.{PutsText}
-use Rattle.recoding.proofs.Becoming.{Becomes-none, NextIsLonger-of, begins_short, begins_some, begins_within, next_piece, next_text, run_after}
+use Rattle.recoding.proofs.Becoming.{Becomes-none, NextIsLonger-of, begins_short, begins_within, next_piece, next_text, run_after}
 use Rattle.recoding.proofs.FrontBytes.{lacks_all}
 use Rattle.recoding.proofs.Growing.{length_written}
 use Rattle.recoding.proofs.TextRuns.{text_room}
@@ -69,7 +69,7 @@ module _ {O : Type 0} {appends : O → List ℕ → O → Type 0} {way : Way} {f
         appended = more old mid new f.grown (code_of to c) f.appended put;
         within = omega (arith, f.within, begins_within begins, length-drop p bytes, length-take 4 (drop p bytes));
         short = omega (arith, f.short, few, length-append f.grown (code_of to c));
-        few = omega (arith, f.few, begins.few, begins_some begins);
+        few = omega (arith, f.few, begins.few);
         becomes = run_after bytes p n f.becomes (next_piece (drop p bytes) c n begins);
       }
 

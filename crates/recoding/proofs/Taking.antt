@@ -13,7 +13,7 @@ use Rattle.recoding.specs.LossyBytes.{AddsAllLossy, AddsLastLossy, AddsLossy, Fe
 use Rattle.recoding.specs.Outputs.{Extends}
 use Rattle.recoding.specs.Recoded.{Feeds, Finishes, IsRecoded, Lacks, Recoding}
 use Rattle.recoding.specs.Repaired.{AddsAllRepaired, AddsLastRepaired, AddsRepaired, FeedsRepaired, FinishesRepaired, repaired, repaired_outcome}
-use Rattle.recoding.specs.Replacing.{Becomes, BeginsBy, BeginsLast, CodeIsLonger, FillsPlace, IsCounting, IsFullBy, IsLastFullBy, NextIsLonger, Recodes, Takes, TakesAll, TakesLast, at_place, code_of, list_by}
+use Rattle.recoding.specs.Replacing.{Becomes, BeginsBy, BeginsLast, CodeIsLonger, FillsPlace, IsFullBy, IsLastFullBy, NextIsLonger, Recodes, Takes, TakesAll, TakesLast, at_place, code_of, list_by}
 use Rattle.recoding.specs.Rooms.{ComesNearer, FeedsInto, FinishesInto, HasRoomFor, IsAmple}
 use Rattle.recoding.proofs.Advancing.{Replaces-of}
 use Rattle.recoding.proofs.Becoming.{NextIsLonger-of, Becomes-front, Becomes-more, Becomes-none, Becomes-then, Becomes-where, begins_short, begins_some, begins_within, continues_of, ends_short, ends_some, ends_within, leaves_of, list_last}
@@ -187,7 +187,7 @@ module _ {O : Type 0} {appends : O → List ℕ → O → Type 0} {way : Way} wh
   -- The end.
 
   pub TakesLast-none : ((a : O) → appends a [] a) → (r : Recoding) {out : O} → TakesLast appends way r out out 0 r
-  TakesLast-none none r {out} = record { grown = []; appended = none out; short = omega arith; fewer = omega arith; same = refl; counts = λ on. omega arith; from = refl; to = refl; replaced = refl }
+  TakesLast-none none r {out} = record { grown = []; appended = none out; short = omega arith; fewer = omega arith; same = refl; counts = omega arith; from = refl; to = refl; replaced = refl }
 
   pub TakesLast-piece : ((a b c : O) (xs ys : List ℕ) → appends a xs b → appends b ys c → appends a (xs ++ ys) c) → {r s v : Recoding} {old mid new : O} {n j k : ℕ} (c : Option ℕ) (from to : Form)
       → from ≡ r.from → to ≡ r.to → TakesLast appends way r old mid j s → BeginsLast way from s.held c n k → appends mid (code_of to c) new
@@ -206,7 +206,7 @@ module _ {O : Type 0} {appends : O → List ℕ → O → Type 0} {way : Way} wh
         same =
             f.same ∙ ap (λ xs. f.grown ++ xs) (list_last way r.from r.to s.held c n here.leads ∙ ap (λ xs. code_of r.to c ++ list_by way r.from r.to xs) (sym at))
             ∙ sym (append_assoc f.grown (code_of r.to c) (list_by way r.from r.to v.held));
-        counts = λ on. omega (arith, f.counts on, here.counts on, ap (fault_count r.from) at);
+        counts = omega (arith, f.counts, here.counts, ap (fault_count r.from) at);
         from = ap (λ x. x.from) same ∙ f.from;
         to = ap (λ x. x.to) same ∙ f.to;
         replaced = ap (λ x. x.replaced) same ∙ f.replaced;
@@ -271,14 +271,14 @@ all_feeds r part old new s (n, t, f, lacks, e) =
     rw e (record { grows = record { grown = f.grown; appended = put.items; continues = rw whole at (continues_of f.becomes) }; from = f.from; to = f.to; few = f.few })
 
 -- the number of faults that were replaced
-replaces : {O : Type 0} {appends : O → List ℕ → O → Type 0} {way : Way} {r s t : Recoding} {part : List ℕ} {old new : O} {read n m : ℕ} → IsCounting way → Takes appends way r part old new read n s
+replaces : {O : Type 0} {appends : O → List ℕ → O → Type 0} {way : Way} {r s t : Recoding} {part : List ℕ} {old new : O} {read n m : ℕ} → Takes appends way r part old new read n s
     → t ≡ record (s) { replaced = m } → Replaces r (take read part) n t
-replaces {r = r} {t = t} {part = part} {read = read} {n = n} on f e = Replaces-of r t r.from (take read part) _ _ n refl (ap (λ x. x.from) e ∙ f.from) refl (ap (λ x. x.held) e) (f.becomes.counts on)
+replaces {r = r} {t = t} {part = part} {read = read} {n = n} f e = Replaces-of r t r.from (take read part) _ _ n refl (ap (λ x. x.from) e ∙ f.from) refl (ap (λ x. x.held) e) f.becomes.counts
 
 pub all_counted : {Z : Type 0} (r : Recoding) (part : List ℕ) (old new : Vec ℕ Z) (s : Recoding) → TakesAll r part old new s → CountsFed r part s
 all_counted r part old new s (n, t, f, lacks, e) =
     let whole : take (length part) part ≡ part = take_all (length part) part (omega arith) in
-    (n, rw whole at (replaces tt f e), ap (λ x. x.replaced) e ∙ ap (λ m. saturated (m + n)) f.replaced)
+    (n, rw whole at (replaces f e), ap (λ x. x.replaced) e ∙ ap (λ m. saturated (m + n)) f.replaced)
 
 pub all_lacks : {Z : Type 0} (r : Recoding) (part : List ℕ) (old new : Vec ℕ Z) (s : Recoding) → TakesAll r part old new s → Lacks r.from s.held
 all_lacks r part old new s (n, t, f, lacks, e) = rw e lacks
@@ -340,9 +340,9 @@ fed_into f e =
       fits = fits_old f;
     })
 
-pub replaces_into : {way : Way} {r s t : Recoding} {part old new : List ℕ} {read wrote n m : ℕ} → IsCounting way → Takes FillsPlace way r part (at_place old 0) (at_place new wrote) read n s → t ≡ record (s) { replaced = m }
+pub replaces_into : {way : Way} {r s t : Recoding} {part old new : List ℕ} {read wrote n m : ℕ} → Takes FillsPlace way r part (at_place old 0) (at_place new wrote) read n s → t ≡ record (s) { replaced = m }
     → Replaces r (take read part) n t
-replaces_into on f e = replaces on f e
+replaces_into f e = replaces f e
 
 pub counted : {O : Type 0} {appends : O → List ℕ → O → Type 0} {way : Way} {r s t : Recoding} {part : List ℕ} {old new : O} {read n : ℕ} → Takes appends way r part old new read n s
     → t ≡ record (s) { replaced = saturated (s.replaced + n) } → AddsUp r n t
@@ -378,18 +378,19 @@ fed_repaired repair {r} {s} {part = part} {read = read} f e =
       fits = fits_old f;
     })
 
-pub fed_lossily : {r s : Recoding} {part old new : List ℕ} {read wrote n : ℕ} → Takes FillsPlace Subparts r part (at_place old 0) (at_place new wrote) read n s → FeedsLossy r part old new read wrote s
-fed_lossily {r} {s} {part} {read = read} f =
+pub fed_lossily : {r s t : Recoding} {part old new : List ℕ} {read wrote n m : ℕ} → Takes FillsPlace Subparts r part (at_place old 0) (at_place new wrote) read n s → t ≡ record (s) { replaced = m }
+    → FeedsLossy r part old new read wrote t
+unfolding lossy_outcome
+fed_lossily {r} {s} {part = part} {read = read} f e =
     let fills = f.appended in
-    record {
+    rw e (record {
       within = f.within;
       adds = rw fills.front (outcome_taken r s (take read part) f.grown f.from f.to f.becomes);
       from = f.from;
       to = f.to;
-      replaced = f.replaced;
       few = f.few;
       fits = fits_old f;
-    }
+    })
 
 -- At the end.
 
@@ -408,8 +409,8 @@ finished_into {r} {s} f e =
     let short = f.short in
     rw e (record { leaves = rw fills.front (leaves_of r.from r.to r.held f.grown s.held f.same); from = f.from; to = f.to; few = omega (arith, f.fewer); fits = omega (arith, fills.fits, fills.whole) })
 
-pub replaces_last : {way : Way} {r s t : Recoding} {old new : List ℕ × ℕ} {n m : ℕ} → IsCounting way → TakesLast FillsPlace way r old new n s → t ≡ record (s) { replaced = m } → ReplacesLast r n t
-replaces_last {r = r} {t = t} {n = n} on f e = f.counts on ∙ ap (λ k. n + k) (ap₂ (λ x xs. fault_count x xs) (sym (ap (λ x. x.from) e ∙ f.from)) (sym (ap (λ x. x.held) e)))
+pub replaces_last : {way : Way} {r s t : Recoding} {old new : List ℕ × ℕ} {n m : ℕ} → TakesLast FillsPlace way r old new n s → t ≡ record (s) { replaced = m } → ReplacesLast r n t
+replaces_last {r = r} {t = t} {n = n} f e = f.counts ∙ ap (λ k. n + k) (ap₂ (λ x xs. fault_count x xs) (sym (ap (λ x. x.from) e ∙ f.from)) (sym (ap (λ x. x.held) e)))
 
 pub counted_last : {way : Way} {r s t : Recoding} {old new : List ℕ × ℕ} {n : ℕ} → TakesLast FillsPlace way r old new n s → t ≡ record (s) { replaced = saturated (s.replaced + n) } → AddsUp r n t
 counted_last {n = n} f e = ap (λ x. x.replaced) e ∙ ap (λ m. saturated (m + n)) f.replaced
@@ -429,17 +430,19 @@ outcome_ended r s grown e f h out =
     let same : lossy s.from s.to (s.held ++ []) ≡ rest = ap (lossy s.from s.to) (append-nil s.held) ∙ ap (λ x. lossy x s.to s.held) e ∙ ap (λ x. lossy r.from x s.held) f in
     ap (λ xs. (out ++ grown) ++ xs) same ∙ append_assoc out grown rest ∙ ap (λ xs. out ++ xs) (sym h ∙ ap (lossy r.from r.to) (sym (append-nil r.held)))
 
-pub finished_lossily : {r s : Recoding} {old new : List ℕ} {wrote n : ℕ} → TakesLast FillsPlace Subparts r (at_place old 0) (at_place new wrote) n s → FinishesLossy r old new wrote s
-finished_lossily {r} {s} f =
+pub finished_lossily : {r s t : Recoding} {old new : List ℕ} {wrote n m : ℕ} → TakesLast FillsPlace Subparts r (at_place old 0) (at_place new wrote) n s → t ≡ record (s) { replaced = m }
+    → FinishesLossy r old new wrote t
+unfolding lossy_outcome
+finished_lossily {r} {s} f e =
     let fills = f.appended in
-    record {
+    let short = f.short in
+    rw e (record {
       adds = rw fills.front (outcome_ended r s f.grown f.from f.to f.same);
       from = f.from;
       to = f.to;
-      replaced = f.replaced;
       few = omega (arith, f.fewer);
       fits = omega (arith, fills.fits, fills.whole);
-    }
+    })
 
 -- if nothing is carried over any more, all is written
 pub lossy_done : (r s : Recoding) (grown : List ℕ) → s.held ≡ [] → AddsLastLossy r grown s → AddsAllLossy r grown

@@ -59,7 +59,6 @@ pub record FeedsLossy (r : Recoding) (part old new : List ℕ) (read wrote : ℕ
   pub adds : AddsLossy r (take read part) (take wrote new) s
   pub from : s.from ≡ r.from
   pub to : s.to ≡ r.to
-  pub replaced : s.replaced ≡ r.replaced
   pub few : length s.held ≤ most_held
   pub fits : wrote ≤ length old
 
@@ -68,7 +67,6 @@ pub record FinishesLossy (r : Recoding) (old new : List ℕ) (wrote : ℕ) (s : 
   pub adds : AddsLastLossy r (take wrote new) s
   pub from : s.from ≡ r.from
   pub to : s.to ≡ r.to
-  pub replaced : s.replaced ≡ r.replaced
   pub few : length s.held ≤ length r.held
   pub fits : wrote ≤ length old
 

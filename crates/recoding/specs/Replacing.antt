@@ -15,7 +15,7 @@ use Rattle.recoding.specs.declared.form.TheConstants.{WIDEST}
 use Rattle.recoding.specs.Recoded.{Lacks, Reads, Recoding, most_held, written}
 use Rattle.recoding.specs.RecodedBytes.{recoded}
 use Rattle.recoding.specs.Repaired.{ReadsBy, repaired}
-use Rattle.recoding.specs.Rooms.{BeginsLonger}
+use Rattle.recoding.specs.Rooms.{BeginsLonger, parts_of}
 use Rattle.recoding.specs.RepairTables.{char_for}
 use Rattle.recoding.specs.TextForms.{text_form}
 
@@ -59,34 +59,28 @@ abbrev pub CodeIsLonger : Form → Option ℕ → ℕ → Type 0
 CodeIsLonger to None room = ⊥
 CodeIsLonger to (Some s) room = room < length (written to s)
 
--- faults are counted
-abbrev pub IsCounting : Way → Type 0
-IsCounting Faults = Unit {0}
-IsCounting Subparts = ⊥
-IsCounting (Table t) = Unit {0}
-
 -- Whatever follows the bytes, they become `grown`, followed by what the carried-over ones become before what follows.
 -- The number of faults that were replaced is given.
 pub record Becomes (way : Way) (from to : Form) (bytes grown : List ℕ) (faults : ℕ) (held : List ℕ) : Type 0 where
   pub same : (later : List ℕ) → list_by way from to (bytes ++ later) ≡ grown ++ list_by way from to (held ++ later)
-  pub counts : IsCounting way → CountsTo from bytes faults held
+  pub counts : CountsTo from bytes faults held
 
--- The bytes begin with n bytes that show this scalar, or nothing, and are k faults, whatever follows.
+-- The bytes begin with n bytes that show this scalar, or nothing, and are so many faults, whatever follows.
 pub record BeginsBy (way : Way) (from : Form) (w : List ℕ) (c : Option ℕ) (n faults : ℕ) : Type 0 where
   pub leads : Leads (reads_by way from) w c n
-  pub few : faults ≤ 1
-  pub counts : IsCounting way → CountsTo from w faults (drop n w)
+  pub few : faults ≤ n
+  pub counts : CountsTo from w faults (drop n w)
 
--- The bytes begin with n bytes that show this scalar, or nothing, and are k faults, if nothing follows.
+-- The bytes begin with n bytes that show this scalar, or nothing, and are so many faults, if nothing follows.
 pub record BeginsLast (way : Way) (from : Form) (w : List ℕ) (c : Option ℕ) (n faults : ℕ) : Type 0 where
   pub leads : LeadsLast (reads_by way from) w c n
-  pub few : faults ≤ 1
-  pub counts : IsCounting way → fault_count from w ≡ faults + fault_count from (drop n w)
+  pub few : faults ≤ n
+  pub counts : fault_count from w ≡ faults + fault_count from (drop n w)
 
--- a piece that begins the bytes, whatever follows
+-- a piece that begins the bytes, whatever follows; one that is replaced is a fault for each byte, or each unit
 abbrev pub IsNext : Way → Form → List ℕ → ShownPiece → Type 0
 IsNext way from w (piece.Char s n) = BeginsBy way from w (Some s) n 0
-IsNext way from w (piece.Fault n) = BeginsBy way from w (replaced_by way from w) n 1
+IsNext way from w (piece.Fault n) = BeginsBy way from w (replaced_by way from w) n (parts_of from n)
 
 -- the number of bytes that are replaced together if they are too few and nothing follows: those of a fault, or
 -- all of them, which are one subpart
@@ -162,7 +156,7 @@ pub record TakesLast {O : Type 0} (appends : O → List ℕ → O → Type 0) (w
   pub short : length grown + WIDEST * length s.held ≤ WIDEST * length r.held
   pub fewer : faults + length s.held ≤ length r.held
   pub same : list_by way r.from r.to r.held ≡ grown ++ list_by way r.from r.to s.held
-  pub counts : IsCounting way → fault_count r.from r.held ≡ faults + fault_count r.from s.held
+  pub counts : fault_count r.from r.held ≡ faults + fault_count r.from s.held
   pub from : s.from ≡ r.from
   pub to : s.to ≡ r.to
   pub replaced : s.replaced ≡ r.replaced

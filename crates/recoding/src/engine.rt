@@ -291,7 +291,7 @@ fn recode_faults<'a, S: Text, T: Text, F: Replacing<'a>, O: Output>(
                 stop = read + AFTER_FAULT;
                 T::put_any(S::replacement(by.way(), &bytes[read..]), out);
                 read += len;
-                replaced += 1;
+                replaced += S::count_parts(len);
             }
         }
     }

@@ -3,6 +3,7 @@ ghost use Rattle.std.specs.Prelude.{◌≡◌, ◌<◌, ◌≤◌, length, min, 
 ghost use Rattle.recoding.specs.Recoded.{Lacks, written};
 ghost use Rattle.recoding.specs.NextScalars.{fault_len};
 ghost use Rattle.recoding.specs.Replacing.{BeginsBy, BeginsLast, CodeIsLonger, code_of, len_at_end, replaced_by};
+ghost use Rattle.recoding.specs.Rooms.{parts_of};
 ghost use Rattle.recoding.specs.Strict.{IsFirstPiece, lacking};
 
 use crate::faults::FaultKind;
@@ -44,18 +45,18 @@ pub(crate) fn next_of(way: Way<'_>, from: Form, bytes: &[u8]) -> Option<NextScal
     }
 }
 
-// The fault that begins the bytes, of this length, and what replaces it.
+// The fault or faults that begin the bytes, of this length, and what replaces them.
 #[inline(always)]
 fn fault_of(way: Way<'_>, from: Form, bytes: &[u8], len: usize) -> NextScalar
     requires { 0 < length bytes.now }
     ensures c { result.c ≡ replaced_by way.entry from bytes.now }
     ensures len { result.len ≡ len }
-    ensures one { result.faults ≡ 1 }
+    ensures faults { result.faults ≡ parts_of from len }
 {
     NextScalar {
         c: by_form!(from, replacement(way, bytes)),
         len,
-        faults: 1,
+        faults: count_parts(from, len),
     }
 }
 
@@ -89,6 +90,14 @@ pub(crate) fn fault_bytes(from: Form) -> usize
     ensures { result ≡ fault_len from }
 {
     by_form!(from, fault_bytes())
+}
+
+// The number of bytes of UTF-8, or of units of UTF-16, in so many bytes. An odd byte counts as a unit.
+#[inline(always)]
+pub(crate) fn count_parts(from: Form, len: usize) -> usize
+    ensures { result ≡ parts_of from len }
+{
+    by_form!(from, count_parts(len))
 }
 
 // Appends the code of the character.

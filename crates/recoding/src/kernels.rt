@@ -46,7 +46,7 @@ const SHORT: usize = 1024;
 pub(crate) struct Damaged {
     // The number of bytes that were transcoded.
     pub(crate) read: usize,
-    // The number of replacements of invalid bytes.
+    // The number of their faults that were replaced.
     pub(crate) replaced: usize,
 }
 

@@ -1,11 +1,11 @@
 //! Lossy transcoding of text that comes in parts: one U+FFFD for each maximal subpart.
 ghost use Rattle.std.specs.Prelude.{◌≡◌, [], ◌+◌, ◌-◌, ◌<◌, ◌≤◌, length, take, IsTrue, IsFalse};
+ghost use Rattle.recoding.specs.Faults.{AddsUp, KeepsCount, Replaces, ReplacesLast, replaced_in_all};
 ghost use Rattle.recoding.specs.LossyBytes.{AddsAllLossy, AddsLastLossy, AddsLossy, FeedsLossy, FinishesLossy, IsFullLossy, IsLastFullLossy};
 ghost use Rattle.recoding.specs.Recoded.{Lacks};
 ghost use Rattle.recoding.specs.Rooms.{ComesNearer, IsAmple, IsAmpleFor};
 
 use crate::recoder::Recoder;
-use crate::recoder_runs::progress;
 use crate::rooms::Progress;
 use crate::way::Way;
 
@@ -22,8 +22,9 @@ impl Recoder {
     /// call and `feed_into` write the same.
     ///
     /// Bytes that may still become a character are carried over, at most three. Everything before them is
-    /// written. `read`, `written` and `is_full` are as for `feed_into`, and `replaced` is 0: this call does
-    /// not count. You may mix it with the other calls: each continues with the bytes that the recoder carries
+    /// written. `read`, `written` and `is_full` are as for `feed_into`. So is `replaced`: it counts invalid
+    /// bytes, lone surrogates and odd last bytes, and not U+FFFD, so a maximal subpart of three bytes adds
+    /// three. You may mix this call with the others: each continues with the bytes that the recoder carries
     /// over. End the input by `finish_lossy_into`.
     ///
     /// Cost: O(n) in what is read and written.
@@ -37,16 +38,20 @@ impl Recoder {
         ensures waits { IsFalse result.is_full → Lacks self.old.from self.new.held }
         ensures moves { 4 ≤ length room.old → 0 < length part.now → 0 < result.read + result.written }
         ensures nearer { ComesNearer part.now room.old result.read self.old self.new }
-        ensures uncounted { result.replaced ≡ 0 }
         ensures outcome { AddsLossy self.old (take result.read part.now)
             (take result.written room.new) self.new }
+        ensures replaces { Replaces self.old (take result.read part.now) result.replaced self.new }
+        ensures total { AddsUp self.old result.replaced self.new }
+        ensures counts { KeepsCount self.old (take result.read part.now) self.new }
     {
         let done = self.take(Way::Subparts, part, room);
-        progress(done.read, done.written, 0, done.is_full)
+        self.count_faults(done.replaced);
+        done
     }
 
     /// Finishes as `finish_into` does, after `feed_lossy_into`. If the recoder carries over the front of a
-    /// character, that becomes one U+FFFD, in each encoding. `read` and `replaced` are 0.
+    /// character, that becomes one U+FFFD, in each encoding, and `replaced` counts its bytes, or in UTF-16 its
+    /// unit and the odd byte after it. `read` is 0.
     ///
     /// If `is_full` is false, nothing is carried over any more. If it is true, the next character did not
     /// fit: call this again, with a new buffer. Capacity for four bytes is enough for any character.
@@ -59,11 +64,14 @@ impl Recoder {
         ensures enough { IsAmple (length room.old) (length self.old.held) → IsFalse result.is_full }
         ensures all { IsFalse result.is_full → self.new.held ≡ [] }
         ensures read { result.read ≡ 0 }
-        ensures uncounted { result.replaced ≡ 0 }
         ensures outcome { AddsLastLossy self.old (take result.written room.new) self.new }
         ensures outcome_done { IsFalse result.is_full → AddsAllLossy self.old (take result.written room.new) }
+        ensures replaces { ReplacesLast self.old result.replaced self.new }
+        ensures total { AddsUp self.old result.replaced self.new }
+        ensures counted { IsFalse result.is_full → self.new.replaced ≡ replaced_in_all self.old [] }
     {
         let done = self.take_last_into(Way::Subparts, room);
-        progress(0, done.written, 0, done.is_full)
+        self.count_faults(done.replaced);
+        done
     }
 }

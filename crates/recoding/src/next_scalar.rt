@@ -27,12 +27,12 @@ use utf_lanes::text_front::front_of_text;
 pub(crate) enum ShownPiece {
     // A character, and its length in bytes.
     Char(char, usize),
-    // A fault, and its length in bytes.
+    // A fault, or several that are replaced together, and their length in bytes.
     Fault(usize),
 }
 
 // What some bytes begin with: the character to be written, if there is one, the number of bytes that become it, and the
-// number of faults among them, 0 or 1.
+// number of faults that they are.
 #[derive(Clone, Copy, Drop)]
 pub(crate) struct NextScalar {
     pub(crate) c: Option<char>,

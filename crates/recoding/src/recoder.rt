@@ -281,11 +281,11 @@ impl Recoder {
         self.held.as_slice()
     }
 
-    /// The number of invalid bytes, lone surrogates and odd last bytes that the recoder has replaced by
-    /// U+FFFD since it was made. A U+FFFD in the input does not count. The count stops at 2^64 - 1.
+    /// The number of invalid bytes, lone surrogates and odd last bytes that the recoder has replaced since it
+    /// was made. A U+FFFD in the input does not count. The count stops at 2^64 - 1.
     ///
-    /// `feed`, `feed_into` and `finish_into` count. The calls that stop at the first invalid byte
-    /// replace nothing, and the lossy calls do not count.
+    /// It is the same in each way of replacing: a maximal subpart of three bytes counts as three, and a byte
+    /// that a table leaves out counts too. The calls that stop at the first invalid byte replace nothing.
     pub fn replaced(&self) -> u64
         ensures { result ≡ self.now.replaced }
     {

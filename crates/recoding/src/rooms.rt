@@ -1,8 +1,9 @@
 //! The capacity that transcoding needs, and the progress of a call with a limited one.
 ghost use Rattle.std.specs.Prelude.{◌≡◌, ◌≤◌, ◌^◌, IfSome, IfNone};
-ghost use Rattle.recoding.specs.Rooms.{most_bytes, parts_of, widest, IsRoomFor};
+ghost use Rattle.recoding.specs.Rooms.{most_bytes, widest, IsRoomFor};
 
 use crate::form::Form;
+use crate::form_calls::count_parts;
 
 /// An upper bound, in bytes, of the output for `len` bytes of input. Into UTF-8 it is three for each byte of
 /// UTF-8, or for each unit of UTF-16. Into UTF-16 it is two. An odd byte at the end counts as a unit. `None`
@@ -24,15 +25,6 @@ fn bytes_each(to: Form) -> usize
     match to {
         Form::Utf8 => 3,
         Form::Utf16Le | Form::Utf16Be => 2,
-    }
-}
-
-fn count_parts(from: Form, len: usize) -> usize
-    ensures { result ≡ parts_of from len }
-{
-    match from {
-        Form::Utf8 => len,
-        Form::Utf16Le | Form::Utf16Be => len / 2 + len % 2,
     }
 }
 

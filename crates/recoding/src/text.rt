@@ -3,6 +3,7 @@ ghost use Rattle.std.specs.Prelude.{◌≡◌, ◌<◌, ◌≤◌, length, IfSom
 ghost use Rattle.recoding.specs.Recoded.{Lacks, written};
 ghost use Rattle.recoding.specs.NextScalars.{fault_len};
 ghost use Rattle.recoding.specs.Replacing.{CodeIsLonger, IsNext, code_of, replaced_by};
+ghost use Rattle.recoding.specs.Rooms.{parts_of};
 ghost use Rattle.recoding.specs.Strict.{BeginsChar, IsFirstPiece, lacking};
 
 use crate::codes::{len_of_units, put_code_units, put_short};
@@ -58,6 +59,10 @@ pub(crate) trait Text {
     // The length of a fault in bytes.
     fn fault_bytes() -> usize
         ensures { result ≡ fault_len form };
+
+    // The number of bytes of UTF-8, or of units of UTF-16, in so many bytes. An odd byte counts as a unit.
+    fn count_parts(len: usize) -> usize
+        ensures { result ≡ parts_of form len };
 
     // The kind of a fault that too few bytes are.
     fn lacking_kind() -> FaultKind
@@ -179,6 +184,11 @@ impl Text for Utf8 {
     }
 
     #[inline(always)]
+    fn count_parts(len: usize) -> usize {
+        len
+    }
+
+    #[inline(always)]
     fn lacking_kind() -> FaultKind {
         FaultKind::Utf8(Utf8ErrorKind::TooFewBytes)
     }
@@ -243,6 +253,12 @@ impl<E: ByteOrder> Text for Utf16<E> {
     #[tactic(auto, using(crate::proofs::Forms::fault_of_utf16))]
     fn fault_bytes() -> usize {
         2usize
+    }
+
+    #[inline(always)]
+    #[tactic(auto, using(crate::proofs::Forms::parts_of_utf16))]
+    fn count_parts(len: usize) -> usize {
+        len / 2 + len % 2
     }
 
     #[inline(always)]

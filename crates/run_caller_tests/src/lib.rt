@@ -8,6 +8,8 @@ mod faults;
 #[cfg(test)]
 mod growing;
 #[cfg(test)]
+mod lossy;
+#[cfg(test)]
 mod parts;
 #[cfg(test)]
 mod places;

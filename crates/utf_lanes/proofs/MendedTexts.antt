@@ -1,5 +1,5 @@
 -- The text of damaged bytes, one part after another.
-use Rattle.std.proofs.Common.{◌≡◌, ℕ, zero, suc, ◌+◌, ◌-◌, ◌*◌, ◌<◌, ◌≤◌, Bool, false, true, List, [], ◌∷◌, ◌++◌, cond, length, get_or, drop, set, take, Option, Some, None, arith, refl, ap, ap₂, sym, subst, ◌∙◌, inl, inr, lit<, length-take, append_assoc}
+use Rattle.std.proofs.Common.{◌≡◌, ℕ, zero, suc, ◌+◌, ◌-◌, ◌*◌, ◌<◌, ◌≤◌, Bool, false, true, List, [], ◌∷◌, ◌++◌, length, get_or, drop, set, take, Option, Some, None, arith, refl, ap, ap₂, sym, subst, ◌∙◌, inl, inr, lit<, length-take, append_assoc}
 use Rattle.std.proofs.lemmas.Bool.{cases_eq, cases_lt}
 use Rattle.std.proofs.lemmas.List.{append-nil, drop-drop, take_more_set}
 use Rattle.std.proofs.lemmas.List.Concat.{flat_map-append}
@@ -9,7 +9,7 @@ use Rattle.std.proofs.lemmas.List.{drop-take, drop_at, take-append-drop, take-ta
 use Rattle.std.proofs.lemmas.Simd.{length-chunk, length-put_chunk, take_more_put_chunk}
 use Rattle.std.proofs.Math.ListN.{length-set}
 use lib.Lanes.{chunk, put_chunk}
-use Rattle.std.specs.Prelude.{count_by, flat_map, is_none, slice_range}
+use Rattle.std.specs.Prelude.{flat_map, if◌then◌else◌, is_none, slice_range}
 use Rattle.utf_base.specs.Code.{utf8}
 use Rattle.utf_base.specs.CutLaws.{Follow}
 use Rattle.utf_base.specs.Kinds.{fault_kind, value}
@@ -22,14 +22,14 @@ use Rattle.utf_base.proofs.Rests.{stands_in_list, stands_in_rest}
 use Rattle.utf_base.proofs.Standing.{outside_after}
 use Rattle.utf_base.proofs.Utf8Code.{utf8_is_code}
 use Rattle.utf_base.proofs.Walks.{piece_over}
-use Rattle.utf_lanes.specs.Mending.{IsCodeShown, IsMendedAt, Mends, MendsFront, all_shown, scalars_of, shown_as}
+use Rattle.utf_lanes.specs.Mending.{IsCodeShown, IsMendedAt, Mends, MendsFront, all_shown, invalid_bytes, scalars_of, shown_as}
 
 Follow-append : (i j k : ℕ) (ps qs : List Piece) → Follow i ps j → Follow j qs k → Follow i (ps ++ qs) k
 Follow-append i j k [] qs f g = subst (λ n. Follow n qs k) (sym f) g
 Follow-append i j k (x ∷ ps) qs f g = (f.0, Follow-append (end_of x) j k ps qs f.1 g)
 
-count-append : (ps qs : List Piece) → count_by (λ x. is_none x.char) (ps ++ qs) ≡ count_by (λ x. is_none x.char) ps + count_by (λ x. is_none x.char) qs
-count-append ps qs = sum_by-append (λ x. cond (is_none x.char) 1 0) ps qs
+invalid_bytes-append : (ps qs : List Piece) → invalid_bytes (ps ++ qs) ≡ invalid_bytes ps + invalid_bytes qs
+invalid_bytes-append ps qs = sum_by-append (λ x. if is_none x.char then x.len else 0) ps qs
 
 char_mended : (subparts : Bool) (xs : List ℕ) (p s : ℕ) → Stands utf8 xs p s → IsMendedAt subparts xs p (length (utf8 s)) (Some s)
 char_mended false xs p s h = (h, refl)
@@ -48,7 +48,7 @@ module _ {subparts : Bool} {shown : ℕ → Option ℕ} {xs : List ℕ} where
     text =
         ap₂ (λ a b. a ++ b) f.text g.text ∙ sym (flat_map-append utf8 (all_shown shown xs f.parts) (all_shown shown xs g.parts))
         ∙ ap (flat_map utf8) (sym (flat_map-append (λ (x : Piece). scalars_of (shown_as x.char (shown (get_or xs x.start 0)))) f.parts g.parts));
-    count = ap₂ (λ a b. a + b) f.count g.count ∙ sym (count-append f.parts g.parts);
+    count = ap₂ (λ a b. a + b) f.count g.count ∙ sym (invalid_bytes-append f.parts g.parts);
   }
 
   -- one character
@@ -62,13 +62,13 @@ module _ {subparts : Bool} {shown : ℕ → Option ℕ} {xs : List ℕ} where
   }
 
   -- what is replaced together
-  pub Mends-one : (p n : ℕ) → IsMendedAt subparts xs p n None → Mends subparts shown xs p (p + n) (flat_map utf8 (scalars_of (shown (get_or xs p 0)))) 1
+  pub Mends-one : (p n : ℕ) → IsMendedAt subparts xs p n None → Mends subparts shown xs p (p + n) (flat_map utf8 (scalars_of (shown (get_or xs p 0)))) n
   Mends-one p n h = record {
     parts = record { start = p; len = n; char = None } ∷ [];
     each = All-cons (λ x. IsMendedAt subparts xs x.start x.len x.char) _ [] h (All-nil _);
     follow = (refl, refl);
     text = ap (flat_map utf8) (sym (append-nil (scalars_of (shown (get_or xs p 0)))));
-    count = refl;
+    count = omega arith;
   }
 
   -- the text of more bytes was written after that of the first ones

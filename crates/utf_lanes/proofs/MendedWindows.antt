@@ -281,8 +281,8 @@ module _ (subparts : Bool) (shown : ℕ → Option ℕ) (xs : List ℕ) (start l
       piece_ends_outside utf8 utf8_is_code xs (start + (m + n - 1)) 1 None fault (rw e v)
 
   pub window_on : (made new : List ℕ) (marks later read count replaced m n end : ℕ) → InWindow subparts shown xs start len at made marks read count replaced → IsMark subparts w m → AreJoined subparts w m n → m + n ≤ len → read ≤ start + m → later < 2 ^ 64
-      → ((k : ℕ) → bit_at later k ≡ 1 ↔ (bit_at marks k ≡ 1) × (m < k)) → MendsFront subparts shown xs new (start + m + n) end (replaced + 1) → end ≤ count + (start + m - read) + 3
-      → InWindow subparts shown xs start len at new later (start + m + n) end (replaced + 1)
+      → ((k : ℕ) → bit_at later k ≡ 1 ↔ (bit_at marks k ≡ 1) × (m < k)) → MendsFront subparts shown xs new (start + m + n) end (replaced + n) → end ≤ count + (start + m - read) + 3
+      → InWindow subparts shown xs start len at new later (start + m + n) end (replaced + n)
   window_on made new marks later read count replaced m n end h mark joined within ahead fits without front few_more =
       let some = joined.some in
       let room = h.room in

@@ -1,5 +1,5 @@
 -- Damaged bytes as text: what is invalid becomes a character, as U+FFFD, or nothing.
-use Rattle.std.specs.Prelude.{◌≡◌, ℕ, ◌+◌, ◌*◌, ◌<◌, ◌≤◌, Bool, false, true, List, [], ◌∷◌, length, take, flat_map, get_or, Option, Some, None, All, count_by, is_none}
+use Rattle.std.specs.Prelude.{◌≡◌, ℕ, ◌+◌, ◌*◌, ◌<◌, ◌≤◌, Bool, false, true, List, [], ◌∷◌, length, take, flat_map, get_or, if◌then◌else◌, Option, Some, None, All, is_none, sum_by}
 use Rattle.utf_base.specs.Code.{utf8}
 use Rattle.utf_base.specs.CutLaws.{Follow}
 use Rattle.utf_base.specs.Piece.{IsPieceAt, Piece}
@@ -31,14 +31,18 @@ abbrev pub IsMendedAt : Bool → List ℕ → ℕ → ℕ → Option ℕ → Typ
 IsMendedAt false = IsPieceAt utf8
 IsMendedAt true = IsPart utf8
 
+-- the number of invalid bytes: those of the pieces or parts that are no characters
+abbrev pub invalid_bytes : List Piece → ℕ
+invalid_bytes parts = sum_by (λ x. if is_none x.char then x.len else 0) parts
+
 -- The bytes from one offset to another as text: their characters, and what each fault, or each maximal subpart,
--- becomes. The number of these is given.
+-- becomes. The number of invalid bytes is given.
 pub record Mends (subparts : Bool) (shown : ℕ → Option ℕ) (xs : List ℕ) (start end : ℕ) (made : List ℕ) (replaced : ℕ) : Type 0 where
   pub parts : List Piece
   pub each : All (λ x. IsMendedAt subparts xs x.start x.len x.char) parts
   pub follow : Follow start parts end
   pub text : made ≡ flat_map utf8 (all_shown shown xs parts)
-  pub count : replaced ≡ count_by (λ x. is_none x.char) parts
+  pub count : replaced ≡ invalid_bytes parts
 
 -- The text of the first bytes is at the front of a list: three bytes for each byte at most.
 pub record MendsFront (subparts : Bool) (shown : ℕ → Option ℕ) (xs made : List ℕ) (read len replaced : ℕ) : Type 0 where

@@ -36,7 +36,7 @@ pub struct Mended {
     pub read: usize,
     /// The length of their text in bytes.
     pub len: usize,
-    /// The number of replacements of invalid bytes: of faults, or of maximal subparts.
+    /// The number of invalid bytes that were replaced: each byte of a maximal subpart counts.
     pub replaced: usize,
 }
 
@@ -175,7 +175,7 @@ fn put_shown<M: Mending>(
     ensures read { result.read ≡ done.read + len }
     ensures least { done.len ≤ result.len }
     ensures most { result.len ≤ done.len + 3 }
-    ensures replaced { result.replaced ≡ done.replaced + 1 }
+    ensures replaced { result.replaced ≡ done.replaced + len }
 {
     let (code, count) = by.code(bytes[done.read]);
     made[done.len] = code[0];
@@ -184,7 +184,7 @@ fn put_shown<M: Mending>(
     Mended {
         read: done.read + len,
         len: done.len + count,
-        replaced: done.replaced + 1,
+        replaced: done.replaced + len,
     }
 }
 

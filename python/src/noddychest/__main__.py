@@ -234,11 +234,11 @@ def _pieces_line(piece: Piece, data: bytes) -> bytes:
 # ---- fix and recode
 
 
-_BECAME = {"replace": "became U+FFFD", "ignore": "dropped", "windows-1252": "read as Windows-1252", "latin-1": "read as ISO-8859-1"}
+_BECAME = {"replace": "became U+FFFD", "lossy": "became U+FFFD", "ignore": "dropped", "windows-1252": "read as Windows-1252", "latin-1": "read as ISO-8859-1"}
 
 
 def _tell_replaced(name: str, encoding: str, count: int, asked: argparse.Namespace) -> None:
-    if count and not asked.quiet:  # (with `lossy` they are not counted)
+    if count and not asked.quiet:
         way = asked.errors if asked.errors == "ignore" or form_of(encoding) == 0 else "replace"
         complain(name, f"{count} {_noun(encoding, count)} {_BECAME[way]}")
 

@@ -145,5 +145,5 @@ class Recoder:
     @property
     def replaced(self) -> int:
         """How many invalid bytes (in UTF-16 lone surrogates, or single bytes at the end) were replaced, or left out, so far. With
-        `lossy` they are not counted."""
+        `lossy` each byte of a maximal subpart counts."""
         return self._recoder.replaced

@@ -171,7 +171,7 @@ class Recoded(NamedTuple):
     written: int
     """How many bytes came of them."""
     replaced: int
-    """How many invalid bytes were replaced, or left out. With `lossy` they are not counted, and it is 0."""
+    """How many invalid bytes were replaced, or left out. With `lossy` each byte of a maximal subpart counts."""
 
 
 # ---- sources ----

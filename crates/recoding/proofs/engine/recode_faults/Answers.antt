@@ -1,4 +1,5 @@
 use Rattle.std.proofs.Common.{arith, Some}
+use Rattle.recoding.specs.Rooms.{parts_of}
 use Rattle.recoding.proofs.NextPieces.{begins_replaced}
 use Rattle.recoding.proofs.Recodes.{Recodes-char, Recodes-code, Recodes-none, room_for_next}
 use Rattle.recoding.proofs.engine.recode_faults.Goals as goal
@@ -19,11 +20,11 @@ loop-read-preserved-in-Char g c =
 pub put_any-requires : goal.put_any-requires
 put_any-requires g c =
     let settles = rw (c.way.ensures, c.in-Fault.is) at c.in-Some.ensures.some in
-    let begins = begins_replaced (g.F.Replacing.way c.args.by) g.S.Text.form c.args.bytes.now c.loop-read.read c.in-Fault.len c.replacement.result (rw c.way-in-Fault.ensures at c.replacement.ensures) settles in
+    let begins = begins_replaced (g.F.Replacing.way c.args.by) g.S.Text.form c.args.bytes.now c.loop-read.read c.in-Fault.len (parts_of g.S.Text.form c.in-Fault.len) c.replacement.result (rw c.way-in-Fault.ensures at c.replacement.ensures) settles in
     room_for_next g.met.O.Output.appends_room c.replacement.result c.loop-read.invariant.runs begins c.requires
 
 pub loop-read-preserved : goal.loop-read-preserved
 loop-read-preserved g c =
     let settles = rw (c.way.ensures, c.in-Fault.is) at c.in-Some.ensures.some in
-    let begins = begins_replaced (g.F.Replacing.way c.args.by) g.S.Text.form c.args.bytes.now c.loop-read.read c.in-Fault.len c.replacement.result (rw c.way-in-Fault.ensures at c.replacement.ensures) settles in
-    record { some = omega arith; runs = Recodes-code g.met.O.Output.appends_more c.replacement.result c.loop-read.invariant.runs begins c.put_any.ensures }
+    let begins = begins_replaced (g.F.Replacing.way c.args.by) g.S.Text.form c.args.bytes.now c.loop-read.read c.in-Fault.len (parts_of g.S.Text.form c.in-Fault.len) c.replacement.result (rw c.way-in-Fault.ensures at c.replacement.ensures) settles in
+    record { some = omega arith; runs = rw c.count_parts-replaced.ensures (Recodes-code g.met.O.Output.appends_more c.replacement.result c.loop-read.invariant.runs begins c.put_any.ensures) }

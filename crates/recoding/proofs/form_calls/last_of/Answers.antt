@@ -6,4 +6,4 @@ pub returns-in-Some : goal.returns-in-Some
 returns-in-Some c = BeginsLast-of c.in-Some.ensures.some
 
 pub returns-in-None : goal.returns-in-None
-returns-in-None c = rw (c.fault_of.ensures.c, c.fault_of.ensures.len, c.fault_of.ensures.one, c.last_len.ensures) (BeginsLast-few c.args.way c.args.from c.args.bytes.now c.requires c.in-None.ensures.lacks)
+returns-in-None c = rw (c.fault_of.ensures.c, c.fault_of.ensures.len, c.fault_of.ensures.faults, c.last_len.ensures) (BeginsLast-few c.args.way c.args.from c.args.bytes.now c.requires c.in-None.ensures.lacks)

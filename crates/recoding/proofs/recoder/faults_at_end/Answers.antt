@@ -20,7 +20,7 @@ loop-place-preserved c =
     record {
       within = omega (arith, length-drop place bytes);
       few = omega (arith, v.few);
-      faults = omega (arith, counted, rw (drop-drop first.len place bytes) at (d.counts tt));
+      faults = omega (arith, counted, rw (drop-drop first.len place bytes) at d.counts);
     }
 
 pub returns : goal.returns

@@ -62,7 +62,7 @@ loop-marks-preserved g c =
     let read : c.put_shown-done.result.read ≡ start + m + n = done.read ∙ ap (λ p. p + n) text.read in
     let end = c.put_shown-done.result.len in
     let few : end ≤ c.loop-marks.done.len + (start + m - c.loop-marks.done.read) + 3 = omega (arith, done.most, text.len) in
-    let replaced : c.put_shown-done.result.replaced ≡ c.loop-marks.done.replaced + 1 = done.replaced ∙ ap (λ p. p + 1) text.replaced in
+    let replaced : c.put_shown-done.result.replaced ≡ c.loop-marks.done.replaced + n = done.replaced ∙ ap (λ p. p + n) text.replaced in
     record {
       room = omega arith;
       window = rw (read, replaced)

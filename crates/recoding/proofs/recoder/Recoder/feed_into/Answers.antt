@@ -25,7 +25,7 @@ pub returns-then-count-eq0-clause-outcome : goal.returns-then-count-eq0-clause-o
 returns-then-count-eq0-clause-outcome c = outcome_fed_into (returns-then-count-eq0-clause-feeds c)
 
 pub returns-then-count-eq0-clause-replaces : goal.returns-then-count-eq0-clause-replaces
-returns-then-count-eq0-clause-replaces c = replaces_into tt c.take_alone-done.ensures.takes c.count_faults.ensures
+returns-then-count-eq0-clause-replaces c = replaces_into c.take_alone-done.ensures.takes c.count_faults.ensures
 
 pub returns-then-count-eq0-clause-total : goal.returns-then-count-eq0-clause-total
 returns-then-count-eq0-clause-total c = counted c.take_alone-done.ensures.takes c.count_faults.ensures

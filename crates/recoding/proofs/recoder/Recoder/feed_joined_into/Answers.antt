@@ -18,7 +18,7 @@ returns-clause-nearer c =
     comes_nearer c.take_joined-done.ensures.takes c.count_faults.new.self c.take_joined-done.result.is_full c.count_faults.ensures c.take_joined-done.ensures.short c.take_joined-done.ensures.read
 
 pub returns-clause-replaces : goal.returns-clause-replaces
-returns-clause-replaces c = replaces_into tt c.take_joined-done.ensures.takes c.count_faults.ensures
+returns-clause-replaces c = replaces_into c.take_joined-done.ensures.takes c.count_faults.ensures
 
 pub returns-clause-total : goal.returns-clause-total
 returns-clause-total c = counted c.take_joined-done.ensures.takes c.count_faults.ensures

@@ -1,19 +1,33 @@
-use Rattle.std.proofs.Common.{refl}
-use Rattle.recoding.proofs.Taking.{comes_nearer, enough_room, fed_lossily, moves}
+use Rattle.recoding.proofs.Advancing.{keeps_count}
+use Rattle.recoding.proofs.Taking.{comes_nearer, counted, enough_room, fed_lossily, moves, replaces_into}
 use Rattle.recoding.proofs.recoder.Recoder.feed_lossy_into.Goals as goal
 
 pub returns-clause-feeds : goal.returns-clause-feeds
-returns-clause-feeds c = rw c.progress.ensures (fed_lossily c.take-done.ensures.takes)
+returns-clause-feeds c = fed_lossily c.take-done.ensures.takes c.count_faults.ensures
+
+pub returns-clause-full : goal.returns-clause-full
+returns-clause-full c = rw c.count_faults.ensures c.take-done.ensures.full
 
 pub returns-clause-enough : goal.returns-clause-enough
-returns-clause-enough c = rw c.progress.ensures (enough_room c.take-done.ensures.takes c.take-done.result.is_full c.take-done.ensures.full)
+returns-clause-enough c = enough_room c.take-done.ensures.takes c.take-done.result.is_full c.take-done.ensures.full
+
+pub returns-clause-waits : goal.returns-clause-waits
+returns-clause-waits c = rw c.count_faults.ensures c.take-done.ensures.waits
 
 pub returns-clause-moves : goal.returns-clause-moves
-returns-clause-moves c = rw c.progress.ensures (moves c.take-done.ensures.takes c.take-done.result.is_full c.take-done.ensures.short c.take-done.ensures.read)
+returns-clause-moves c = moves c.take-done.ensures.takes c.take-done.result.is_full c.take-done.ensures.short c.take-done.ensures.read
 
 pub returns-clause-nearer : goal.returns-clause-nearer
-returns-clause-nearer c =
-    rw c.progress.ensures (comes_nearer c.take-done.ensures.takes c.take-done.new.self c.take-done.result.is_full refl c.take-done.ensures.short c.take-done.ensures.read)
+returns-clause-nearer c = comes_nearer c.take-done.ensures.takes c.count_faults.new.self c.take-done.result.is_full c.count_faults.ensures c.take-done.ensures.short c.take-done.ensures.read
 
 pub returns-clause-outcome : goal.returns-clause-outcome
 returns-clause-outcome c = (returns-clause-feeds c).adds
+
+pub returns-clause-replaces : goal.returns-clause-replaces
+returns-clause-replaces c = replaces_into c.take-done.ensures.takes c.count_faults.ensures
+
+pub returns-clause-total : goal.returns-clause-total
+returns-clause-total c = counted c.take-done.ensures.takes c.count_faults.ensures
+
+pub returns-clause-counts : goal.returns-clause-counts
+returns-clause-counts c = keeps_count _ _ _ _ (returns-clause-replaces c) (returns-clause-total c)

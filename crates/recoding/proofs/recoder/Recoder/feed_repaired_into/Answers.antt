@@ -24,7 +24,7 @@ pub returns-clause-outcome : goal.returns-clause-outcome
 returns-clause-outcome c = (returns-clause-feeds c).adds
 
 pub returns-clause-replaces : goal.returns-clause-replaces
-returns-clause-replaces c = replaces_into tt c.take-done.ensures.takes c.count_faults.ensures
+returns-clause-replaces c = replaces_into c.take-done.ensures.takes c.count_faults.ensures
 
 pub returns-clause-total : goal.returns-clause-total
 returns-clause-total c = counted c.take-done.ensures.takes c.count_faults.ensures

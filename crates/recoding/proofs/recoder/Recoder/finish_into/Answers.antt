@@ -48,7 +48,7 @@ pub returns-clause-outcome_done : goal.returns-clause-outcome_done
 returns-clause-outcome_done c whole out = outcome_finished c.args.self.now out _ (returns-clause-done c whole out)
 
 pub returns-clause-replaces : goal.returns-clause-replaces
-returns-clause-replaces c = replaces_last tt c.take_last_into-done.ensures.takes c.count_faults.ensures
+returns-clause-replaces c = replaces_last c.take_last_into-done.ensures.takes c.count_faults.ensures
 
 pub returns-clause-total : goal.returns-clause-total
 returns-clause-total c = counted_last c.take_last_into-done.ensures.takes c.count_faults.ensures
