@@ -1,19 +1,19 @@
 -- The laws of what bytes become if a table has what a fault becomes.
-use Rattle.std.proofs.Common.{◌≡◌, ℕ, zero, suc, ◌%◌, ◌<◌, Bool, Some, None, Option, List, [], ◌∷◌, ◌++◌, get_or, map, flat_map, arith, refl, ap, ap₂, sym, ◌∙◌, subst}
+use Rattle.std.proofs.Common.{◌≡◌, ℕ, suc, Bool, Some, None, Option, List, [], ◌∷◌, ◌++◌, get_or, flat_map, arith, refl, ap, ap₂, sym, ◌∙◌, subst}
 use Rattle.std.specs.List.{concat}
-use Rattle.std.specs.Prelude.{All, replicate, slice_get, unwrap_or}
+use Rattle.std.specs.Prelude.{All}
 use Rattle.std.proofs.lemmas.List.{append-nil}
 use Rattle.std.proofs.lemmas.List.Concat.{flat_map-append}
 use Rattle.std.proofs.lemmas.List.Elements.{All-append, All-cons, All-nil}
 use Rattle.utf_base.specs.Code.{utf8, utf16}
 use Rattle.utf_base.specs.Piece.{IsPiece, Piece}
 use Rattle.utf_base.specs.Scalar.{IsScalar}
-use Rattle.utf_base.specs.Shown.{Shows, shown}
+use Rattle.utf_base.specs.Shown.{shown}
 use Rattle.utf_lanes.specs.BytePairs.{units_of}
 use Rattle.utf_lanes.specs.Mending.{all_shown, scalars_of, shown_as}
 use Rattle.recoding.specs.declared.form.Form.{Form}
 use Rattle.recoding.specs.Faults.{fault_count}
-use Rattle.recoding.specs.Recoded.{Reads, Recoding, ShowsUnits, fresh, odd_end, written}
+use Rattle.recoding.specs.Recoded.{Recoding, fresh, written}
 use Rattle.recoding.specs.Repaired.{ReadsBy, RepairedHasNoFault, RepairedIsOne, RepairedOnceIsEnough, RepairedPartsAreOne, RepairsEach, ReplacementIsATable, TextIsKept, IsRepaired, repaired, repaired_outcome}
 use Rattle.recoding.specs.Strict.{Transcodes}
 use Rattle.recoding.specs.RepairTables.{ShowsBy, ShowsUnitsBy, char_for, odd_end_by, unit_for}

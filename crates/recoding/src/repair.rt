@@ -208,7 +208,7 @@ impl Mending for Coded<'_> {
     fn is_by_subparts() -> bool
         ensures { result ≡ false }
     {
-        false
+        Repair::is_by_subparts()
     }
 
     #[inline(always)]
