@@ -1232,9 +1232,9 @@ int nody_lanes(void);
 
 /* Where to cut an input for several workers: the last offset up to `at` that is not inside a character or a maximal subpart,
  * and in UTF-16 not inside a unit. If each shard ends where this call says, and the last one at len, you may convert each
- * separately, also on several machines, and join the outputs. They are what the whole becomes: by nody_recode, by the _lossy calls,
- * and by the _strict calls up to the first shard with a fault. (nody_boundary_before may return an offset inside a maximal subpart:
- * of E2 82 41, cut after E2, the _lossy calls write two U+FFFD, and of the whole one.)
+ * separately, also on several machines, and join the outputs. They are what the whole becomes: by nody_recode, by the _lossy and the
+ * _repair calls, and by the _strict calls up to the first shard with a fault. (nody_boundary_before may return an offset inside a
+ * maximal subpart: of E2 82 41, cut after E2, the _lossy calls write two U+FFFD, and of the whole one.)
  *
  * from: the encoding of the input. bytes, len: the input. at: about where the shard should end.
  * Result: where it ends, at most three bytes before `at`. If `at` is 0, it is 0. If `at` is len or more, it is len.

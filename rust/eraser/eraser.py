@@ -310,7 +310,7 @@ class Eraser(Text):
                 self.is_no_bound(i, after)
             elif (word, self.text(after)) == ("Error", "for") and self.text(b) == "impl":
                 self.describe(self.until(after, "{"))
-            elif self.text(after) == "!" and self.text(self.next(after)) in OPEN and word not in rules.MACROS | self.project.macros:
+            elif self.text(after) == "!" and self.text(self.next(after)) in OPEN and self.text(b) != "$" and word not in rules.MACROS | self.project.macros:
                 self.stop(i, f"the macro `{word}!` is not known")
         for it in self.lists:
             if it.names & set(rules.GATED) and not self.gone[it.at]:

@@ -517,7 +517,8 @@ pub fn recoded_len(from: Encoding, to: Encoding, bytes: &[u8]) -> usize {
 }
 
 /// The last offset, up to `at`, where bytes of that encoding may be cut, so that each side can be converted separately and the outputs joined.
-/// They are what the whole becomes: by [`recode`](crate::recode), by [`recode_lossy`](crate::recode_lossy), and by [`recode_strict`](crate::recode_strict) up to the first side with an invalid byte.
+/// They are what the whole becomes: by [`recode`](crate::recode), by [`recode_lossy`](crate::recode_lossy), by
+/// [`recode_repaired`](crate::recode_repaired), and by [`recode_strict`](crate::recode_strict) up to the first side with an invalid byte.
 /// The offset is inside no character and no maximal subpart, and at most three bytes before `at`. If `at` is the length or more, it is the
 /// length.
 ///

@@ -139,7 +139,7 @@ impl Repair {
             Table::Drop => cuts::Repair::nothing(),
             Table::Windows1252 => cuts::Repair::windows_1252(),
             Table::Latin1 => cuts::Repair::latin_1(),
-            Table::Own(chars) => cuts::Repair { chars },
+            Table::Own(chars) => cuts::Repair::of(chars),
         }
     }
 }

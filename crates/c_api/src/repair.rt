@@ -18,7 +18,7 @@ fn repair_of(number: u8, table: &[u32]) -> Option<Repair<'_>>
         0 => Some(Repair::nothing()),
         1 => Some(Repair::windows_1252()),
         2 => Some(Repair::latin_1()),
-        3 => Some(Repair { chars: table }),
+        3 => Some(Repair::of(table)),
         4.. => None,
     }
 }

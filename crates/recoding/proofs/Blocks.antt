@@ -1,7 +1,7 @@
 -- Blocks of eight units of ASCII, and the scalars of bytes of units.
-use Rattle.std.proofs.Common.{◌≡◌, ℕ, zero, suc, ◌-◌, ◌*◌, ◌%◌, ◌<◌, Bool, List, [], ◌∷◌, ◌++◌, map, length, get_or, arith, refl, ap, ap₂, ◌∙◌}
+use Rattle.std.proofs.Common.{◌≡◌, ℕ, zero, suc, ◌-◌, ◌*◌, ◌%◌, ◌<◌, Bool, Option, List, [], ◌∷◌, ◌++◌, map, length, get_or, arith, refl, ap, ap₂, ◌∙◌}
 use Rattle.utf_lanes.specs.AsciiTexts.{AreAscii}
-use Rattle.recoding.specs.Recoded.{odd_end}
+use Rattle.recoding.specs.RepairTables.{odd_end_by}
 use Rattle.utf_lanes.specs.BytePairs.{unit_of, units_of}
 use Rattle.recoding.proofs.Listed.{listed}
 
@@ -12,10 +12,10 @@ units_append high [] later k h = refl
 units_append high (a ∷ []) later k h = absurd (omega arith)
 units_append high (a ∷ b ∷ v) later k h = ap (λ us. unit_of high a b ∷ us) (units_append high v later (k - 1) (omega arith))
 
-pub odd_append : (v later : List ℕ) (k : ℕ) → length v ≡ 2 * k → odd_end (v ++ later) ≡ odd_end later
-odd_append [] later k h = refl
-odd_append (a ∷ []) later k h = absurd (omega arith)
-odd_append (a ∷ b ∷ v) later k h = odd_append v later (k - 1) (omega arith)
+pub odd_append : (unit : Option ℕ) (v later : List ℕ) (k : ℕ) → length v ≡ 2 * k → odd_end_by unit (v ++ later) ≡ odd_end_by unit later
+odd_append unit [] later k h = refl
+odd_append unit (a ∷ []) later k h = absurd (omega arith)
+odd_append unit (a ∷ b ∷ v) later k h = odd_append unit v later (k - 1) (omega arith)
 
 -- Eight units of ASCII.
 

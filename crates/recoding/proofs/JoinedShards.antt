@@ -1,5 +1,5 @@
--- Shards that are transcoded separately, and joined: with one U+FFFD for each fault.
-use Rattle.std.proofs.Common.{◌≡◌, ℕ, zero, suc, ◌+◌, ◌-◌, ◌*◌, ◌/◌, ◌<◌, ◌≤◌, ⊎_elim, Bool, List, [], ◌∷◌, ◌++◌, length, take, drop, arith, refl, sym, ◌∙◌, append_assoc, take-append-drop, length-append, length-drop}
+-- Shards that are transcoded separately, and joined: with what a table has for each fault, as U+FFFD.
+use Rattle.std.proofs.Common.{◌≡◌, ℕ, zero, suc, ◌+◌, ◌-◌, ◌*◌, ◌/◌, ◌<◌, ◌≤◌, ⊎_elim, Bool, Option, List, [], ◌∷◌, ◌++◌, length, take, drop, arith, refl, sym, subst, ◌∙◌, append_assoc, take-append-drop, length-append, length-drop}
 use Rattle.std.proofs.lemmas.Bool.{cases_lt}
 use Rattle.std.proofs.lemmas.Grind.{common_steps}
 use Rattle.std.proofs.lemmas.List.{append-nil, drop-append-le, take_rest, length-take-le}
@@ -8,22 +8,24 @@ use Rattle.std.specs.List.{concat}
 use Rattle.std.specs.Prelude.{slice_range}
 use Rattle.utf_base.specs.Code.{IsCode, utf8, utf16}
 use Rattle.utf_base.specs.Piece.{Stands, Inside}
-use Rattle.utf_base.specs.Shown.{Shows}
-use Rattle.utf_base.proofs.Cuts.{Finds}
+use Rattle.utf_base.proofs.Cuts.{Finds, cut_exists}
 use Rattle.utf_base.proofs.FrontLemmas.{utf8_finds}
 use Rattle.utf_base.proofs.UnitLemmas.{utf16_finds}
-use Rattle.utf_base.proofs.Rests.{code_shows_first, fault_shows_first, shows_none, shows_one, shows_some}
 use Rattle.utf_base.proofs.Standing.{outside_front, stands_in_part, stands_in_whole}
 use Rattle.utf_base.proofs.Utf8Code.{utf8_is_code}
 use Rattle.utf_base.proofs.Utf16Code.{utf16_is_code}
 use Rattle.recoding.specs.declared.form.Form.{Form}
 use Rattle.recoding.proofs.Forms.{by_form, is_units}
-use Rattle.recoding.specs.Recoded.{Reads, ShowsUnits, odd_end, written, IsRecoded}
+use Rattle.recoding.specs.Recoded.{written}
+use Rattle.recoding.specs.Repaired.{IsRepaired, ReadsBy}
+use Rattle.recoding.specs.RepairTables.{ShowsBy, ShowsUnitsBy, char_for, odd_end_by, unit_for}
 use Rattle.utf_lanes.specs.BytePairs.{units_of}
+use Rattle.utf_lanes.specs.Mending.{all_shown, scalars_of}
 use Rattle.recoding.specs.Boundaries.{IsBoundary, IsUnitsEnd}
-use Rattle.recoding.specs.Shards.{ShardsJoin}
+use Rattle.recoding.specs.Shards.{EachBecomes, RepairedShardsJoin, ShardsJoin, shards}
 use Rattle.recoding.proofs.Blocks.{units_append, odd_append}
-use Rattle.recoding.proofs.Growing.{recoded_once, recoded_nothing}
+use Rattle.recoding.proofs.Repairing.{code_shows_first_by, fault_shows_first_by, nothing_is_repaired, same_repaired, shows_none_by, shows_one_by}
+use Rattle.recoding.proofs.ReplacementTable.{recoded_by_table, replacements, table_of_recoded}
 use Rattle.recoding.proofs.ShardLists.{Joins, shards_of}
 
 -- no code covers an offset of the rest, if none covers that of the list
@@ -36,7 +38,7 @@ outside_rest code xs i n le lo out v =
     out (record { from = i + v.from; char = v.char; stands = whole.0; begins = omega arith; ends = omega arith })
 
 -- The scalars of two parts, if no code covers the offset between them.
-module _ (code : ℕ → List ℕ) (c : IsCode code) (find : Finds code) where
+module _ (shown : ℕ → Option ℕ) (code : ℕ → List ℕ) (c : IsCode code) (find : Finds code) where
   -- if no code begins the first part, none begins both
   none_begins : (w later : List ℕ) → 0 < length w → (Inside code (w ++ later) (length w) → ⊥) → ((s : ℕ) → Stands code w 0 s → ⊥)
       → (s : ℕ) → Stands code (w ++ later) 0 s → ⊥
@@ -56,41 +58,47 @@ module _ (code : ℕ → List ℕ) (c : IsCode code) (find : Finds code) where
       outside_rest code (w ++ later) k (length w) (omega (arith, length-append w later)) le out
       (rw (drop-append-le k w later le) (rw len at v))
 
+  shows_some : (xs : List ℕ) → (ss : List ℕ) × ShowsBy shown code xs ss
+  shows_some xs = let cut = cut_exists code c find xs in (all_shown shown xs cut.0, (cut.0, cut.1, refl))
+
   both_show : (fuel : ℕ) (w later ss ts : List ℕ) → length w ≤ fuel → (Inside code (w ++ later) (length w) → ⊥)
-      → Shows code w ss → Shows code later ts → Shows code (w ++ later) (ss ++ ts)
-  both_show fuel [] later ss ts le out a b = let none : ss ≡ [] = shows_one code c [] ss [] a (shows_none code) in rw none b
+      → ShowsBy shown code w ss → ShowsBy shown code later ts → ShowsBy shown code (w ++ later) (ss ++ ts)
+  both_show fuel [] later ss ts le out a b = let none : ss ≡ [] = shows_one_by shown code c [] ss [] a (shows_none_by shown code c) in rw none b
   both_show zero (x ∷ w) later ss ts le out a b = absurd (omega arith)
   both_show (suc fuel) (x ∷ w) later ss ts le out a b =
-      let whole : w ++ [] ≡ w = append-nil w in
+      let front : List ℕ = x ∷ w in
+      let whole = append-nil front in
       ⊎_elim
       (λ (h : (s : ℕ) × Stands code (x ∷ w) 0 s).
       let some = c.some h.0 h.1.scalar in
-      let rest = shows_some code c find (drop (length (code h.0)) (x ∷ w)) in
-      let first : Shows code (x ∷ w) (h.0 ∷ rest.0)
-      = rw whole at (code_shows_first code c (x ∷ w) h.0 [] rest.0 h.1 (rw (append-nil (drop (length (code h.0)) (x ∷ w))) rest.1)) in
-      let same : ss ≡ h.0 ∷ rest.0 = shows_one code c (x ∷ w) ss (h.0 ∷ rest.0) a first in
-      let both : Shows code (drop (length (code h.0)) (x ∷ w) ++ later) (rest.0 ++ ts)
+      let rest = shows_some (drop (length (code h.0)) (x ∷ w)) in
+      let first : ShowsBy shown code front (h.0 ∷ rest.0)
+      = subst (λ xs. ShowsBy shown code xs (h.0 ∷ rest.0)) whole (code_shows_first_by shown code c front [] h.0 rest.0 h.1 (rw (append-nil (drop (length (code h.0)) front)) rest.1)) in
+      let same : ss ≡ h.0 ∷ rest.0 = shows_one_by shown code c (x ∷ w) ss (h.0 ∷ rest.0) a first in
+      let both : ShowsBy shown code (drop (length (code h.0)) (x ∷ w) ++ later) (rest.0 ++ ts)
       = both_show fuel (drop (length (code h.0)) (x ∷ w)) later rest.0 ts (omega (arith, length-drop (length (code h.0)) (x ∷ w)))
       (outside_later (x ∷ w) later (length (code h.0)) (omega arith) out) rest.1 b in
-      rw same (code_shows_first code c (x ∷ w) h.0 later (rest.0 ++ ts) h.1 both))
+      rw same (code_shows_first_by shown code c (x ∷ w) later h.0 (rest.0 ++ ts) h.1 both))
       (λ (none : (s : ℕ) → Stands code (x ∷ w) 0 s → ⊥).
       let some : 0 < length (x ∷ w) = omega arith in
-      let rest = shows_some code c find w in
-      let first : Shows code (x ∷ w) (0xFFFD ∷ rest.0)
-      = rw whole at (fault_shows_first code c (x ∷ w) [] rest.0 some (λ s h. none s (rw whole at h)) (rw (append-nil w) rest.1)) in
-      let same : ss ≡ 0xFFFD ∷ rest.0 = shows_one code c (x ∷ w) ss (0xFFFD ∷ rest.0) a first in
-      let both : Shows code (w ++ later) (rest.0 ++ ts)
+      let rest = shows_some w in
+      let fault : List ℕ = scalars_of (shown x) in
+      let first : ShowsBy shown code front (fault ++ rest.0)
+      = subst (λ xs. ShowsBy shown code xs (fault ++ rest.0)) whole
+      (fault_shows_first_by shown code c front [] rest.0 some (λ s h. none s (subst (λ xs. Stands code xs 0 s) whole h)) (rw (append-nil w) rest.1)) in
+      let same : ss ≡ fault ++ rest.0 = shows_one_by shown code c front ss (fault ++ rest.0) a first in
+      let both : ShowsBy shown code (w ++ later) (rest.0 ++ ts)
       = both_show fuel w later rest.0 ts (omega arith) (outside_later (x ∷ w) later 1 (omega arith) out) rest.1 b in
-      rw same (fault_shows_first code c (x ∷ w) later (rest.0 ++ ts) some (none_begins (x ∷ w) later some out none) both))
+      rw (same, append_assoc fault rest.0 ts) (fault_shows_first_by shown code c (x ∷ w) later (rest.0 ++ ts) some (none_begins (x ∷ w) later some out none) both))
       (find (x ∷ w))
 
 -- The scalars of a list that is cut at an offset.
-parts_show : (code : ℕ → List ℕ) → IsCode code → Finds code → (xs : List ℕ) (n : ℕ) (ss ts : List ℕ) → n ≤ length xs → (Inside code xs n → ⊥)
-    → Shows code (take n xs) ss → Shows code (drop n xs) ts → Shows code xs (ss ++ ts)
-parts_show code c find xs n ss ts le out a b =
+parts_show : (shown : ℕ → Option ℕ) (code : ℕ → List ℕ) → IsCode code → Finds code → (xs : List ℕ) (n : ℕ) (ss ts : List ℕ) → n ≤ length xs → (Inside code xs n → ⊥)
+    → ShowsBy shown code (take n xs) ss → ShowsBy shown code (drop n xs) ts → ShowsBy shown code xs (ss ++ ts)
+parts_show shown code c find xs n ss ts le out a b =
     let len : length (take n xs) ≡ n = length-take-le n xs le in
     let whole : take n xs ++ drop n xs ≡ xs = take-append-drop n xs in
-    rw whole at (both_show code c find n (take n xs) (drop n xs) ss ts (omega arith) (rw (whole, len) out) a b)
+    rw whole at (both_show shown code c find n (take n xs) (drop n xs) ss ts (omega arith) (rw (whole, len) out) a b)
 
 -- Units of bytes.
 
@@ -99,8 +107,8 @@ count_of_units high [] k h = omega arith
 count_of_units high (a ∷ []) k h = absurd (omega arith)
 count_of_units high (a ∷ b ∷ v) k h = let rest = count_of_units high v (k - 1) (omega arith) in omega arith
 
-odd_none : (v : List ℕ) (k : ℕ) → length v ≡ 2 * k → odd_end v ≡ []
-odd_none v k h = rw (append-nil v) at (odd_append v [] k h)
+odd_none : (unit : Option ℕ) (v : List ℕ) (k : ℕ) → length v ≡ 2 * k → odd_end_by unit v ≡ []
+odd_none unit v k h = rw (append-nil v) at (odd_append unit v [] k h)
 
 -- if an offset is even the units up to it and from it on are those of the bytes
 pub even_units : (high : Bool) (bytes : List ℕ) (n k : ℕ) → n ≤ length bytes → n ≡ 2 * k
@@ -128,30 +136,30 @@ units_within high (a ∷ b ∷ v) n (suc k) le e = let rest = units_within high 
 
 -- The scalars of parts of bytes.
 
-units_show : (high : Bool) (bytes : List ℕ) (n : ℕ) (ss ts : List ℕ) → n < length bytes → IsUnitsEnd high bytes n
-    → ShowsUnits high (take n bytes) ss → ShowsUnits high (drop n bytes) ts → ShowsUnits high bytes (ss ++ ts)
-units_show high bytes n ss ts lt ends (us, a, e) (vs, b, f) =
+units_show : (unit : Option ℕ) (high : Bool) (bytes : List ℕ) (n : ℕ) (ss ts : List ℕ) → n < length bytes → IsUnitsEnd high bytes n
+    → ShowsUnitsBy unit high (take n bytes) ss → ShowsUnitsBy unit high (drop n bytes) ts → ShowsUnitsBy unit high bytes (ss ++ ts)
+units_show unit high bytes n ss ts lt ends (us, a, e) (vs, b, f) =
     let even : n ≡ 2 * (n / 2) = let zero = ends.even lt in omega arith in
     let len : length (take n bytes) ≡ 2 * (n / 2) = length-take-le n bytes (omega arith) ∙ even in
     let units = even_units high bytes n (n / 2) (omega arith) even in
     let count = units_within high bytes n (n / 2) (omega arith) even in
-    let odd : odd_end bytes ≡ odd_end (drop n bytes) = rw (take-append-drop n bytes) at (odd_append (take n bytes) (drop n bytes) (n / 2) len) in
-    let none : odd_end (take n bytes) ≡ [] = odd_none (take n bytes) (n / 2) len in (
+    let odd : odd_end_by unit bytes ≡ odd_end_by unit (drop n bytes) = rw (take-append-drop n bytes) at (odd_append unit (take n bytes) (drop n bytes) (n / 2) len) in
+    let none : odd_end_by unit (take n bytes) ≡ [] = odd_none unit (take n bytes) (n / 2) len in (
       us ++ vs,
-      parts_show utf16 utf16_is_code utf16_finds (units_of high bytes) (n / 2) us vs count ends.outside (rw units.0 at a) (rw units.1 at b),
-      rw (e, f, none, odd, append-nil us) (sym (append_assoc us vs (odd_end (drop n bytes)))),
+      parts_show (λ u. unit) utf16 utf16_is_code utf16_finds (units_of high bytes) (n / 2) us vs count ends.outside (rw units.0 at a) (rw units.1 at b),
+      rw (e, f, none, odd, append-nil us) (sym (append_assoc us vs (odd_end_by unit (drop n bytes)))),
     )
 
-reads_parts : (from : Form) (bytes : List ℕ) (n : ℕ) (ss ts : List ℕ) → n < length bytes → IsBoundary from bytes n
-    → Reads from (take n bytes) ss → Reads from (drop n bytes) ts → Reads from bytes (ss ++ ts)
+reads_parts : (from : Form) (table bytes : List ℕ) (n : ℕ) (ss ts : List ℕ) → n < length bytes → IsBoundary from bytes n
+    → ReadsBy table from (take n bytes) ss → ReadsBy table from (drop n bytes) ts → ReadsBy table from bytes (ss ++ ts)
 reads_parts =
-    by_form _ (λ bytes n ss ts lt out a b. parts_show utf8 utf8_is_code utf8_finds bytes n ss ts (omega arith) out a b)
-    (λ high. rw (is_units high, IsBoundary, Reads) (units_show high))
+    by_form _ (λ table bytes n ss ts lt out a b. parts_show (char_for table) utf8 utf8_is_code utf8_finds bytes n ss ts (omega arith) out a b)
+    (λ high. rw (is_units high, IsBoundary, ReadsBy) (λ table. units_show (unit_for table) high))
 
-recoded_parts : (from to : Form) (bytes front rest : List ℕ) (n : ℕ) → n < length bytes → IsBoundary from bytes n
-    → IsRecoded from to (take n bytes) front → IsRecoded from to (drop n bytes) rest → IsRecoded from to bytes (front ++ rest)
-recoded_parts from to bytes front rest n lt out (ss, a, e) (ts, b, f) =
-    (ss ++ ts, reads_parts from bytes n ss ts lt out a b, rw (e, f) (sym (flat_map-append (written to) ss ts)))
+repaired_parts : (table : List ℕ) (from to : Form) (bytes front rest : List ℕ) (n : ℕ) → n < length bytes → IsBoundary from bytes n
+    → IsRepaired table from to (take n bytes) front → IsRepaired table from to (drop n bytes) rest → IsRepaired table from to bytes (front ++ rest)
+repaired_parts table from to bytes front rest n lt out (ss, a, e) (ts, b, f) =
+    (ss ++ ts, reads_parts from table bytes n ss ts lt out a b, rw (e, f) (sym (flat_map-append (written to) ss ts)))
 
 -- Offsets of the whole and of its rest.
 
@@ -178,18 +186,32 @@ end_at_front = by_form _ (outside_front utf8) (λ high. rw (is_units high, IsBou
 
 -- The law.
 
-recoded_joins : (from to : Form) → Joins (IsBoundary from) (IsRecoded from to) (λ parts outs. concat outs)
-recoded_joins from to = record {
+repaired_joins : (table : List ℕ) (from to : Form) → Joins (IsBoundary from) (IsRepaired table from to) (λ parts outs. concat outs)
+repaired_joins table from to = record {
   join = λ part out rest. out ++ rest;
   nothing = [];
   none = refl;
   more = λ part parts out outs. refl;
   front = end_at_front from;
   rest = end_of_rest from;
-  two = recoded_parts from to;
+  two = repaired_parts table from to;
   one = λ bytes out h. rw (append-nil out) h;
-  only = λ out h. (recoded_once from to []).2 out h ∙ sym ((recoded_once from to []).2 [] (recoded_nothing from to));
+  only = λ out h. same_repaired table from to [] out h ∙ nothing_is_repaired table from to;
 }
 
+pub repaired_shards_join : RepairedShardsJoin
+repaired_shards_join table from to bytes places outs h b =
+    shards_of (IsBoundary from) (IsRepaired table from to) (λ parts outs. concat outs) (repaired_joins table from to) bytes places outs h b
+
+-- With U+FFFD for each byte it is the law without a table.
 pub shards_join : ShardsJoin
-shards_join from to bytes places outs h b = shards_of (IsBoundary from) (IsRecoded from to) (λ parts outs. concat outs) (recoded_joins from to) bytes places outs h b
+shards_join from to bytes places outs h b =
+    recoded_by_table from to bytes (concat outs)
+    (repaired_shards_join replacements from to bytes places outs h (each_alike (table_of_recoded from to) (shards bytes 0 places) outs b))
+  where
+    each_alike : {becomes others : List ℕ → List ℕ → Type 0} → ((part out : List ℕ) → becomes part out → others part out)
+        → (parts outs : List (List ℕ)) → EachBecomes becomes parts outs → EachBecomes others parts outs
+    each_alike alike [] [] b = b
+    each_alike alike [] (out ∷ outs) b = absurd b
+    each_alike alike (part ∷ parts) [] b = absurd b
+    each_alike alike (part ∷ parts) (out ∷ outs) b = (alike part out b.0, each_alike alike parts outs b.1)

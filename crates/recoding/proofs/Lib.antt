@@ -9,6 +9,8 @@ pub mod FedParts
 pub mod FirstFaults
 pub mod NextPieces
 pub mod Repairing
+pub mod ReplacementTable
+pub mod TableCodes
 pub mod RepairLaws
 pub mod OddParts
 pub mod FirstPieces

@@ -1,25 +1,26 @@
 -- The laws of what bytes become if a table has what a fault becomes.
-use Rattle.std.proofs.Common.{◌≡◌, ℕ, zero, suc, ◌%◌, ◌<◌, Bool, Some, None, Option, List, [], ◌∷◌, ◌++◌, get_or, map, flat_map, arith, refl, ap, ap₂, sym, ◌∙◌, subst}
+use Rattle.std.proofs.Common.{◌≡◌, ℕ, suc, Bool, Some, None, Option, List, [], ◌∷◌, ◌++◌, get_or, flat_map, arith, refl, ap, ap₂, sym, ◌∙◌, subst}
 use Rattle.std.specs.List.{concat}
-use Rattle.std.specs.Prelude.{All, replicate, slice_get, unwrap_or}
+use Rattle.std.specs.Prelude.{All}
 use Rattle.std.proofs.lemmas.List.{append-nil}
 use Rattle.std.proofs.lemmas.List.Concat.{flat_map-append}
 use Rattle.std.proofs.lemmas.List.Elements.{All-append, All-cons, All-nil}
 use Rattle.utf_base.specs.Code.{utf8, utf16}
 use Rattle.utf_base.specs.Piece.{IsPiece, Piece}
 use Rattle.utf_base.specs.Scalar.{IsScalar}
-use Rattle.utf_base.specs.Shown.{Shows, shown}
+use Rattle.utf_base.specs.Shown.{shown}
 use Rattle.utf_lanes.specs.BytePairs.{units_of}
 use Rattle.utf_lanes.specs.Mending.{all_shown, scalars_of, shown_as}
 use Rattle.recoding.specs.declared.form.Form.{Form}
 use Rattle.recoding.specs.Faults.{fault_count}
-use Rattle.recoding.specs.Recoded.{Reads, Recoding, ShowsUnits, fresh, odd_end, written}
+use Rattle.recoding.specs.Recoded.{Recoding, fresh, written}
 use Rattle.recoding.specs.Repaired.{ReadsBy, RepairedHasNoFault, RepairedIsOne, RepairedOnceIsEnough, RepairedPartsAreOne, RepairsEach, ReplacementIsATable, TextIsKept, IsRepaired, repaired, repaired_outcome}
 use Rattle.recoding.specs.Strict.{Transcodes}
 use Rattle.recoding.specs.RepairTables.{ShowsBy, ShowsUnitsBy, char_for, odd_end_by, unit_for}
 use Rattle.recoding.proofs.FaultCounts.{none_in_nothing}
 use Rattle.recoding.proofs.Forms.{by_form, is_units}
 use Rattle.recoding.proofs.RecodedLists.{same_list}
+use Rattle.recoding.proofs.ReplacementTable.{recoded_by_table, replacements}
 use Rattle.recoding.proofs.Repairing.{char_short, nothing_is_repaired, repaired_is, same_repaired, text_repaired, unit_short}
 use Rattle.recoding.proofs.TextLaws.{text_counts}
 
@@ -94,37 +95,6 @@ repaired_once_is_enough table other from to bytes =
 
 -- U+FFFD for each byte.
 
-entry_of : (n k : ℕ) → k < n → slice_get {X = ℕ} (replicate n 0xFFFD) k ≡ Some 0xFFFD
-entry_of zero k lt = absurd (omega arith)
-entry_of (suc n) zero lt = refl
-entry_of (suc n) (suc k) lt = entry_of n k (omega arith)
-
-replaces_each : (b : ℕ) → char_for (replicate 128 0xFFFD) b ≡ Some 0xFFFD
-replaces_each b = let lt : b % 0x80 < 128 = omega arith in rw (entry_of 128 (b % 0x80) lt) refl
-
-shown_alike : (f : ℕ → Option ℕ) → ((b : ℕ) → f b ≡ Some 0xFFFD) → (xs : List ℕ) (ps : List Piece) → all_shown f xs ps ≡ map shown ps
-shown_alike f e xs [] = refl
-shown_alike f e xs (x ∷ ps) = ap₂ (λ ys zs. ys ++ zs) (one x.char (f (get_or xs x.start 0)) (e (get_or xs x.start 0))) (shown_alike f e xs ps)
-  where
-    one : (a c : Option ℕ) → c ≡ Some 0xFFFD → scalars_of (shown_as a c) ≡ unwrap_or a 0xFFFD ∷ []
-    one (Some s) c h = refl
-    one None c h = ap scalars_of h
-
-odd_alike : (bytes : List ℕ) → odd_end_by (Some 0xFFFD) bytes ≡ odd_end bytes
-odd_alike [] = refl
-odd_alike (a ∷ []) = refl
-odd_alike (a ∷ b ∷ bytes) = odd_alike bytes
-
-bytes_alike : (bytes ss : List ℕ) → ShowsBy (char_for (replicate 128 0xFFFD)) utf8 bytes ss → Shows utf8 bytes ss
-bytes_alike bytes ss (ps, cut, e) = (ps, cut, e ∙ shown_alike (char_for (replicate 128 0xFFFD)) replaces_each bytes ps)
-
-units_alike : (high : Bool) (bytes ss : List ℕ) → ShowsUnitsBy (unit_for (replicate 128 0xFFFD)) high bytes ss → ShowsUnits high bytes ss
-units_alike high bytes ss (ts, (ps, cut, e), f) = (ts, (ps, cut, e ∙ shown_alike (λ u. Some 0xFFFD) (λ b. refl) (units_of high bytes) ps), f ∙ ap (λ o. ts ++ o) (odd_alike bytes))
-
-reads_alike : (from : Form) (bytes ss : List ℕ) → ReadsBy (replicate 128 0xFFFD) from bytes ss → Reads from bytes ss
-reads_alike = by_form _ bytes_alike (λ high. rw (is_units high, ReadsBy, Reads) (units_alike high))
-
 pub replacement_is_a_table : ReplacementIsATable
 replacement_is_a_table from to bytes =
-    let r = repaired_is (replicate 128 0xFFFD) from to bytes in
-    same_list from to bytes (repaired (replicate 128 0xFFFD) from to bytes) (r.0, reads_alike from bytes r.0 r.1, r.2)
+    same_list from to bytes (repaired replacements from to bytes) (recoded_by_table from to bytes (repaired replacements from to bytes) (repaired_is replacements from to bytes))

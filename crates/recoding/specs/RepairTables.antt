@@ -1,10 +1,10 @@
 -- What invalid input becomes: tables of characters, and the scalars of a list whose faults become these.
-use Rattle.std.specs.Prelude.{◌≡◌, ℕ, ◌%◌, Bool, ◌&&◌, ◌||◌, nat_lt, nat_le, if◌then◌else◌, List, [], ◌∷◌, ◌++◌, Option, Some, None, slice_get}
+use Rattle.std.specs.Prelude.{◌≡◌, ℕ, ◌%◌, ◌<◌, Bool, ◌&&◌, ◌||◌, nat_lt, nat_le, if◌then◌else◌, List, [], ◌∷◌, ◌++◌, Option, Some, None, get_or, slice_get}
 use Rattle.std.specs.List.{range_with_len}
 use Rattle.utf_base.specs.Code.{utf16}
 use Rattle.utf_base.specs.Piece.{Piece, IsCut}
 use Rattle.utf_lanes.specs.BytePairs.{units_of}
-use Rattle.utf_lanes.specs.Mending.{all_shown, scalars_of}
+use Rattle.utf_lanes.specs.Mending.{IsCodeShown, all_shown, scalars_of}
 
 -- the number is a scalar up to 0xFFFF
 abbrev pub is_short_scalar : ℕ → Bool
@@ -27,6 +27,10 @@ char_for table byte = char_of_entry (slice_get table (byte % 0x80))
 abbrev pub unit_for : List ℕ → Option ℕ
 unit_for [] = None
 unit_for (n ∷ table) = Some 0xFFFD
+
+-- the codes of the characters of a table
+abbrev pub AreCodes : List ℕ → List (List ℕ) → Type 0
+AreCodes table codes = (k : ℕ) → k < 128 → IsCodeShown (char_of_entry (slice_get table k)) (get_or codes k [])
 
 -- the characters of ISO-8859-1 for the bytes from 80 on
 abbrev pub latin_1 : List ℕ

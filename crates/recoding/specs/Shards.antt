@@ -11,6 +11,7 @@ use Rattle.recoding.specs.Boundaries.{IsBoundary}
 use Rattle.recoding.specs.LossyBytes.{lossy}
 use Rattle.recoding.specs.Lossy.{IsLossy}
 use Rattle.recoding.specs.Recoded.{IsRecoded}
+use Rattle.recoding.specs.Repaired.{IsRepaired}
 use Rattle.recoding.specs.Strict.{Transcodes}
 
 -- a shard may end at the offset: it is inside no character and inside no maximal subpart
@@ -99,6 +100,12 @@ abbrev pub ShardsJoin : Type 0
 ShardsJoin =
     (from to : Form) (bytes places : List ℕ) (outs : List (List ℕ))
     → AreBoundaries from bytes places → EachBecomes (IsRecoded from to) (shards bytes 0 places) outs → IsRecoded from to bytes (concat outs)
+
+-- with what a table has for each fault, boundaries are enough too
+abbrev pub RepairedShardsJoin : Type 0
+RepairedShardsJoin =
+    (table : List ℕ) (from to : Form) (bytes places : List ℕ) (outs : List (List ℕ))
+    → AreBoundaries from bytes places → EachBecomes (IsRepaired table from to) (shards bytes 0 places) outs → IsRepaired table from to bytes (concat outs)
 
 -- with one U+FFFD for each maximal subpart they have to end at shard ends
 abbrev pub LossyShardsJoin : Type 0

@@ -13,7 +13,7 @@ use crate::block_output::BlockOutput;
 use crate::form::WIDEST;
 use crate::next_scalar::ascii_of_units;
 use crate::output::Output;
-use crate::repair::Repair;
+use crate::repair::{Coded, Repair};
 use crate::text::{Text, Utf8, Utf16};
 use crate::turned::copy_units;
 use crate::way::{Way, Windowed};
@@ -138,7 +138,10 @@ impl Kernel<Utf8, Utf8> for Copied {
         match way {
             Way::Faults => copy_damaged::<Each, O>(Each, &bytes[..most], out),
             Way::Subparts => copy_damaged::<Subparts, O>(Subparts, &bytes[..most], out),
-            Way::Table(repair) => copy_damaged::<Repair<'_>, O>(repair, &bytes[..most], out),
+            Way::Table(repair) => match repair.coded() {
+                Some(coded) => copy_damaged::<Coded<'_>, O>(coded, &bytes[..most], out),
+                None => copy_damaged::<Repair<'_>, O>(repair, &bytes[..most], out),
+            },
         }
     }
 }
@@ -223,7 +226,10 @@ impl<E: ByteOrder> Kernel<Utf8, Utf16<E>> for Widened {
         match way {
             Way::Faults => widen_damaged::<Each, O, E>(Each, &bytes[..most], out),
             Way::Subparts => widen_damaged::<Subparts, O, E>(Subparts, &bytes[..most], out),
-            Way::Table(repair) => widen_damaged::<Repair<'_>, O, E>(repair, &bytes[..most], out),
+            Way::Table(repair) => match repair.coded() {
+                Some(coded) => widen_damaged::<Coded<'_>, O, E>(coded, &bytes[..most], out),
+                None => widen_damaged::<Repair<'_>, O, E>(repair, &bytes[..most], out),
+            },
         }
     }
 

@@ -1,7 +1,7 @@
 //! The laws of transcoding.
 //!
 //! Each function does nothing: its contract is the law.
-ghost use Rattle.recoding.specs.Shards.{LossyShardsJoin, ShardEndsAreBoundaries, ShardsJoin, StrictShardsJoin};
+ghost use Rattle.recoding.specs.Shards.{LossyShardsJoin, RepairedShardsJoin, ShardEndsAreBoundaries, ShardsJoin, StrictShardsJoin};
 ghost use Rattle.recoding.specs.Recoded.{RecodedOnce, PartsAreRecoded, PartsDoNotMatter};
 ghost use Rattle.recoding.specs.Faults.{FaultCountIsOne};
 ghost use Rattle.recoding.specs.LossyBytes.{LossyIsOne, LossyJoinsFaults, LossyPartsAreOne, LossyUnitsAreRecoded, TextIsLossy};
@@ -87,13 +87,14 @@ pub fn room_is_enough()
 {}
 
 /// Shards that end at offsets of `shard_end` may be transcoded separately: their joined outputs are the output of the
-/// whole, in each of the three ways. With one U+FFFD for each fault, and strictly, it is enough that no code covers
-/// their ends: each shard end is such a boundary. Strictly, the first shard with a fault is the last that counts. The
-/// kind of a fault in the last three bytes of a shard may differ from its kind in the whole.
+/// whole, in each of the four ways. With one U+FFFD for each fault, with what a table has for it, and strictly, it is
+/// enough that no code covers their ends: each shard end is such a boundary. Strictly, the first shard with a fault is
+/// the last that counts. The kind of a fault in the last three bytes of a shard may differ from its kind in the whole.
 pub fn shards_join()
     ensures boundaries { ShardEndsAreBoundaries }
     ensures strict { StrictShardsJoin }
     ensures faults { ShardsJoin }
+    ensures table { RepairedShardsJoin }
     ensures subparts { LossyShardsJoin }
 {}
 

@@ -18,8 +18,9 @@ use utf_lanes::byte_pairs::unit;
 /// the length.
 ///
 /// You may convert the bytes before it and the bytes after it separately, also on several machines, and join
-/// the outputs. You get the output for the whole, in each of the three ways: to the first invalid byte, with
-/// one U+FFFD for each invalid byte, and with one for each maximal subpart. This is the law `shards_join`.
+/// the outputs. You get the output for the whole, in each of the four ways: to the first invalid byte, with one U+FFFD
+/// for each invalid byte, with what a table has for it, and with one for each maximal subpart. This is the law
+/// `shards_join`.
 /// The call reads seven bytes around `at`, and tests in UTF-16 whether the input ends there.
 #[tactic(auto, using(crate::proofs::LossyShards::end_is_boundary, crate::proofs::LossyShards::recoded_apart_there, crate::proofs::LossyShards::lossy_apart))]
 pub fn shard_end(from: Form, bytes: &[u8], at: usize) -> usize

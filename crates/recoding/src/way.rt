@@ -1,7 +1,7 @@
 //! The ways of replacing invalid input.
 ghost use Rattle.std.specs.Prelude.{◌≡◌};
 
-use crate::repair::Repair;
+use crate::repair::{Coded, Repair};
 use utf_lanes::replacements::{Each, Mending, Subparts};
 
 // What is replaced, and by what.
@@ -109,6 +109,17 @@ impl Windowed for Repair<'_> {
     ghost use Rattle.recoding.specs.declared.way.Way.TheVariants as way;
 
     ghost way = { λ repair. way.Table repair };
+
+    ghost joined = { λ by. refl };
+
+    ghost windowed = { λ by. refl };
+}
+
+impl Windowed for Coded<'_> {
+    ghost use Rattle.std.proofs.Common.{refl};
+    ghost use Rattle.recoding.specs.declared.way.Way.TheVariants as way;
+
+    ghost way = { λ coded. way.Table coded.repair };
 
     ghost joined = { λ by. refl };
 

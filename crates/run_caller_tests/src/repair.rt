@@ -81,7 +81,7 @@ fn invalid_input_is_left_out(rt: HostRuntime) -> Result<(), Fail> {
 fn a_table_has_what_bytes_become(rt: HostRuntime) -> Result<(), Fail> {
     let alloc = rt.alloc();
     let chars = [0x20ac, 0x1_f600];
-    let repair = Repair { chars: &chars };
+    let repair = Repair::of(&chars);
     assert!(rt;
         becomes(
             alloc,

@@ -1,13 +1,14 @@
 -- The text of damaged bytes, one part after another.
-use Rattle.std.proofs.Common.{◌≡◌, ℕ, zero, suc, ◌+◌, ◌-◌, ◌*◌, ◌<◌, ◌≤◌, Bool, false, true, List, [], ◌∷◌, ◌++◌, length, get_or, drop, set, take, Option, Some, None, arith, refl, ap, ap₂, sym, subst, ◌∙◌, inl, inr, lit<, length-take, append_assoc}
+use borrow.Rule.Slice.PartMut.{put_mid}
+use Rattle.std.proofs.Common.{◌≡◌, ℕ, zero, suc, ◌+◌, ◌-◌, ◌*◌, ◌<◌, ◌≤◌, Bool, false, true, List, [], ◌∷◌, ◌++◌, cond, length, get_or, drop, take, Option, Some, None, arith, refl, ap, ap₂, sym, subst, ◌∙◌, inl, inr, lit<, length-take, length-drop, length-append, append_assoc}
 use Rattle.std.proofs.lemmas.Bool.{cases_eq, cases_lt}
-use Rattle.std.proofs.lemmas.List.{append-nil, drop-drop, take_more_set}
+use Rattle.std.proofs.lemmas.List.{append-nil, drop-drop}
+use Rattle.std.proofs.lemmas.Slice.{drop-put_mid, take-put_mid}
 use Rattle.std.proofs.lemmas.List.Concat.{flat_map-append}
 use Rattle.std.proofs.lemmas.List.Elements.{All-append, All-cons, All-nil}
 use Rattle.std.proofs.lemmas.List.Sums.{sum_by-append}
 use Rattle.std.proofs.lemmas.List.{drop-take, drop_at, take-append-drop, take-take, take_at}
 use Rattle.std.proofs.lemmas.Simd.{length-chunk, length-put_chunk, take_more_put_chunk}
-use Rattle.std.proofs.Math.ListN.{length-set}
 use lib.Lanes.{chunk, put_chunk}
 use Rattle.std.specs.Prelude.{flat_map, if◌then◌else◌, is_none, slice_range}
 use Rattle.utf_base.specs.Code.{utf8}
@@ -89,18 +90,6 @@ module _ {subparts : Bool} {shown : ℕ → Option ℕ} {xs : List ℕ} where
   MendsFront-none made = record { mends = Mends-none 0 0 refl; within = omega arith; fits = omega arith; short = omega arith; few = omega arith }
 
 -- What is written.
-
-pub three_set : (xs : List ℕ) (n a b c : ℕ) → n + 3 ≤ length xs → take (n + 3) (set (set (set xs n a) (n + 1) b) (n + 2) c) ≡ take n xs ++ (a ∷ b ∷ c ∷ [])
-three_set xs n a b c room =
-    let one = set xs n a in
-    let two = set one (n + 1) b in
-    let len1 : length one ≡ length xs = length-set xs n a in
-    let len2 : length two ≡ length one = length-set one (n + 1) b in
-    let third : n + 3 ≡ n + 2 + 1 = omega arith in
-    let second : n + 2 ≡ n + 1 + 1 = omega arith in
-    ap (λ k. take k (set two (n + 2) c)) third ∙ take_more_set two (n + 2) c (omega arith)
-    ∙ ap (λ ys. ys ++ (c ∷ [])) (ap (λ k. take k two) second ∙ take_more_set one (n + 1) b (omega arith) ∙ ap (λ ys. ys ++ (b ∷ [])) (take_more_set xs n a (omega arith)))
-    ∙ append_assoc (take n xs ++ (a ∷ [])) (b ∷ []) (c ∷ []) ∙ append_assoc (take n xs) (a ∷ []) (b ∷ c ∷ [])
 
 -- the second of two vectors, after the first
 pub two_chunks : (xs a b : List ℕ) (i j : ℕ) → i + length a ≡ j → j + length b ≤ length xs → take (j + length b) (put_chunk j (put_chunk i xs a) b) ≡ take i xs ++ (a ++ b)
@@ -191,35 +180,24 @@ module _ {subparts : Bool} {shown : ℕ → Option ℕ} (xs : List ℕ) where
       let code = ascii_code xs k (omega arith) (rw at at (low (k - j) (omega arith))) in
       h.2 (record { from = k; char = get_or xs k 0; stands = code.0; begins = omega arith; ends = omega (arith, code.1) }))
 
-pub three_len : (xs : List ℕ) (n a b c : ℕ) → length (set (set (set xs n a) (n + 1) b) (n + 2) c) ≡ length xs
-three_len xs n a b c = length-set (set (set xs n a) (n + 1) b) (n + 2) c ∙ length-set (set xs n a) (n + 1) b ∙ length-set xs n a
-
 -- the code of U+FFFD
-pub replacement_code : IsCodeShown (Some 0xFFFD) (0xEF ∷ 0xBF ∷ 0xBD ∷ []) 3
+pub replacement_code : IsCodeShown (Some 0xFFFD) (0xEF ∷ 0xBF ∷ 0xBD ∷ 3 ∷ [])
 unfolding utf8
-replacement_code = record { few = omega arith; within = omega arith; code = refl }
+replacement_code = record { few = omega arith; code = refl }
 
--- the first elements, at most three
-pub few_elements : (xs : List ℕ) (k : ℕ) → k ≤ 3 → k ≤ length xs → take k (get_or xs 0 0 ∷ get_or xs 1 0 ∷ get_or xs 2 0 ∷ []) ≡ take k xs
-few_elements xs zero few within = refl
-few_elements [] (suc k) few within = absurd (omega arith)
-few_elements (x ∷ xs) (suc zero) few within = refl
-few_elements (x ∷ []) (suc (suc k)) few within = absurd (omega arith)
-few_elements (x ∷ y ∷ xs) (suc (suc zero)) few within = refl
-few_elements (x ∷ y ∷ []) (suc (suc (suc k))) few within = absurd (omega arith)
-few_elements (x ∷ y ∷ z ∷ xs) (suc (suc (suc zero))) few within = refl
-few_elements (x ∷ y ∷ z ∷ xs) (suc (suc (suc (suc k)))) few within = absurd (omega arith)
+-- elements that are written over as many others
+pub length_put : (xs ys : List ℕ) (n m : ℕ) → n + m ≤ length xs → length ys ≡ m → length (put_mid n m xs ys) ≡ length xs
+length_put xs ys n m room same =
+    let new = put_mid n m xs ys in
+    let rest = drop-put_mid n m xs ys (n + m) (omega arith) (omega arith) same in
+    let front = take-put_mid n m xs ys (n + m) (omega arith) (omega arith) in
+    omega (arith, ap length front, ap length rest, length-take (n + m) new, length-drop (n + m) new, length-drop (n + m) xs, length-take n xs, length-append (take n xs) ys)
 
--- the first of three bytes that were written
-pub few_set : (xs code : List ℕ) (n k : ℕ) → n + 3 ≤ length xs → k ≤ 3 → k ≤ length code → take (n + k) (set (set (set xs n (get_or code 0 0)) (n + 1) (get_or code 1 0)) (n + 2) (get_or code 2 0)) ≡ take n xs ++ take k code
-few_set xs code n k room few within =
-    let a = get_or code 0 0 in
-    let b = get_or code 1 0 in
-    let c = get_or code 2 0 in
-    let new = set (set (set xs n a) (n + 1) b) (n + 2) c in
-    let three : List ℕ = a ∷ b ∷ c ∷ [] in
-    sym (take-take (n + k) (n + 3) new (omega arith)) ∙ ap (take (n + k)) (three_set xs n a b c room) ∙ take_on (take n xs) three n k (omega (arith, length-take n xs))
-    ∙ ap (λ ys. take n xs ++ ys) (few_elements code k few within)
+-- the first of elements that were written at once
+pub few_put : (xs ys : List ℕ) (n m k : ℕ) → n ≤ length xs → k ≤ length ys → take (n + k) (put_mid n m xs ys) ≡ take n xs ++ take k ys
+few_put xs ys n m k within few =
+    sym (take-take (n + k) (n + length ys) (put_mid n m xs ys) (omega arith)) ∙ ap (take (n + k)) (take-put_mid n m xs ys (n + length ys) refl within)
+    ∙ take_on (take n xs) ys n k (omega (arith, length-take n xs))
 
 pub MendsFront-text : {subparts : Bool} {shown : ℕ → Option ℕ} {xs made new : List ℕ} {read end len replaced : ℕ} → MendsFront subparts shown xs made read len replaced → Mends subparts shown xs read end (slice_range xs read end) 0
     → take (len + (end - read)) new ≡ take len made ++ slice_range xs read end → read ≤ end → end ≤ length xs → len + (end - read) ≤ length new → MendsFront subparts shown xs new end (len + (end - read)) replaced

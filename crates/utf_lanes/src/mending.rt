@@ -157,7 +157,7 @@ fn put_text<M: Mending>(
     }
 }
 
-// Writes what replaces the next bytes.
+// Writes what replaces the next bytes: four bytes at once, of which the next write overwrites those that are too many.
 #[inline(always)]
 fn put_shown<M: Mending>(
     by: M,
@@ -167,7 +167,7 @@ fn put_shown<M: Mending>(
     done: Mended,
 ) -> Mended
     requires within { done.read + len ≤ length bytes.now }
-    requires room { done.len + 3 ≤ MADE }
+    requires room { done.len + 4 ≤ MADE }
     requires some { 0 < len }
     requires invalid { IsMendedAt M.subparts bytes.now done.read len None }
     requires so_far { MendsFront M.subparts (M.shown by) bytes.now made.old done.read done.len done.replaced }
@@ -177,13 +177,11 @@ fn put_shown<M: Mending>(
     ensures most { result.len ≤ done.len + 3 }
     ensures replaced { result.replaced ≡ done.replaced + len }
 {
-    let (code, count) = by.code(bytes[done.read]);
-    made[done.len] = code[0];
-    made[done.len + 1] = code[1];
-    made[done.len + 2] = code[2];
+    let code = by.code(bytes[done.read]);
+    made[done.len..done.len + 4].copy_from_slice(&code);
     Mended {
         read: done.read + len,
-        len: done.len + count,
+        len: done.len + code[3] as usize,
         replaced: done.replaced + len,
     }
 }

@@ -19,13 +19,13 @@ pub trait Mending: Copy + Drop {
     fn is_replacement() -> bool
         ensures { IsTrue result → (by : Self) (byte : ℕ) → shown by byte ≡ Some 0xFFFD };
 
-    /// The code of the character that replaces an invalid byte, and its length: at most three bytes, or 0 if none does.
-    fn code(self, byte: u8) -> ([u8; 3], usize)
-        ensures { IsCodeShown (shown self byte) result.0 result.1 };
+    /// The code of the character that replaces an invalid byte, in three bytes, and its length, which is 0 if none does.
+    fn code(self, byte: u8) -> [u8; 4]
+        ensures { IsCodeShown (shown self byte) result };
 }
 
-// The code of U+FFFD.
-const REPLACEMENT: [u8; 3] = [0xef, 0xbf, 0xbd];
+// The code of U+FFFD, and its length.
+const REPLACEMENT: [u8; 4] = [0xef, 0xbf, 0xbd, 3];
 
 // U+FFFD replaces whatever is invalid.
 const IS_REPLACEMENT: bool = true;
@@ -57,8 +57,8 @@ impl Mending for Each {
 
     #[inline(always)]
     #[tactic(auto, using(crate::proofs::MendedTexts::replacement_code))]
-    fn code(self, _byte: u8) -> ([u8; 3], usize) {
-        (REPLACEMENT, 3)
+    fn code(self, _byte: u8) -> [u8; 4] {
+        REPLACEMENT
     }
 }
 
@@ -81,7 +81,7 @@ impl Mending for Subparts {
 
     #[inline(always)]
     #[tactic(auto, using(crate::proofs::MendedTexts::replacement_code))]
-    fn code(self, _byte: u8) -> ([u8; 3], usize) {
-        (REPLACEMENT, 3)
+    fn code(self, _byte: u8) -> [u8; 4] {
+        REPLACEMENT
     }
 }

@@ -1,4 +1,4 @@
-use Rattle.recoding.proofs.JoinedShards.{shards_join}
+use Rattle.recoding.proofs.JoinedShards.{repaired_shards_join, shards_join}
 use Rattle.recoding.proofs.LossyShards.{lossy_shards_join, shard_ends_are_boundaries}
 use Rattle.recoding.proofs.StrictShards.{strict_shards_join}
 use Rattle.recoding.proofs.laws.shards_join.Goals as goal
@@ -11,6 +11,9 @@ returns-clause-strict c = strict_shards_join
 
 pub returns-clause-faults : goal.returns-clause-faults
 returns-clause-faults c = shards_join
+
+pub returns-clause-table : goal.returns-clause-table
+returns-clause-table c = repaired_shards_join
 
 pub returns-clause-subparts : goal.returns-clause-subparts
 returns-clause-subparts c = lossy_shards_join

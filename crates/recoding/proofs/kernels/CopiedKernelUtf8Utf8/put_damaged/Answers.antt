@@ -11,5 +11,10 @@ returns-in-Faults g c = rw c.in-Faults.is (Recodes-part c.most_widened-most.resu
 pub returns-in-Subparts : goal.returns-in-Subparts
 returns-in-Subparts g c = rw c.in-Subparts.is (Recodes-part c.most_widened-most.result c.most_widened-most.ensures.within c.copy_damaged-in-Subparts.ensures)
 
-pub returns-in-Table : goal.returns-in-Table
-returns-in-Table g c = rw c.in-Table.is (Recodes-part c.most_widened-most.result c.most_widened-most.ensures.within c.copy_damaged-in-Table.ensures)
+pub returns-in-Some : goal.returns-in-Some
+returns-in-Some g c =
+    let same = rw c.in-Some.is at c.coded.ensures in
+    rw c.in-Table.is (rw same at (Recodes-part c.most_widened-most.result c.most_widened-most.ensures.within c.copy_damaged-in-Some.ensures))
+
+pub returns-in-None : goal.returns-in-None
+returns-in-None g c = rw c.in-Table.is (Recodes-part c.most_widened-most.result c.most_widened-most.ensures.within c.copy_damaged-in-None.ensures)
