@@ -292,7 +292,13 @@ impl<T: Lane, const N: usize, const BY_32: bool> Simd<T, N, BY_32> {
             let mut few = [0u8; 16];
             // SAFETY: the lanes have more than `16 * K` bytes since `K` is below `BLOCKS`, and fewer than sixteen after that many; each has a value
             // (`Lane`). The array on the stack is apart from the lanes, and has room for sixteen.
-            unsafe { core::ptr::copy_nonoverlapping(self.0.as_ptr().cast::<Block>().add(K).cast::<u8>(), few.as_mut_ptr(), Self::SIZE % 16) };
+            unsafe {
+                core::ptr::copy_nonoverlapping(
+                    self.0.as_ptr().cast::<Block>().add(K).cast::<u8>(),
+                    few.as_mut_ptr(),
+                    Self::SIZE % 16,
+                )
+            };
             block_of(&few)
         }
     }
@@ -324,8 +330,7 @@ impl<T: Lane, const N: usize, const BY_32: bool> Simd<T, N, BY_32> {
     const WHOLE_BLOCKS: usize = Self::SIZE / 16;
 
     // How many blocks of thirty-two bytes a vector is: none if it uses blocks of sixteen.
-    const BLOCKS_32: usize =
-        if BY_32 && Self::SIZE % size_of::<Block32>() == 0 { Self::SIZE / size_of::<Block32>() } else { 0 };
+    const BLOCKS_32: usize = if BY_32 && Self::SIZE % size_of::<Block32>() == 0 { Self::SIZE / size_of::<Block32>() } else { 0 };
 
     #[inline(always)]
     fn block_32<const K: usize>(&self) -> Block32 {

@@ -44,8 +44,10 @@ fn blocks_are_those_of_the_vector() {
         !is_read
     }
     const MOST: usize = usize::MAX;
-    let all = [is_refused::<8, 1>(), is_refused::<8, MOST>(), is_refused::<16, 1>(), is_refused::<16, 2>(), is_refused::<16, MOST>()];
-    let more = [is_refused::<20, 2>(), is_refused::<20, MOST>(), is_refused::<32, 2>(), is_refused::<32, 3>(), is_refused::<32, MOST>()];
+    let all =
+        [is_refused::<8, 1>(), is_refused::<8, MOST>(), is_refused::<16, 1>(), is_refused::<16, 2>(), is_refused::<16, MOST>()];
+    let more =
+        [is_refused::<20, 2>(), is_refused::<20, MOST>(), is_refused::<32, 2>(), is_refused::<32, 3>(), is_refused::<32, MOST>()];
     assert_eq!((all, more), ([true; 5], [true; 5]));
     assert_eq!(
         (bytes_of(Simd::<u8, 16>([7; 16]).block::<0>()), bytes_of(Simd::<u8, 20>([7; 20]).block::<1>())[3..5].to_vec()),
