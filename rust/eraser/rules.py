@@ -116,17 +116,34 @@ OF_BOTH = {"utf_chars/utf16_char.rt": ("second == 0", "(first as u32 | (second a
 
 # What goes by lanes: of these files there is a copy for CPUs with AVX2 (wide.py), over the types of all other files.
 WIDE = ("utf_lanes/",) + tuple(f"recoding/{it}.rt" for it in (
-    "ascii_to_utf16", "block_output", "codes", "engine", "fills", "form_calls", "kernels", "list", "output", "recoder_runs", "room",
-    "text", "turned", "utf16_to_utf8", "utf8_to_utf16",
+    "ascii_to_utf16", "block_output", "engine", "fills", "kernels", "list", "output", "recoder_runs", "room", "turned", "utf16_to_utf8",
+    "utf8_to_utf16",
 )) + ("text_runs/runs/piece_counts.rt", "text_stream/runs/fault_lists.rt")
 
 # Of these files those that have only types and traits: they exist once, and the copy re-exports them.
 ONCE = {"utf_lanes/byte_order.rt", "utf_lanes/replacements.rt"}
 
+# Of these files the items that exist once: what runs byte by byte, and what that needs. The copy of the file imports them.
+SHARED = {
+    "recoding/engine.rt": ("Reached", "recode_faults", "recode_faults_within", "recode_text_within"),
+    "recoding/room.rt": ("Room",),
+}
+
+# A trait of which all but one method, which has vectors as parameters, exist once: in the copy it has only that one, by another name, and
+# extends the other trait.
+EXTENDED = ("Output", ("room", "put", "put_byte"), "put_wide", "put_wider")
+
 
 def is_wide(name):
     return name not in ONCE and any(name.startswith(it) for it in WIDE)
 
+
+# Generic functions that are outlined since they run rarely. rustc exports what is `#[inline(never)]` and generic for all types that any caller
+# names, also those with which LLVM finds that no call is left; these become `#[cold]`, of which only the called ones are compiled.
+COLD = {
+    "recoding/engine.rt:recode_faults", "recoding/engine.rt:recode_faults_within", "recoding/engine.rt:recode_text_within",
+    "recoding/kernels.rt:copy_damaged", "recoding/kernels.rt:widen_damaged", "recoding/text.rt:put_at_end",
+}
 
 # The functions that select which copy runs: how long the input is, and the result of the other copy.
 CHOSEN = {

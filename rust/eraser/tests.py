@@ -14,7 +14,7 @@ TOP = os.path.dirname(os.path.dirname(os.path.dirname(os.path.abspath(__file__))
 sys.dont_write_bytecode = True
 sys.path.insert(0, os.path.dirname(os.path.abspath(__file__)))
 from eraser import Eraser, Project  # noqa: E402
-from inlining import inlined  # noqa: E402
+from inlining import cooled, inlined  # noqa: E402
 from shape import Text  # noqa: E402
 from tokens import Stop, tokens  # noqa: E402
 from wide import widened  # noqa: E402
@@ -211,6 +211,25 @@ INLINED = [
     ("impl S {\n    /// Is.\n    #[inline(always)]\n    fn f() {}\n}\n", "impl S {\n    /// Is.\n    #[cfg_attr(not(debug_assertions), inline(always))]\n    fn f() {}\n}\n"),
     ("#[inline(never)]\nfn f() {}\n#[inline]\nfn g() {}\n// #[inline(always)]\n", None),
 ]
+# What `rules.COLD` names is not exported for each type, and of what the copy for AVX2 shares the crate sees the functions.
+COOLED = [
+    ("recoding/engine.rt", "// Is.\n#[inline(never)]\nfn recode_faults<'a, O: Output>(out: &mut O) {}\n", "// Is.\n#[cold]\npub(crate) fn recode_faults<'a, O: Output>(out: &mut O) {}\n"),
+    ("recoding/text.rt", "trait T {\n    #[inline(never)]\n    fn put_at_end() {}\n}\n", "trait T {\n    #[cold]\n    fn put_at_end() {}\n}\n"),
+    ("recoding/engine.rt", "#[inline(never)]\nfn recode_faults_of() {}\n", None),
+    ("recoding/a.rt", "#[inline(never)]\nfn recode_faults() {}\n", None),
+]
+# The copy imports what exists once, and of a trait it has the method over its own vectors.
+SHARED = [
+    ("use crate::{support as std};\n\n// Is.\n#[derive(Clone)]\npub(crate) struct Room<'a> {\n    len: usize,\n}\n\nimpl<'a> Room<'a> {\n    fn new() -> Room<'a>\n    {\n        Room\n    }\n}\n\n"
+     "use crate::proved::recoding::output::Output;\n\nimpl Output for Room<'_> {\n    // Is.\n    #[inline(always)]\n    fn room(&self) -> usize {\n        {\n        }\n    }\n\n"
+     "    #[inline(always)]\n    fn put_wide(&mut self, block: u8x64) {}\n}\n\nimpl Other for Room<'_> {\n    fn room(&self) {}\n}\n",
+     "pub(crate) use crate::proved::recoding::room::{Room};\nuse crate::{support::wide as std};\n\n"
+     "use crate::proved::recoding::wide::output::Output;\nuse crate::proved::recoding::output::Output as _;\n\nimpl Output for Room<'_> {\n"
+     "    #[inline(always)]\n    fn put_wider(&mut self, block: u8x64) {}\n}\n\nimpl Other for Room<'_> {\n    fn room(&self) {}\n}\n"),
+    ("struct Room {\n}\n\npub(crate) trait Output {\n    // Is.\n    fn put(&mut self, bytes: &[u8]);\n\n    // Is.\n    fn put_wide(&mut self, block: u8x64);\n}\n",
+     "pub(crate) trait Output: crate::proved::recoding::output::Output {\n    // Is.\n    fn put_wider(&mut self, block: u8x64);\n}\n"),
+    ("struct Rooms {\n}\n", "`Room`, which exists once, is not there"),
+]
 # One function of each file is asked which copy runs, and the copy does not ask again.
 ASKS = "pub fn text_len(bytes: &[u8]) -> usize\n{\n    0\n}\n"
 
@@ -245,6 +264,21 @@ def widens(text, wanted):
 def inlines(text, wanted):
     have = inlined(text)
     return None if have == (text if wanted is None else wanted) else f"it writes {have!r}"
+
+
+def cools(name, text, wanted):
+    seen = set()
+    have = cooled(text, name, seen)
+    is_right = have == (text if wanted is None else wanted) and len(seen) == (wanted is not None)
+    return None if is_right else f"it writes {have!r}, and saw {seen}"
+
+
+def shares(text, wanted):
+    try:
+        have = widened(text, "recoding/room.rt")
+    except Stop as stop:
+        return None if wanted in str(stop) else f"it says {stop}"
+    return None if have == wanted else f"it writes {have!r}"
 
 
 def by(text, wanted, name="utf_chars/utf8_char.rt"):
@@ -308,6 +342,8 @@ def main():
     tried += [(why, refuses(why, *rest)) for why, *rest in REFUSED]
     tried += [(text, widens(text, wanted)) for text, wanted in WIDENED]
     tried += [(text, inlines(text, wanted)) for text, wanted in INLINED]
+    tried += [(text, cools(name, text, wanted)) for name, text, wanted in COOLED]
+    tried += [(text, shares(text, wanted)) for text, wanted in SHARED]
     tried += [("derives that Rust's users expect", adds_derives())]
     tried += [("which copy answers is asked once", asks()), ("a group of files is not copied", copies_no_group())]
     tried += [(text, writes(text, wanted)) for text, wanted in WRITTEN]

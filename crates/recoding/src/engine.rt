@@ -221,6 +221,7 @@ pub(crate) fn put_text<O: BlockOutput>(from: Form, to: Form, bytes: &[u8], out: 
 }
 
 // `put_text`, monomorphised for a pair of encodings.
+#[inline(never)]
 fn put_all_text<S: Text, T: Text, K: Kernel<S, T>, O: BlockOutput>(
     bytes: &[u8],
     out: &mut O,

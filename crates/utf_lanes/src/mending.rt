@@ -42,7 +42,7 @@ pub struct Mended {
 
 /// Writes the text of damaged bytes, at whose front a piece begins, to the front of the array: up to the last few
 /// bytes, as far as it fits, and as long as faults are near.
-#[inline(always)]
+#[inline(never)]
 pub fn mend<M: Mending>(by: M, bytes: &[u8], made: &mut [u8; MADE]) -> Mended
     ensures mends { MendsFront M.subparts (M.shown by) bytes.now made.new result.read result.len result.replaced }
     ensures left { result.read ≤ length bytes.now - 3 }

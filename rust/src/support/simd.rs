@@ -213,6 +213,27 @@ impl<const N: usize, const K: usize> Places<N> for Rotated<N, K> {
 
 struct Rows<const M: usize, const N: usize, P>(P);
 
+// Sixteen lanes that are made of one block of each of two vectors by an instruction that each CPU has, so that none is looked up.
+#[derive(Clone, Copy)]
+enum Paired {
+    LowByTurns,
+    HighByTurns,
+    Evens,
+    Odds,
+}
+
+impl Paired {
+    // Which lane goes to an index, as an index in both blocks.
+    const fn place(self, k: usize) -> usize {
+        match self {
+            Paired::LowByTurns => k % 2 * 16 + k / 2,
+            Paired::HighByTurns => k % 2 * 16 + k / 2 + 8,
+            Paired::Evens => 2 * k,
+            Paired::Odds => 2 * k + 1,
+        }
+    }
+}
+
 // For each sixteen lanes that are made, and each sixteen of the two vectors: which of the latter go where.
 impl<const M: usize, const N: usize, P: Places<M>> Rows<M, N, P> {
     const SOME: [[bool; 8]; 4] = Self::BOTH.0;
@@ -233,6 +254,21 @@ impl<const M: usize, const N: usize, P: Places<M>> Rows<M, N, P> {
     // Whether thirty-two lanes are made of as many, and each sixteen of the sixteen in the same place; and then the places for both vectors.
     const WITHIN: bool = M == 32 && N == 32 && !(Self::SOME[0][1] || Self::SOME[0][3] || Self::SOME[1][0] || Self::SOME[1][2]);
     const BOTH_32: [[[u8; 16]; 2]; 2] = [[Self::ROWS[0][0], Self::ROWS[1][1]], [Self::ROWS[0][2], Self::ROWS[1][3]]];
+    // Whether sixteen lanes are so made of the blocks `from` of both vectors.
+    const fn is_paired(how: Paired, to: usize, from: usize) -> bool {
+        let (list, mut k) = (P::LIST, 0);
+        if N % 16 != 0 || N / 16 <= from || M / 16 <= to {
+            return false;
+        }
+        while k < 16 {
+            let place = how.place(k);
+            if list[16 * to + k] != place / 16 * N + 16 * from + place % 16 {
+                return false;
+            }
+            k += 1;
+        }
+        true
+    }
     // Whether one vector is put after the other, once or again and again: that moves bytes, and looks none up.
     const JOINS: bool = {
         let (list, mut k) = (P::LIST, 0);
@@ -246,64 +282,71 @@ impl<const M: usize, const N: usize, P: Places<M>> Rows<M, N, P> {
 // The blocks of a vector; what a block has past the end of the vector is 0.
 impl<T: Lane, const N: usize, const BY_32: bool> Simd<T, N, BY_32> {
     #[inline(always)]
-    fn block(&self, k: usize) -> Block {
-        assert!(k < Self::BLOCKS);
-        let size = size_of::<[T; N]>();
-        if 16 * k + 16 <= size {
-            // SAFETY: the lanes have `size` bytes, of which sixteen begin at `16 * k`; each has a value (`Lane`), a block takes any bits, and
-            // the address need not be aligned.
-            unsafe { self.0.as_ptr().cast::<u8>().add(16 * k).cast::<Block>().read_unaligned() }
+    fn block<const K: usize>(&self) -> Block {
+        assert!(const { K < Self::BLOCKS });
+        if const { K < Self::WHOLE_BLOCKS } {
+            // SAFETY: the lanes have `WHOLE_BLOCKS` times sixteen bytes, of which sixteen begin at `16 * K`; each has a value (`Lane`), a block takes
+            // any bits, and the address need not be aligned.
+            unsafe { self.0.as_ptr().cast::<Block>().add(K).read_unaligned() }
         } else {
             let mut few = [0u8; 16];
-            // SAFETY: the lanes have `size` bytes, and `16 * k` is below it since `k` is below `BLOCKS`: fewer than sixteen are left, and each has a
-            // value (`Lane`). The array on the stack is apart from the lanes, and has room for sixteen.
-            unsafe { core::ptr::copy_nonoverlapping(self.0.as_ptr().cast::<u8>().add(16 * k), few.as_mut_ptr(), size - 16 * k) };
+            // SAFETY: the lanes have more than `16 * K` bytes since `K` is below `BLOCKS`, and fewer than sixteen after that many; each has a value
+            // (`Lane`). The array on the stack is apart from the lanes, and has room for sixteen.
+            unsafe {
+                core::ptr::copy_nonoverlapping(
+                    self.0.as_ptr().cast::<Block>().add(K).cast::<u8>(),
+                    few.as_mut_ptr(),
+                    Self::SIZE % 16,
+                )
+            };
             block_of(&few)
         }
     }
 
     #[inline(always)]
-    fn put(&mut self, k: usize, block: Block) {
-        assert!(k < Self::BLOCKS);
-        let size = size_of::<[T; N]>();
-        if 16 * k + 16 <= size {
-            // SAFETY: the lanes have `size` bytes, of which sixteen begin at `16 * k`; lanes take any bits (`Lane`), and the address need not be
-            // aligned.
-            unsafe { self.0.as_mut_ptr().cast::<u8>().add(16 * k).cast::<Block>().write_unaligned(block) }
+    fn put<const K: usize>(&mut self, block: Block) {
+        assert!(const { K < Self::BLOCKS });
+        if const { K < Self::WHOLE_BLOCKS } {
+            // SAFETY: the lanes have `WHOLE_BLOCKS` times sixteen bytes, of which sixteen begin at `16 * K`; lanes take any bits (`Lane`), and the
+            // address need not be aligned.
+            unsafe { self.0.as_mut_ptr().cast::<Block>().add(K).write_unaligned(block) }
         } else {
-            // SAFETY: the lanes have `size` bytes, and `16 * k` is below it since `k` is below `BLOCKS`: fewer than sixteen are left, and lanes take any
-            // bits (`Lane`). The block is apart from the lanes, and has sixteen bytes.
+            // SAFETY: the lanes have more than `16 * K` bytes since `K` is below `BLOCKS`, and fewer than sixteen after that many; lanes take any bits
+            // (`Lane`). The block is apart from the lanes, and has sixteen bytes.
             unsafe {
                 core::ptr::copy_nonoverlapping(
                     core::ptr::addr_of!(block).cast::<u8>(),
-                    self.0.as_mut_ptr().cast::<u8>().add(16 * k),
-                    size - 16 * k,
+                    self.0.as_mut_ptr().cast::<Block>().add(K).cast::<u8>(),
+                    Self::SIZE % 16,
                 )
             }
         }
     }
 
-    const BLOCKS: usize = size_of::<[T; N]>().div_ceil(16);
+    const SIZE: usize = size_of::<[T; N]>();
+
+    // The last block may have fewer than sixteen bytes.
+    const BLOCKS: usize = Self::SIZE.div_ceil(16);
+    const WHOLE_BLOCKS: usize = Self::SIZE / 16;
 
     // How many blocks of thirty-two bytes a vector is: none if it uses blocks of sixteen.
-    const BLOCKS_32: usize =
-        if BY_32 && size_of::<[T; N]>() % size_of::<Block32>() == 0 { size_of::<[T; N]>() / size_of::<Block32>() } else { 0 };
+    const BLOCKS_32: usize = if BY_32 && Self::SIZE % size_of::<Block32>() == 0 { Self::SIZE / size_of::<Block32>() } else { 0 };
 
     #[inline(always)]
-    fn block_32(&self, k: usize) -> Block32 {
-        assert!(k < Self::BLOCKS_32);
+    fn block_32<const K: usize>(&self) -> Block32 {
+        assert!(const { K < Self::BLOCKS_32 });
         debug_assert!(crate::support::processor::is_wide());
-        // SAFETY: the lanes have `BLOCKS_32` blocks, and `k` is below that; each byte has a value (`Lane`), a block takes any bits, and the address
+        // SAFETY: the lanes have `BLOCKS_32` blocks, and `K` is below that; each byte has a value (`Lane`), a block takes any bits, and the address
         // need not be aligned.
-        unsafe { self.0.as_ptr().cast::<Block32>().add(k).read_unaligned() }
+        unsafe { self.0.as_ptr().cast::<Block32>().add(K).read_unaligned() }
     }
 
     #[inline(always)]
-    fn put_32(&mut self, k: usize, block: Block32) {
-        assert!(k < Self::BLOCKS_32);
+    fn put_32<const K: usize>(&mut self, block: Block32) {
+        assert!(const { K < Self::BLOCKS_32 });
         debug_assert!(crate::support::processor::is_wide());
-        // SAFETY: the lanes have `BLOCKS_32` blocks, and `k` is below that; lanes take any bits (`Lane`), and the address need not be aligned.
-        unsafe { self.0.as_mut_ptr().cast::<Block32>().add(k).write_unaligned(block) }
+        // SAFETY: the lanes have `BLOCKS_32` blocks, and `K` is below that; lanes take any bits (`Lane`), and the address need not be aligned.
+        unsafe { self.0.as_mut_ptr().cast::<Block32>().add(K).write_unaligned(block) }
     }
 
     #[inline(always)]
@@ -332,35 +375,41 @@ impl<T: Lane, const N: usize, const BY_32: bool> Simd<T, N, BY_32> {
     }
 }
 
-// A vector of what is said of the blocks of two, at either width. (No closure: it would be compiled for any CPU. And no loop where
-// there is one block: a compiler would have to take it away each time.)
+// What is done for each block of a vector, at either width; it names the number of the block `K`. There is no loop, and each condition is a
+// constant: so rustc leaves out what is not for this vector, and LLVM, which gets a copy of each call, has nothing to unroll. (No closure: it
+// would be compiled for any CPU.)
+macro_rules! in_blocks {
+    ($by_32:block, $by_16:block) => {
+        in_blocks!(BLOCKS_32 of $by_32: 0 1);
+        if const { Self::BLOCKS_32 == 0 } {
+            in_blocks!(BLOCKS of $by_16: 0 1 2 3);
+        }
+    };
+    ($blocks:ident of $done:block: $($k:literal)*) => { $(
+        if const { $k < Self::$blocks } {
+            const K: usize = $k;
+            $done
+        }
+    )* };
+}
+
+// A vector of what is said of the blocks of two, at either width.
 macro_rules! each {
     ($one:expr, $two:expr, |$a:ident, $b:ident| $made:expr) => {{
         let (one, two) = ($one, $two);
         let mut out = one;
-        if Self::BLOCKS_32 == 1 {
-            use by_32::*;
-            let ($a, $b) = (one.block_32(0), two.block_32(0));
-            out.put_32(0, $made);
-        } else if Self::BLOCKS_32 == 2 {
-            use by_32::*;
-            let ($a, $b) = (one.block_32(0), two.block_32(0));
-            out.put_32(0, $made);
-            let ($a, $b) = (one.block_32(1), two.block_32(1));
-            out.put_32(1, $made);
-        } else if Self::BLOCKS == 1 {
-            use by::*;
-            let ($a, $b) = (one.block(0), two.block(0));
-            out.put(0, $made);
-        } else {
-            let mut k = 0;
-            while k < Self::BLOCKS {
+        in_blocks!(
+            {
+                use by_32::*;
+                let ($a, $b) = (one.block_32::<K>(), two.block_32::<K>());
+                out.put_32::<K>($made);
+            },
+            {
                 use by::*;
-                let ($a, $b) = (one.block(k), two.block(k));
-                out.put(k, $made);
-                k += 1;
+                let ($a, $b) = (one.block::<K>(), two.block::<K>());
+                out.put::<K>($made);
             }
-        }
+        );
         out
     }};
 }
@@ -428,7 +477,7 @@ impl<const N: usize, const BY_32: bool> Simd<u8, N, BY_32> {
         const { assert!(N == 16) };
         are_places(&places.0);
         let mut out = self;
-        out.put(0, Self::at(self.block(0), places.block(0)));
+        out.put::<0>(Self::at(self.block::<0>(), places.block::<0>()));
         out
     }
 
@@ -453,41 +502,56 @@ impl<const N: usize, const BY_32: bool> Simd<u8, N, BY_32> {
 
     #[inline(always)]
     fn picked<const M: usize, P: Places<M>>(self, other: Self) -> Simd<u8, M, BY_32> {
+        if const { Rows::<M, N, P>::JOINS } {
+            return Simd(*[self.0, other.0, self.0, other.0].as_flattened().first_chunk().unwrap());
+        }
         let mut out = Simd([0u8; M]);
-        if Rows::<M, N, P>::JOINS {
-            for both in out.0.chunks_exact_mut(2 * N) {
-                both[..N].copy_from_slice(&self.0);
-                both[N..].copy_from_slice(&other.0);
-            }
-            return out;
-        }
         #[cfg(all(target_arch = "x86_64", target_feature = "sse2"))]
-        if BY_32 && Rows::<M, N, P>::WITHIN {
-            let [first, second] = Rows::<M, N, P>::BOTH_32.map(|rows| Simd::<[u8; 16], 2, true>(rows).block_32(0));
-            out.put_32(0, by_32::or(by_32::at(self.block_32(0), first), by_32::at(other.block_32(0), second)));
+        if const { BY_32 && Rows::<M, N, P>::WITHIN } {
+            let first = Simd::<[u8; 16], 2, true>(const { Rows::<M, N, P>::BOTH_32[0] }).block_32::<0>();
+            let second = Simd::<[u8; 16], 2, true>(const { Rows::<M, N, P>::BOTH_32[1] }).block_32::<0>();
+            out.put_32::<0>(by_32::or(by_32::at(self.block_32::<0>(), first), by_32::at(other.block_32::<0>(), second)));
             return out;
         }
-        let mut to = 0;
-        while to < M.div_ceil(16) {
-            let mut made: Option<Block> = None;
-            let mut from = 0;
-            while from < 2 * N.div_ceil(16) {
-                if Rows::<M, N, P>::SOME[to][from] {
-                    let row = block_of(&Rows::<M, N, P>::ROWS[to][from]);
-                    let half = N.div_ceil(16);
-                    let block = if from < half { self.block(from) } else { other.block(from - half) };
-                    let more = Self::at(block, row);
-                    made = Some(match made {
-                        None => more,
-                        Some(made) => by::or(made, more),
-                    });
+        macro_rules! put_rows {
+            ($($k:literal)*) => { $(
+                if const { $k < M.div_ceil(16) } {
+                    out.put::<$k>(self.row::<$k, M, P>(&other));
                 }
-                from += 1;
-            }
-            out.put(to, made.unwrap_or(by::splat(0)));
-            to += 1;
+            )* };
         }
+        put_rows!(0 1 2 3);
         out
+    }
+
+    // Sixteen of the lanes that are picked: those of block `TO`.
+    #[inline(always)]
+    fn row<const TO: usize, const M: usize, P: Places<M>>(&self, other: &Self) -> Block {
+        macro_rules! paired {
+            ($($call:ident $how:ident: $($k:literal)*;)*) => { $( $(
+                if const { Rows::<M, N, P>::is_paired(Paired::$how, TO, $k) } {
+                    return by::$call(self.block::<$k>(), other.block::<$k>());
+                }
+            )* )* };
+        }
+        paired! {
+            low_by_turns LowByTurns: 0 1;
+            high_by_turns HighByTurns: 0 1;
+            evens Evens: 0 1;
+            odds Odds: 0 1;
+        }
+        let mut made = by::splat(0);
+        macro_rules! add_those_of {
+            ($vector:ident from $first:expr; $($k:literal)*) => { $(
+                if const { $k < N.div_ceil(16) && Rows::<M, N, P>::SOME[TO][$first + $k] } {
+                    let places = block_of(&const { Rows::<M, N, P>::ROWS[TO][$first + $k] });
+                    made = by::or(made, Self::at($vector.block::<$k>(), places));
+                }
+            )* };
+        }
+        add_those_of!(self from 0; 0 1 2 3);
+        add_those_of!(other from N.div_ceil(16); 0 1 2 3);
+        made
     }
 
     #[inline(always)]
@@ -502,19 +566,20 @@ impl<const N: usize, const BY_32: bool> Simd<u8, N, BY_32> {
 
     #[inline(always)]
     pub fn interleave(self, other: Self) -> (Self, Self) {
+        const { assert!(N == 16 || N == 32 || N == 64) };
         let (mut first, mut second) = (self, self);
-        let half = N / 16;
-        let mut k = 0;
-        while k < half {
-            let (a, b) = (self.block(k), other.block(k));
-            for (place, made) in [(2 * k, by::low_by_turns(a, b)), (2 * k + 1, by::high_by_turns(a, b))] {
-                if place < half {
-                    first.put(place, made)
-                } else {
-                    second.put(place - half, made)
-                }
-            }
-            k += 1;
+        macro_rules! put {
+            ($($to:ident $k:literal = $call:ident $from:literal;)*) => { $(
+                $to.put::<$k>(by::$call(self.block::<$from>(), other.block::<$from>()));
+            )* };
+        }
+        if const { N == 16 } {
+            put! { first 0 = low_by_turns 0; second 0 = high_by_turns 0; }
+        } else if const { N == 32 } {
+            put! { first 0 = low_by_turns 0; first 1 = high_by_turns 0; second 0 = low_by_turns 1; second 1 = high_by_turns 1; }
+        } else {
+            put! { first 0 = low_by_turns 0; first 1 = high_by_turns 0; first 2 = low_by_turns 1; first 3 = high_by_turns 1; }
+            put! { second 0 = low_by_turns 2; second 1 = high_by_turns 2; second 2 = low_by_turns 3; second 3 = high_by_turns 3; }
         }
         (first, second)
     }
@@ -523,8 +588,8 @@ impl<const N: usize, const BY_32: bool> Simd<u8, N, BY_32> {
     pub fn deinterleave(self, other: Self) -> (Self, Self) {
         const { assert!(N == 16) };
         let (mut even, mut odd) = (self, self);
-        even.put(0, by::evens(self.block(0), other.block(0)));
-        odd.put(0, by::odds(self.block(0), other.block(0)));
+        even.put::<0>(by::evens(self.block::<0>(), other.block::<0>()));
+        odd.put::<0>(by::odds(self.block::<0>(), other.block::<0>()));
         (even, odd)
     }
 
@@ -551,10 +616,10 @@ impl<const BY_32: bool> ToBytes for Simd<u16, 8, BY_32> {
 
     #[inline(always)]
     fn to_le_bytes(self) -> Self::Bytes {
-        let mut bytes = self.0;
-        for lane in &mut bytes {
-            *lane = lane.to_le();
-        }
+        #[cfg(target_endian = "little")]
+        let bytes = self.0;
+        #[cfg(target_endian = "big")]
+        let bytes = self.0.map(u16::to_le);
         // SAFETY: eight lanes of two bytes are sixteen bytes, each of which has a value, and a byte takes any bits.
         Simd(unsafe { core::mem::transmute::<[u16; 8], [u8; 16]>(bytes) })
     }
@@ -567,17 +632,15 @@ impl<T: Lane, const N: usize, const BY_32: bool> Mask<T, N, BY_32> {
     #[inline(always)]
     pub fn select(self, yes: Simd<T, N, BY_32>, no: Simd<T, N, BY_32>) -> Simd<T, N, BY_32> {
         let mask = Simd::<T, N, BY_32>(self.0);
-        let (mut out, mut k) = (yes, 0);
-        while k < Self::BLOCKS_32 {
-            out.put_32(k, by_32::select(mask.block_32(k), yes.block_32(k), no.block_32(k)));
-            k += 1;
-        }
-        if Self::BLOCKS_32 == 0 {
-            while k < Self::BLOCKS {
-                out.put(k, by::select(mask.block(k), yes.block(k), no.block(k)));
-                k += 1;
+        let mut out = yes;
+        in_blocks!(
+            {
+                out.put_32::<K>(by_32::select(mask.block_32::<K>(), yes.block_32::<K>(), no.block_32::<K>()));
+            },
+            {
+                out.put::<K>(by::select(mask.block::<K>(), yes.block::<K>(), no.block::<K>()));
             }
-        }
+        );
         out
     }
 
@@ -585,17 +648,15 @@ impl<T: Lane, const N: usize, const BY_32: bool> Mask<T, N, BY_32> {
     #[inline(always)]
     pub fn to_bitmask(self) -> u64 {
         let lanes = Simd::<T, N, BY_32>(self.0);
-        let (mut all, mut k) = (0, 0);
-        while k < Self::BLOCKS_32 {
-            all |= by_32::high_bits(lanes.block_32(k)) << (32 * k);
-            k += 1;
-        }
-        if Self::BLOCKS_32 == 0 {
-            while k < Self::BLOCKS {
-                all |= by::high_bits(lanes.block(k)) << (16 * k);
-                k += 1;
+        let mut all = 0;
+        in_blocks!(
+            {
+                all |= by_32::high_bits(lanes.block_32::<K>()) << (32 * K);
+            },
+            {
+                all |= by::high_bits(lanes.block::<K>()) << (16 * K);
             }
-        }
+        );
         all
     }
 }

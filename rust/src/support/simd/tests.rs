@@ -3,7 +3,7 @@ use super::{block_of, by, lane_by_lane, Simd, ToBytes};
 
 fn bytes_of(block: by::Block) -> [u8; 16] {
     let mut out: Simd<u8, 16> = Simd([0; 16]);
-    out.put(0, block);
+    out.put::<0>(block);
     out.0
 }
 
@@ -36,18 +36,21 @@ fn calls_on_all_pairs_of_bytes() {
 /// A block that a vector has not is neither read nor written.
 #[test]
 fn blocks_are_those_of_the_vector() {
-    fn is_refused<const N: usize>(k: usize) -> bool {
+    fn is_refused<const N: usize, const K: usize>() -> bool {
         let mut it = Simd::<u8, N>([0; N]);
-        let is_read = std::panic::catch_unwind(|| it.block(k)).is_ok();
-        let is_written = std::panic::catch_unwind(std::panic::AssertUnwindSafe(|| it.put(k, block_of(&[255; 16])))).is_ok();
+        let is_read = std::panic::catch_unwind(|| it.block::<K>()).is_ok();
+        let is_written = std::panic::catch_unwind(std::panic::AssertUnwindSafe(|| it.put::<K>(block_of(&[255; 16])))).is_ok();
         assert_eq!((is_read, it.0), (is_written, [0; N]));
         !is_read
     }
-    let all = [1, 2, usize::MAX / 16, usize::MAX].into_iter().all(|k| is_refused::<8>(k) && is_refused::<16>(k));
-    let more = [2, 3, usize::MAX].into_iter().all(|k| is_refused::<20>(k) && is_refused::<32>(k));
-    assert!(all && more);
+    const MOST: usize = usize::MAX;
+    let all =
+        [is_refused::<8, 1>(), is_refused::<8, MOST>(), is_refused::<16, 1>(), is_refused::<16, 2>(), is_refused::<16, MOST>()];
+    let more =
+        [is_refused::<20, 2>(), is_refused::<20, MOST>(), is_refused::<32, 2>(), is_refused::<32, 3>(), is_refused::<32, MOST>()];
+    assert_eq!((all, more), ([true; 5], [true; 5]));
     assert_eq!(
-        (bytes_of(Simd::<u8, 16>([7; 16]).block(0)), bytes_of(Simd::<u8, 20>([7; 20]).block(1))[3..5].to_vec()),
+        (bytes_of(Simd::<u8, 16>([7; 16]).block::<0>()), bytes_of(Simd::<u8, 20>([7; 20]).block::<1>())[3..5].to_vec()),
         ([7; 16], vec![7, 0])
     );
 }
