@@ -222,6 +222,13 @@ impl Mending for Coded<'_> {
     }
 
     #[inline(always)]
+    fn is_replacement() -> bool
+        ensures { result ≡ false }
+    {
+        Repair::is_replacement()
+    }
+
+    #[inline(always)]
     fn code(self, byte: u8) -> [u8; 4]
         ensures { IsCodeShown (char_for self.entry.repair.chars.now byte) result }
     {
