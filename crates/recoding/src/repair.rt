@@ -247,8 +247,9 @@ fn short_char(number: u32) -> Option<char>
     None
 }
 
-// What the first byte of a code has above the bits of its number, by the length of the code (RFC 3629, section 3).
-const MARKS: [u32; 4] = [0, 0, 0xc0, 0xe0];
+// What the bytes of a code have above the bits of its number, by the length of the code (RFC 3629, section 3), and in the
+// highest byte that length.
+const MARKS: [u32; 4] = [0, 0x0180_8000, 0x0280_80c0, 0x0380_80e0];
 
 // How many bits of a number are not in the first byte of its code, by the length of the code.
 const FIRST_SHIFTS: [u32; 4] = [0, 0, 6, 12];
@@ -266,8 +267,8 @@ fn short_code(c: char) -> [u8; 4]
 {
     let number = c as u32;
     let len = 1 + (0x80 <= number) as usize + (0x800 <= number) as usize;
-    let first = MARKS[len] + (number >> FIRST_SHIFTS[len]);
-    let second = 0x80 + (number >> SECOND_SHIFTS[len]) % 64;
-    let third = 0x80 + number % 64;
-    [first as u8, second as u8, third as u8, len as u8]
+    let first = number >> FIRST_SHIFTS[len];
+    let second = (number >> SECOND_SHIFTS[len]) % 64;
+    let third = number % 64;
+    (MARKS[len] + first + second * 0x100 + third * 0x1_0000).to_le_bytes()
 }
