@@ -7,5 +7,7 @@ pub mod Counting
 pub mod FedWindows
 pub mod FedUnits
 pub mod Fronts
+pub mod OrdinaryBytes
+pub mod FedRare
 pub mod Surveying
 pub mod Marks

@@ -3,6 +3,8 @@ pub mod SurveyCounts
 pub mod SurveyParts
 pub mod SurveyUnits
 pub mod SurveyEnds
+pub mod SurveyOrdinary
+pub mod SurveyRare
 pub mod Surveys
 pub mod Guesses
 pub mod GuessLists

@@ -8,6 +8,8 @@ mod ends;
 mod few_bytes;
 pub mod guess_lists;
 pub mod guesses;
+mod ordinary;
+mod rare_counts;
 pub mod states;
 pub mod survey;
 pub mod unit_counts;
