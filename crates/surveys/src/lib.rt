@@ -12,6 +12,7 @@ mod ordinary;
 mod rare_counts;
 pub mod states;
 pub mod survey;
+mod twice_counts;
 pub mod unit_counts;
 pub mod utf8_counts;
 mod utf8_parts;
