@@ -58,9 +58,6 @@ code_begins s scalar ge = elim (cases_lt s 0x800) [
   ]
 ]
 
-one_byte : (s : ℕ) → s < 0x80 → length (utf8 s) ≡ 1
-one_byte s lt = rw (utf8-1 s lt) refl
-
 many_bytes : (s : ℕ) → 0x80 ≤ s → 1 < length (utf8 s)
 many_bytes s ge = elim (cases_lt s 0x800) [
   | inl two ↦ rw (utf8-2 s ge two) (lit< tt)

@@ -11,6 +11,7 @@ pub mod guesses;
 mod ordinary;
 mod rare_counts;
 pub mod states;
+mod sums;
 pub mod survey;
 mod twice_counts;
 pub mod unit_counts;

@@ -6,8 +6,8 @@ ghost use Rattle.surveys.specs.SurveyRare.{FeedsRare};
 
 use crate::ends::{control_count, nul_count};
 use crate::ordinary::ordinary_end;
+use crate::sums::sum;
 use crate::unit_counts::UnitParts;
-use crate::utf8_counts::sum;
 use utf_lanes::byte_order::{BigEndian, LittleEndian};
 
 // The number of bytes that are counted from a block on that is not ordinary: whole blocks of units, also if the first byte

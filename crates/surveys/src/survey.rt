@@ -4,8 +4,9 @@ ghost use Rattle.std.specs.Prelude.{◌≤◌, length};
 use crate::ends::{first_four, head_len, tail_len};
 use crate::few_bytes::FewBytes;
 use crate::rare_counts::RareCounts;
+use crate::sums::{sum, whole};
 use crate::unit_counts::{UnitCounts, UnitParts};
-use crate::utf8_counts::{Utf8Counts, sum, whole};
+use crate::utf8_counts::Utf8Counts;
 use crate::utf8_parts::Utf8Parts;
 
 /// What was counted in an input. Counts are modulo 2^64.

@@ -4,7 +4,7 @@ ghost use Rattle.surveys.specs.SurveyCounts.{number, window_sum, wrapped};
 ghost use Rattle.surveys.specs.SurveyTwice.{may_be_twice};
 ghost use Rattle.surveys.specs.SurveyWindows.{twice_len};
 
-use crate::utf8_counts::{number, sum, whole};
+use crate::sums::{number, sum, whole};
 use crate::windows::{WINDOW, twice_len};
 use std::simd::prelude::*;
 

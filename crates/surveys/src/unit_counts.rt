@@ -6,7 +6,7 @@ ghost use Rattle.surveys.specs.SurveyUnits.{AddsUnpaired, FeedsUnits, SeesUnit, 
 ghost use Rattle.utf_lanes.specs.BytePairs.{units_of};
 
 use crate::ordinary::is_ordinary;
-use crate::utf8_counts::{sum, whole};
+use crate::sums::{number, sum, whole};
 use utf_base::elements::is_trailing_surrogate;
 use utf_base::traits::U16UtfExt;
 use utf_lanes::byte_order::ByteOrder;
@@ -223,14 +223,6 @@ fn block_counts<E: ByteOrder>(before: u16, bytes: &[u8]) -> BlockCounts
         unpaired,
         last,
     }
-}
-
-// 1 if the test passed, otherwise 0.
-#[inline(always)]
-fn number(test: bool) -> u64
-    ensures { result ≡ number test }
-{
-    if test { 1 } else { 0 }
 }
 
 // Returns true if the unit occurs in nearly every text.

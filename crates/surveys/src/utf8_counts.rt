@@ -5,6 +5,7 @@ ghost use Rattle.surveys.specs.SurveyCounts.{counted, nothing, number, plus, see
 ghost use Rattle.surveys.specs.SurveyWindows.{front_len};
 
 use crate::classes::{ByteClass, count_of};
+use crate::sums::{number, sum};
 use crate::twice_counts::twice_counts;
 use crate::windows::{
     WINDOW, follows_two, front_len, is_char, is_fault, is_in_word, is_surrogate, is_undefined,
@@ -177,32 +178,6 @@ impl ByteClass for Lead {
     fn has(byte: u8) -> bool {
         0xc0 <= byte
     }
-}
-
-/// The sum of two counts.
-#[inline(always)]
-#[tactic(auto, unfolding(crate::specs::SurveyCounts::wrapped))]
-pub(crate) fn sum(a: u64, b: u64) -> u64
-    ensures { result ≡ wrapped (a + b) }
-{
-    a.wrapping_add(b)
-}
-
-/// The count, which 64 bits hold.
-#[inline(always)]
-#[tactic(auto, unfolding(crate::specs::SurveyCounts::wrapped))]
-pub(crate) fn whole(count: u64) -> u64
-    ensures { result ≡ wrapped count }
-{
-    count
-}
-
-/// 1 if the test passed, otherwise 0.
-#[inline(always)]
-pub(crate) fn number(test: bool) -> u64
-    ensures { result ≡ number test }
-{
-    if test { 1 } else { 0 }
 }
 
 // What a window adds to the counts.
