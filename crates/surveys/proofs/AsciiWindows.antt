@@ -31,7 +31,7 @@ is_surrogate-ascii : (w : List ℕ) → get_or w 3 0 < 0x80 → is_surrogate w �
 unfolding is_surrogate
 is_surrogate-ascii w low = grind (arith, common_steps)
 
-twice_len-ascii : (w : List ℕ) → get_or w 3 0 < 0x80 → twice_len w ≡ 0
+pub twice_len-ascii : (w : List ℕ) → get_or w 3 0 < 0x80 → twice_len w ≡ 0
 unfolding twice_len
 twice_len-ascii w low = grind (arith, common_steps)
 

@@ -10,6 +10,7 @@ use Rattle.utf_base.specs.Scalar.{IsScalar}
 use Rattle.utf_base.specs.declared.errors.Utf8ErrorKind.{Utf8ErrorKind}
 use Rattle.utf_base.proofs.DecodedLemmas.{decoded_code}
 use Rattle.utf_base.proofs.FrontLemmas.{asked-0, code_where_no_fault}
+use Rattle.utf_base.proofs.JoinedLengths.{some_utf8}
 use Rattle.utf_base.proofs.Utf8Code.{utf8-continuation_byte}
 use Rattle.surveys.specs.SurveyWindows.{covers, front_len, is_char, is_fault, is_surrogate, len_of, twice_len}
 use Rattle.surveys.specs.SurveyCounts.{nothing, number, seen}
@@ -18,7 +19,11 @@ use Rattle.surveys.specs.SurveyCounts.{nothing, number, seen}
 front_is : (y : List ℕ) (s : ℕ) → Stands utf8 y 0 s → take (length (utf8 s)) y ≡ utf8 s
 front_is y s h = let width : 0 + length (utf8 s) - 0 ≡ length (utf8 s) = omega arith in rw width at h.equal
 
-stands_at_front : (y : List ℕ) (s : ℕ) → IsScalar s → length (utf8 s) ≤ length y → take (length (utf8 s)) y ≡ utf8 s → Stands utf8 y 0 s
+-- its first byte
+pub first_of : (y : List ℕ) (s : ℕ) → Stands utf8 y 0 s → get_or y 0 0 ≡ get_or (utf8 s) 0 0
+first_of y s h = sym (get_or-take (length (utf8 s)) y 0 0 (some_utf8 s)) ∙ ap (λ z. get_or z 0 0) (front_is y s h)
+
+pub stands_at_front : (y : List ℕ) (s : ℕ) → IsScalar s → length (utf8 s) ≤ length y → take (length (utf8 s)) y ≡ utf8 s → Stands utf8 y 0 s
 stands_at_front y s scalar within e =
     let width : 0 + length (utf8 s) - 0 ≡ length (utf8 s) = omega arith in record { scalar = scalar; within = omega arith; equal = rw width e }
 
@@ -36,7 +41,7 @@ begins y some = by_kind (fault_kind y) refl
     by_kind None e = let found = code_where_no_fault y e in record { char = value y; stands = found.0; len = rw e found.1 }
     by_kind (Some k) e = let none : 0 < 0 = rw e at some in absurd (omega arith)
 
-len_of_code : (y : List ℕ) (s : ℕ) → Stands utf8 y 0 s → front_len y ≡ length (utf8 s)
+pub len_of_code : (y : List ℕ) (s : ℕ) → Stands utf8 y 0 s → front_len y ≡ length (utf8 s)
 unfolding front_len
 len_of_code y s stands = ap len_of (decoded_code y s stands)
 
@@ -97,7 +102,7 @@ is_surrogate-continuation : (w : List ℕ) → get_or w 3 0 < 0xC0 → is_surrog
 unfolding is_surrogate
 is_surrogate-continuation w low = grind (arith, common_steps)
 
-twice_len-continuation : (w : List ℕ) → get_or w 3 0 < 0xC0 → twice_len w ≡ 0
+pub twice_len-continuation : (w : List ℕ) → get_or w 3 0 < 0xC0 → twice_len w ≡ 0
 unfolding twice_len
 twice_len-continuation w low = grind (arith, common_steps)
 

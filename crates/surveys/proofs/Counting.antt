@@ -1,8 +1,9 @@
 -- Counts with those of some windows added.
-use Rattle.std.proofs.Common.{◌≡◌, ℕ, zero, suc, ◌+◌, ◌-◌, ◌^◌, ◌<◌, ◌≤◌, List, ◌∷◌, ◌++◌, length, take, drop, get_or, sym, ap, ◌∙◌, arith, add_assoc, add-zero, zero-add, lit<}
+use Rattle.std.proofs.Common.{◌≡◌, ℕ, zero, suc, ◌+◌, ◌-◌, ◌^◌, ◌<◌, ◌≤◌, List, ◌∷◌, ◌++◌, length, take, drop, get_or, sym, ap, ◌∙◌, arith, add_assoc, add-zero, zero-add, lit<, length-take, length-drop}
 use Rattle.std.proofs.Math.Nat.{add-mod-mod, mod-add-mod, mod-eq_of_lt, mod-lt}
 use Rattle.std.proofs.lemmas.Grind.{common_steps}
-use Rattle.std.proofs.lemmas.List.{drop-drop, drop-take, take-take}
+use Rattle.std.proofs.lemmas.List.{drop-drop, drop-take, take-append-drop, take-take}
+use Rattle.std.proofs.Math.Seq.{take-add}
 use Rattle.utf_lanes.specs.AsciiTexts.{AreAscii}
 use Rattle.surveys.specs.declared.utf8_counts.Utf8Counts.{Utf8Counts}
 use Rattle.surveys.specs.SurveyCounts.{all_seen, counted, nothing, plus, seen, wrapped}
@@ -125,7 +126,7 @@ counted-skip c bytes i j more within ascii =
     ap (plus c) (sym (ap (λ k. all_seen (drop k bytes)) to) ∙ skipped bytes i (j - i) (omega arith) (λ k lt. ascii_none bytes i j k within ascii (omega arith)))
 
 -- the window of a character's byte after the first
-inside_none : (bytes : List ℕ) (i n k : ℕ) → i + n + 16 ≤ length bytes → n ≤ 4 → n ≡ front_len (drop 3 (take 17 (drop i bytes))) → 0 < k → k < n → seen (take 17 (drop (i + k) bytes)) ≡ nothing
+pub inside_none : (bytes : List ℕ) (i n k : ℕ) → i + n + 16 ≤ length bytes → n ≤ 4 → n ≡ front_len (drop 3 (take 17 (drop i bytes))) → 0 < k → k < n → seen (take 17 (drop (i + k) bytes)) ≡ nothing
 inside_none bytes i n k within few len some lt =
     let w = take 17 (drop (i + k) bytes) in
     let y = take (14 + k) (drop (i + 3) bytes) in
@@ -177,3 +178,30 @@ pub counted-short : (c : Utf8Counts) (bytes later : List ℕ) → length bytes <
 unfolding counted
 counted-short c bytes later few =
     ap (λ s. plus (plus c s) (all_seen later)) (all_seen-few bytes few) ∙ plus-plus c nothing (all_seen later) ∙ ap (plus c) (sums-nothing (all_seen later))
+
+plus-sums : (c r d : Utf8Counts) → plus c (sums r d) ≡ plus c (plus r d)
+plus-sums c r d = simp add-wrapped
+
+-- the counts of the bytes before a rest, added to others
+counted-sum : (c r : Utf8Counts) (rest : List ℕ) → counted (plus c r) rest ≡ plus c (counted r rest)
+unfolding counted
+counted-sum c r rest = plus-plus c r (all_seen rest) ∙ plus-sums c r (all_seen rest)
+
+pub counted-rest : (c r : Utf8Counts) (front rest : List ℕ) → counted r rest ≡ counted nothing front → counted (plus c r) rest ≡ counted c front
+counted-rest c r front rest e = counted-sum c r rest ∙ ap (plus c) e ∙ plus-counted c front
+
+-- the counts of the first windows of some bytes, added to others
+pub counted-stretch : (c r : Utf8Counts) (bytes : List ℕ) (i n : ℕ) → i + n + 16 ≤ length bytes → r ≡ counted nothing (take (n + 16) (drop i bytes)) → counted (plus c r) (drop (i + n) bytes) ≡ counted c (drop i bytes)
+counted-stretch c r bytes i n within e =
+    let front = drop i bytes in
+    let edge = take 16 (drop n front) in
+    let rest : drop n front ≡ drop (i + n) bytes = drop-drop n i bytes in
+    let later = drop 16 (drop n front) in
+    let both : edge ++ later ≡ drop n front = take-append-drop 16 (drop n front) in
+    let whole : take n front ++ (edge ++ later) ≡ front = ap (λ z. take n front ++ z) both ∙ take-append-drop n front in
+    let width : length edge ≡ 16 = omega (arith, length-take 16 (drop n front), ap length rest, length-drop (i + n) bytes) in
+    let first : take n front ++ edge ≡ take (n + 16) front = sym (take-add n 16 front) in
+    let counts : counted nothing front ≡ counted r (drop (i + n) bytes)
+    = sym (ap (counted nothing) whole) ∙ counted-split nothing (take n front) edge later width ∙ ap (λ z. counted (counted nothing z) (edge ++ later)) first ∙ ap (λ d. counted d (edge ++ later)) (sym e)
+    ∙ ap (counted r) (both ∙ rest) in
+    counted-rest c r front (drop (i + n) bytes) (sym counts)

@@ -7,5 +7,9 @@ pub mod Counting
 pub mod FedWindows
 pub mod FedUnits
 pub mod Fronts
+pub mod TwiceWindows
+pub mod TextWindows
+pub mod OrdinaryBytes
+pub mod FedRare
 pub mod Surveying
 pub mod Marks

@@ -1,6 +1,5 @@
 -- The survey of input that comes in parts.
 use Rattle.std.proofs.Common.{◌≡◌, ℕ, ◌+◌, Bool, false, true, List, [], ◌++◌, Option, None, Some, length, take, count_by, refl, sym, ap, ◌∙◌, arith, append-nil, append_assoc, add_assoc, add-zero, zero-add, length-append}
-use Rattle.std.proofs.lemmas.List.Sums.{sum_by-append}
 use Rattle.utf_lanes.specs.BytePairs.{units_of}
 use Rattle.surveys.specs.declared.survey.Survey.{Survey}
 use Rattle.surveys.specs.declared.survey.Surveyor.{Surveyor}
@@ -21,10 +20,6 @@ pub begun : (s : Surveyor) (later : List ℕ) → s.len ≡ 0 → s.front ≡ []
 unfolding foreseen foreseen_by surveyed counts_with units_with
 begun s later len front nul control utf8 le be = rw (len, front, nul, control, utf8, le, be) (simp zero-add)
 
--- a count of a part, added to the count so far
-counted_on : (p : ℕ → Bool) (count new : ℕ) (part later : List ℕ) → new ≡ wrapped (count + count_by p part) → wrapped (new + count_by p later) ≡ wrapped (count + count_by p (part ++ later))
-counted_on p count new part later e = rw e (simp (wrapped-add, sum_by-append, add_assoc))
-
 len_on : (count new : ℕ) (part later : List ℕ) → new ≡ wrapped (count + length part) → wrapped (new + length later) ≡ wrapped (count + length (part ++ later))
 len_on count new part later e = rw e (simp (wrapped-add, length-append, add_assoc))
 
@@ -32,8 +27,8 @@ len_on count new part later e = rw e (simp (wrapped-add, length-append, add_asso
 pub record Feeds (old : Surveyor) (part : List ℕ) (new : Surveyor) : Type 0 where
   pub len : new.len ≡ wrapped (old.len + length part)
   pub front : new.front ≡ take 4 (old.front ++ part)
-  pub nul : new.nul ≡ wrapped (old.nul + count_by is_nul part)
-  pub control : new.control ≡ wrapped (old.control + count_by is_control part)
+  pub nul : (later : List ℕ) → wrapped (new.nul + count_by is_nul later) ≡ wrapped (old.nul + count_by is_nul (part ++ later))
+  pub control : (later : List ℕ) → wrapped (new.control + count_by is_control later) ≡ wrapped (old.control + count_by is_control (part ++ later))
   pub utf8 : (later : List ℕ) → counts_with new.utf8 later ≡ counts_with old.utf8 (part ++ later)
   pub held : new.utf8.held ≡ last_of 16 (old.utf8.held ++ part)
   pub utf16le : (later : List ℕ) → units_with false new.utf16le later ≡ units_with false old.utf16le (part ++ later)
@@ -49,8 +44,8 @@ fed old new part feeds =
     λ later. let front : first_four (new.front ++ later) ≡ first_four (old.front ++ (part ++ later)) = ap (λ z. first_four (z ++ later)) feeds.front ∙ first_four-fed old.front part later in
     rw (
       len_on old.len new.len part later feeds.len,
-      counted_on is_nul old.nul new.nul part later feeds.nul,
-      counted_on is_control old.control new.control part later feeds.control,
+      feeds.nul later,
+      feeds.control later,
       front,
       feeds.utf8 later,
       feeds.utf16le later,

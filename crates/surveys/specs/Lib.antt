@@ -3,6 +3,9 @@ pub mod SurveyCounts
 pub mod SurveyParts
 pub mod SurveyUnits
 pub mod SurveyEnds
+pub mod SurveyTwice
+pub mod SurveyOrdinary
+pub mod SurveyRare
 pub mod Surveys
 pub mod Guesses
 pub mod GuessLists

@@ -11,6 +11,10 @@ wrapped n = n % 2 ^ 64
 abbrev pub number : Bool → ℕ
 number b = if b then 1 else 0
 
+-- a byte above BF: in text a character of several bytes begins with it
+abbrev pub is_lead : ℕ → Bool
+is_lead b = nat_le 0xC0 b
+
 -- the length in bytes of a window
 abbrev pub window : ℕ
 window = 17

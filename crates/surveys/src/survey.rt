@@ -1,12 +1,13 @@
 //! A survey of an input, also of one that comes in parts.
 ghost use Rattle.std.specs.Prelude.{◌≤◌, length};
 
-use crate::ends::{control_count, first_four, head_len, nul_count, tail_len};
+use crate::ends::{first_four, head_len, tail_len};
 use crate::few_bytes::FewBytes;
+use crate::rare_counts::RareCounts;
+use crate::sums::{sum, whole};
 use crate::unit_counts::{UnitCounts, UnitParts};
-use crate::utf8_counts::{Utf8Counts, sum, whole};
+use crate::utf8_counts::Utf8Counts;
 use crate::utf8_parts::Utf8Parts;
-use utf_lanes::byte_order::{BigEndian, LittleEndian};
 
 /// What was counted in an input. Counts are modulo 2^64.
 #[repr(C)]
@@ -75,11 +76,18 @@ impl Surveyor {
         self.len = sum(self.len, part.len() as u64);
         let front = FewBytes::joined(self.front.bytes(), &part[..part.len().min(4)]);
         self.front = FewBytes::first(front.bytes());
-        self.nul = sum(self.nul, nul_count(part) as u64);
-        self.control = sum(self.control, control_count(part) as u64);
         self.utf8.feed(part);
-        self.utf16le.feed::<LittleEndian>(part);
-        self.utf16be.feed::<BigEndian>(part);
+        let mut rare = RareCounts {
+            nul: self.nul,
+            control: self.control,
+            utf16le: self.utf16le,
+            utf16be: self.utf16be,
+        };
+        rare.feed(part);
+        self.nul = rare.nul;
+        self.control = rare.control;
+        self.utf16le = rare.utf16le;
+        self.utf16be = rare.utf16be;
     }
 
     /// The survey of what was fed so far. More may be fed afterwards.

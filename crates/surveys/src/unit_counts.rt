@@ -1,10 +1,12 @@
 //! What is counted in bytes that may be units of UTF-16.
-ghost use Rattle.std.specs.Prelude.{◌≡◌, ◌+◌, ◌≤◌, [], ◌∷◌, ◌++◌, List, ℕ, None, count_by, length, take};
+ghost use Rattle.std.specs.Prelude.{◌≡◌, ◌+◌, ◌%◌, ◌≤◌, true, [], ◌∷◌, ◌++◌, List, ℕ, None, count_by, length, take};
 ghost use Rattle.surveys.specs.SurveyCounts.{number, wrapped};
+ghost use Rattle.surveys.specs.SurveyOrdinary.{AreOrdinary, is_after_ordinary};
 ghost use Rattle.surveys.specs.SurveyUnits.{AddsUnpaired, FeedsUnits, SeesUnit, SeesUnits, is_plain, is_stray, is_unpaired, no_units, units_from};
 ghost use Rattle.utf_lanes.specs.BytePairs.{units_of};
 
-use crate::utf8_counts::{sum, whole};
+use crate::ordinary::is_ordinary;
+use crate::sums::{number, sum, whole};
 use utf_base::elements::is_trailing_surrogate;
 use utf_base::traits::U16UtfExt;
 use utf_lanes::byte_order::ByteOrder;
@@ -75,6 +77,21 @@ impl UnitParts {
         }
     }
 
+    /// Takes the next part, an even number of ordinary bytes: after the first of them, none adds to the counts.
+    pub(crate) fn pass<E: ByteOrder>(&mut self, part: &[u8])
+        requires some { 6 ≤ length part.now }
+        requires even { length part.now % 2 ≡ 0 }
+        requires ordinary { AreOrdinary part.now 0 (length part.now) }
+        ensures { FeedsUnits E.HIGH_FIRST self.old part.now self.new }
+    {
+        self.feed::<E>(&part[..4]);
+        if self.is_after_ordinary() {
+            self.skip::<E>(&part[4..]);
+        } else {
+            self.feed::<E>(&part[4..]);
+        }
+    }
+
     /// The counts if no more follows.
     pub(crate) fn counts(&self) -> UnitCounts
         ensures { result ≡ units_from self.now.counts self.now.before [] }
@@ -83,6 +100,34 @@ impl UnitParts {
             plain: whole(self.counts.plain),
             stray: whole(self.counts.stray),
             unpaired: whole(self.counts.unpaired),
+        }
+    }
+
+    // Skips the next part, an even number of ordinary bytes after others.
+    fn skip<E: ByteOrder>(&mut self, part: &[u8])
+        requires some { 2 ≤ length part.now }
+        requires even { length part.now % 2 ≡ 0 }
+        requires ordinary { AreOrdinary part.now 0 (length part.now) }
+        requires after { is_after_ordinary self.old ≡ true }
+        ensures { FeedsUnits E.HIGH_FIRST self.old part.now self.new }
+    {
+        match self.odd {
+            None => {}
+            Some(_) => self.odd = Some(part[part.len() - 1]),
+        }
+    }
+
+    // Returns true if ordinary bytes may be skipped: the last unit begins no pair, and a byte after it is ordinary.
+    #[tactic(auto, unfolding(crate::specs::SurveyOrdinary::is_after_ordinary))]
+    fn is_after_ordinary(&self) -> bool
+        ensures { result ≡ is_after_ordinary self.now }
+    {
+        if self.before.is_utf16_leading_surrogate() {
+            return false;
+        }
+        match self.odd {
+            None => true,
+            Some(odd) => is_ordinary(odd),
         }
     }
 
@@ -178,14 +223,6 @@ fn block_counts<E: ByteOrder>(before: u16, bytes: &[u8]) -> BlockCounts
         unpaired,
         last,
     }
-}
-
-// 1 if the test passed, otherwise 0.
-#[inline(always)]
-fn number(test: bool) -> u64
-    ensures { result ≡ number test }
-{
-    if test { 1 } else { 0 }
 }
 
 // Returns true if the unit occurs in nearly every text.

@@ -1,14 +1,27 @@
 //! What is counted in bytes that may be UTF-8.
-ghost use Rattle.std.specs.Prelude.{ℕ, ◌≡◌, ◌+◌, ◌<◌, ◌≤◌, drop, length, slice_index};
+ghost use Rattle.std.specs.Prelude.{ℕ, ◌≡◌, ◌+◌, ◌-◌, ◌<◌, ◌≤◌, IsUtf8, drop, length, slice_index, slice_range};
 ghost use Rattle.utf_lanes.specs.AsciiTexts.{AreAscii};
 ghost use Rattle.surveys.specs.SurveyCounts.{counted, nothing, number, plus, seen, wrapped};
 ghost use Rattle.surveys.specs.SurveyWindows.{front_len};
 
+use crate::classes::{ByteClass, count_of};
+use crate::sums::{number, sum};
+use crate::twice_counts::twice_counts;
 use crate::windows::{
     WINDOW, follows_two, front_len, is_char, is_fault, is_in_word, is_surrogate, is_undefined,
     twice_len,
 };
 use utf_lanes::ascii_texts::ascii_wide_end;
+use utf_lanes::text_blocks::text_len;
+
+// The least number of bytes that are counted as text, and with which counting them one by one begins.
+const LEAST: usize = 64;
+
+// The greatest number of bytes that are counted one by one before the next are validated.
+const MOST: usize = 1024;
+
+// The greatest number of bytes that are validated and then counted: a CPU has them in its nearest cache.
+const PART: usize = 16384;
 
 /// Counts of bytes as UTF-8, modulo 2^64.
 #[repr(C)]
@@ -71,9 +84,42 @@ pub(crate) fn count(bytes: &[u8]) -> Utf8Counts
 {
     let mut counts = Utf8Counts::new();
     let mut place = 0;
+    let mut reach = LEAST;
     while WINDOW <= bytes.len() - place {
+        let ascii = ascii_end(bytes, place);
+        if place < ascii {
+            place = ascii;
+        } else {
+            let text = text_end(bytes, place);
+            if LEAST <= text - place {
+                counts.add(text_seen(&bytes[place..text + (WINDOW - 1)]));
+                place = text;
+                reach = LEAST;
+            } else {
+                let (some, next) = each_seen(bytes, place, reach);
+                counts.add(some);
+                place = next;
+                reach = (2 * reach).min(MOST);
+            }
+        }
+    }
+    counts
+}
+
+// The counts of the windows from an offset on, one by one, up to the returned offset: those of `reach` bytes, and of the
+// character at their end.
+fn each_seen(bytes: &[u8], start: usize, reach: usize) -> (Utf8Counts, usize)
+    requires some { 0 < reach }
+    requires within { start + 17 ≤ length bytes.now }
+    ensures more { start < result.1 }
+    ensures within { result.1 ≤ length bytes.now }
+    ensures counts { counted result.0 (drop result.1 bytes.now) ≡ counted nothing (drop start bytes.now) }
+{
+    let mut counts = Utf8Counts::new();
+    let mut place = start;
+    while WINDOW <= bytes.len() - place && place - start < reach {
         if bytes[place + 3] < 0x80 {
-            place = ascii_end(bytes, place);
+            place = ascii_step(bytes, place);
         } else {
             let window = &bytes[place..place + WINDOW];
             let len = front_len(&window[3..]);
@@ -86,33 +132,52 @@ pub(crate) fn count(bytes: &[u8]) -> Utf8Counts
             }
         }
     }
-    counts
+    (counts, place)
 }
 
-/// The sum of two counts.
+// An offset from the given one on, up to which the fourth bytes of the windows are text.
 #[inline(always)]
-#[tactic(auto, unfolding(crate::specs::SurveyCounts::wrapped))]
-pub(crate) fn sum(a: u64, b: u64) -> u64
-    ensures { result ≡ wrapped (a + b) }
+fn text_end(bytes: &[u8], place: usize) -> usize
+    requires { place + 17 ≤ length bytes.now }
+    ensures least { place ≤ result }
+    ensures within { result + 16 ≤ length bytes.now }
+    ensures text { IsUtf8 (slice_range bytes.now (place + 3) (result + 3)) }
 {
-    a.wrapping_add(b)
+    let most = PART.min(bytes.len() - (WINDOW - 1) - place);
+    place + text_len(&bytes[place + 3..place + 3 + most])
 }
 
-/// The count, which 64 bits hold.
-#[inline(always)]
-#[tactic(auto, unfolding(crate::specs::SurveyCounts::wrapped))]
-pub(crate) fn whole(count: u64) -> u64
-    ensures { result ≡ wrapped count }
+// The counts of the windows whose fourth bytes are text: there is no invalid byte.
+fn text_seen(bytes: &[u8]) -> Utf8Counts
+    requires long { 16 ≤ length bytes.now }
+    requires text { IsUtf8 (slice_range bytes.now 3 (length bytes.now - 13)) }
+    ensures { result ≡ counted nothing bytes.now }
 {
-    count
+    let twice = twice_counts(bytes);
+    Utf8Counts {
+        chars: count_of::<Lead>(&bytes[3..bytes.len() - 13]) as u64,
+        faults: 0,
+        third: 0,
+        signs: 0,
+        undefined: 0,
+        surrogates: 0,
+        twice: twice.sequences,
+        twice_chars: twice.chars,
+    }
 }
 
-// 1 if the test passed, otherwise 0.
-#[inline(always)]
-fn number(test: bool) -> u64
-    ensures { result ≡ number test }
-{
-    if test { 1 } else { 0 }
+// The bytes with which characters of several bytes begin.
+struct Lead;
+
+impl ByteClass for Lead {
+    ghost use Rattle.surveys.specs.SurveyCounts.{is_lead};
+
+    ghost class = { is_lead };
+
+    #[inline(always)]
+    fn has(byte: u8) -> bool {
+        0xc0 <= byte
+    }
 }
 
 // What a window adds to the counts.
@@ -156,9 +221,20 @@ fn char_seen(window: &[u8]) -> Utf8Counts
     }
 }
 
-// A place after the given one, up to which the fourth byte of each window is ASCII.
+// An offset from the given one on, up to which the fourth byte of each window is ASCII, as far as blocks show.
 #[inline(always)]
 fn ascii_end(bytes: &[u8], place: usize) -> usize
+    requires { place + 17 ≤ length bytes.now }
+    ensures least { place ≤ result }
+    ensures within { result + 16 ≤ length bytes.now }
+    ensures ascii { AreAscii bytes.now (place + 3) (result + 3) }
+{
+    (ascii_wide_end(bytes, place + 3) - 3).min(bytes.len() - (WINDOW - 1))
+}
+
+// An offset after the given one, up to which the fourth byte of each window is ASCII.
+#[inline(always)]
+fn ascii_step(bytes: &[u8], place: usize) -> usize
     requires within { place + 17 ≤ length bytes.now }
     requires ascii { slice_index bytes.now (place + 3) < 0x80 }
     ensures more { place < result }
@@ -168,9 +244,6 @@ fn ascii_end(bytes: &[u8], place: usize) -> usize
     if place % 64 != 0 {
         return place + 1;
     }
-    let end = ascii_wide_end(bytes, place + 3);
-    if end < place + 4 {
-        return place + 1;
-    }
-    (end - 3).min(bytes.len() - (WINDOW - 1))
+    let end = ascii_end(bytes, place);
+    if end <= place { place + 1 } else { end }
 }

@@ -1,5 +1,5 @@
-use Rattle.std.proofs.Common.{◌≡◌, ◌+◌, ◌++◌, ◌∙◌, ap, arith, length, length-append, length-take, take}
-use Rattle.surveys.specs.SurveyCounts.{wrapped}
+use Rattle.std.proofs.Common.{◌≡◌, ◌++◌, ◌∙◌, ap, arith, length, length-append, length-take, take}
+use Rattle.surveys.specs.SurveyRare.{rare_with}
 use Rattle.surveys.proofs.Fronts.{front_joined, length-last}
 use Rattle.surveys.proofs.Surveying.{fed}
 use Rattle.surveys.proofs.survey.Surveyor.feed.Goals as goal
@@ -15,6 +15,7 @@ invariant_of-self c =
     }
 
 pub returns : goal.returns
+unfolding rare_with
 returns c =
     let s = c.args.self.now in
     let part = c.args.part.now in
@@ -23,10 +24,10 @@ returns c =
     (record {
       len = c.sum-self.ensures;
       front = c.first-self.ensures ∙ ap (take 4) joined ∙ front_joined s.front part c.min.result c.min.ensures;
-      nul = c.sum-self-2.ensures ∙ ap (λ n. wrapped (s.nul + n)) c.nul_count.ensures;
-      control = c.sum-self-3.ensures ∙ ap (λ n. wrapped (s.control + n)) c.control_count.ensures;
+      nul = λ later. ap (λ r. r.0) (c.feed-2.ensures later);
+      control = λ later. ap (λ r. r.1) (c.feed-2.ensures later);
       utf8 = c.feed.ensures.counts;
       held = c.feed.ensures.held;
-      utf16le = c.feed-2.ensures;
-      utf16be = c.feed-3.ensures;
+      utf16le = λ later. ap (λ r. r.2) (c.feed-2.ensures later);
+      utf16be = λ later. ap (λ r. r.3) (c.feed-2.ensures later);
     })

@@ -1,0 +1,27 @@
+use Rattle.std.proofs.Common.{◌≡◌, ◌+◌, ◌-◌, take, subst, arith}
+use Rattle.surveys.specs.SurveyRare.{FeedsRare}
+use Rattle.surveys.proofs.FedRare.{fed_on}
+use Rattle.surveys.proofs.rare_counts.RareCounts.feed.Goals as goal
+
+pub loop-place-preserved-then-place-end : goal.loop-place-preserved-then-place-end
+loop-place-preserved-then-place-end c =
+    let old = c.args.self.now in
+    let part = c.args.part.now in
+    let place = c.loop-place.place in
+    let end = c.ordinary_end-end.result in
+    let to : place + (end - place) ≡ end = omega (arith, c.ordinary_end-end.ensures.least) in
+    record {
+      within = c.ordinary_end-end.ensures.within;
+      feeds = subst (λ k. FeedsRare old (take k part) c.pass.new.self) to (fed_on old c.loop-place.self c.pass.new.self part place (end - place) c.loop-place.invariant.feeds c.pass.ensures);
+    }
+
+pub loop-place-preserved : goal.loop-place-preserved
+loop-place-preserved c =
+    let part = c.args.part.now in
+    let place = c.loop-place.place in
+    let n = c.min-len.result in
+    let width : place + n - place ≡ n = omega arith in
+    record {
+      within = omega (arith, c.min-len.ensures, c.loop-place.invariant.within);
+      feeds = fed_on c.args.self.now c.loop-place.self c.see.new.self part place n c.loop-place.invariant.feeds (rw width at c.see.ensures);
+    }

@@ -1,0 +1,21 @@
+-- Bytes of ordinary text, which only counts of UTF-8 take.
+use Rattle.std.specs.Prelude.{◌≡◌, ℕ, ◌<◌, ◌≤◌, Bool, true, not, ◌&&◌, ◌||◌, nat_lt, nat_le, List, slice_index, Option, Some, None}
+use Rattle.utf_base.specs.Units.{is_leading_surrogate}
+use Rattle.surveys.specs.declared.unit_counts.UnitParts.{UnitParts}
+
+-- no control but some of those in text, no FF, and no high byte of a surrogate
+unfoldable pub is_ordinary : ℕ → Bool
+is_ordinary b = nat_le 7 b && nat_lt b 14 || nat_le 32 b && nat_lt b 0xD8 || nat_le 0xE0 b && nat_lt b 0xFF
+
+-- the bytes from the offset i on and before j are ordinary
+abbrev pub AreOrdinary : List ℕ → ℕ → ℕ → Type 0
+AreOrdinary xs i j = (k : ℕ) → i ≤ k → k < j → is_ordinary (slice_index xs k) ≡ true
+
+-- the byte is ordinary, if there is one
+abbrev pub is_odd_ordinary : Option ℕ → Bool
+is_odd_ordinary None = true
+is_odd_ordinary (Some b) = is_ordinary b
+
+-- the last unit begins no pair, and a byte after it is ordinary
+unfoldable pub is_after_ordinary : UnitParts → Bool
+is_after_ordinary s = not (is_leading_surrogate s.before) && is_odd_ordinary s.odd
