@@ -43,6 +43,7 @@ pub use Rattle.text_programs.specs.Arguments
 pub use Rattle.text_programs.specs.Line
 pub use Rattle.text_programs.specs.Lines
 pub use Rattle.text_programs.specs.Written
+pub use Rattle.text_programs.specs.Writes
 pub use Rattle.text_programs.specs.Layouts
 pub use Rattle.text_programs.specs.Listings
 pub use Rattle.text_programs.specs.Endings

@@ -3,17 +3,16 @@
 #![tactic(auto)]
 
 use cuts::Counted;
-use cuts::programs::mains::{recode, words};
+use cuts::programs::mains::{Streams, recode, words};
 use std::io;
 use std::process::ExitCode;
 
 // One run over the standard streams.
 fn main(rt: HostRuntime) -> ExitCode {
-    ExitCode::from(recode(
-        rt.alloc(),
-        words(&rt),
-        &mut Counted::new(rt.stdin()),
-        &mut Counted::new(io::writer(&rt)),
-        &mut Counted::new(rt.stderr()),
-    ))
+    let mut streams = Streams {
+        input: Counted::new(rt.stdin()),
+        out: Counted::new(io::writer(&rt)),
+        stderr: Counted::new(rt.stderr()),
+    };
+    ExitCode::from(recode(rt.alloc(), words(&rt), &mut streams))
 }

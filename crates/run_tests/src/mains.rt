@@ -1,8 +1,9 @@
 //! The programs over arguments and streams, and arguments that cannot be read.
 use crate::programs::words_of;
 use cuts::Counted;
-use cuts::programs::mains::{pieces, recode, words};
+use cuts::programs::mains::{Streams, pieces, recode, words};
 use fakes::fuse::Fuse;
+use std::alloc::Global;
 use std::env::{Env, FillError};
 use std::io;
 use std::io::ErrorKind;
@@ -35,6 +36,15 @@ impl Env for Started {
     }
 }
 
+// Streams with ample writers.
+fn streams_of<'a, R>(alloc: Global, input: R) -> Streams<R, Fuse<'a>, Fuse<'a>> {
+    Streams {
+        input,
+        out: Counted::new(Fuse::ample(alloc)),
+        stderr: Fuse::ample(alloc),
+    }
+}
+
 #[test]
 fn words_are_those_of_the_start(rt: HostRuntime) -> Result<(), Fail> {
     let started = Started {
@@ -57,11 +67,14 @@ fn pieces_runs_on_its_words(rt: HostRuntime) -> Result<(), Fail> {
         ("pieces,--merge,", 0, "000041\n", ""),
         ("pieces,--merge,x,", 2, "", "pieces: wrong arguments\n"),
     ] {
-        let mut input = Fuse::over(rt.alloc(), b"A");
-        let mut out = Counted::new(Fuse::ample(rt.alloc()));
-        let mut stderr = Fuse::ample(rt.alloc());
+        let mut streams = streams_of(rt.alloc(), Fuse::over(rt.alloc(), b"A"));
         let words = Ok(words_of(rt.alloc(), texts)?);
-        assert!(rt; pieces(rt.alloc(), words, &mut input, &mut out, &mut stderr) == status);
+        assert!(rt; pieces(rt.alloc(), words, &mut streams) == status);
+        let Streams {
+            input: _,
+            out,
+            stderr,
+        } = streams;
         assert!(rt; out.into_inner().written.as_slice() == output.as_bytes());
         assert!(rt; stderr.written.as_slice() == said.as_bytes());
     }
@@ -81,11 +94,15 @@ fn recode_runs_on_its_words(rt: HostRuntime) -> Result<(), Fail> {
         ),
     ];
     for (texts, status, output, said) in texts {
-        let mut input = Counted::new(Fuse::over(rt.alloc(), b"\xe9\0"));
-        let mut out = Counted::new(Fuse::ample(rt.alloc()));
-        let mut stderr = Fuse::ample(rt.alloc());
+        let input = Counted::new(Fuse::over(rt.alloc(), b"\xe9\0"));
+        let mut streams = streams_of(rt.alloc(), input);
         let words = Ok(words_of(rt.alloc(), texts)?);
-        assert!(rt; recode(rt.alloc(), words, &mut input, &mut out, &mut stderr) == status);
+        assert!(rt; recode(rt.alloc(), words, &mut streams) == status);
+        let Streams {
+            input: _,
+            out,
+            stderr,
+        } = streams;
         assert!(rt; out.into_inner().written.as_slice() == output);
         assert!(rt; stderr.written.as_slice() == said.as_bytes());
     }
@@ -94,22 +111,20 @@ fn recode_runs_on_its_words(rt: HostRuntime) -> Result<(), Fail> {
 
 #[test]
 fn words_that_cannot_be_had_end_pieces(rt: HostRuntime) {
-    let mut input = Fuse::over(rt.alloc(), b"A");
-    let mut out = Counted::new(Fuse::ample(rt.alloc()));
-    let mut stderr = Fuse::ample(rt.alloc());
+    let mut streams = streams_of(rt.alloc(), Fuse::over(rt.alloc(), b"A"));
     let words = Err(io::Error::from(ErrorKind::OutOfMemory));
-    assert!(rt; pieces(rt.alloc(), words, &mut input, &mut out, &mut stderr) == 3);
+    assert!(rt; pieces(rt.alloc(), words, &mut streams) == 3);
+    let Streams { input, out, stderr } = streams;
     assert!(rt; input.given.is_empty() && out.into_inner().given.is_empty());
     assert!(rt; stderr.written.as_slice() == b"pieces: no memory\n".as_slice());
 }
 
 #[test]
 fn words_that_cannot_be_had_end_recode(rt: HostRuntime) {
-    let mut input = Counted::new(Fuse::over(rt.alloc(), b"A"));
-    let mut out = Counted::new(Fuse::ample(rt.alloc()));
-    let mut stderr = Fuse::ample(rt.alloc());
+    let mut streams = streams_of(rt.alloc(), Counted::new(Fuse::over(rt.alloc(), b"A")));
     let words = Err(io::Error::from(ErrorKind::OutOfMemory));
-    assert!(rt; recode(rt.alloc(), words, &mut input, &mut out, &mut stderr) == 3);
+    assert!(rt; recode(rt.alloc(), words, &mut streams) == 3);
+    let Streams { input, out, stderr } = streams;
     assert!(rt; input.into_inner().given.is_empty() && out.into_inner().given.is_empty());
     assert!(rt; stderr.written.as_slice() == b"recode: no memory\n".as_slice());
 }

@@ -1,10 +1,9 @@
 //! What programs print, and the effects of their arguments.
-use cuts::programs::mains::arguments_of;
-use cuts::programs::pieces_program::finish_run;
+use cuts::programs::mains::{Streams, arguments_of, pieces};
 use cuts::programs::stops::Stop;
 use cuts::{
-    Counted, Form, RecodeFault, forward_utf16, merge_utf8, merge_utf16, recode, run_pieces,
-    walk_utf8, write_listing,
+    Counted, Form, RecodeFault, forward_utf16, merge_utf8, merge_utf16, recode, walk_utf8,
+    write_listing,
 };
 use encode_unicode::{StrExt, Utf8CharIterExt, Utf16CharIterExt};
 use fakes::budget::Budget;
@@ -48,42 +47,57 @@ fn words_may_be_no_text(rt: HostRuntime) -> Result<(), Fail> {
 }
 
 #[test]
-fn a_flush_may_fail(rt: HostRuntime) {
+fn a_flush_may_fail(rt: HostRuntime) -> Result<(), Fail> {
     let other = Some(ErrorKind::Other);
-    for (before, failure, status, text, flushes) in [
-        (0, None, 0, "", 1),
-        (1, None, 1, "", 1),
-        (0, other, 3, "pieces: cannot write\n", 1),
+    let interrupted = Some(ErrorKind::Interrupted);
+    for (words, bytes, failure, status, text, flushes) in [
+        ("pieces,", b"A", None, 0, "", 1),
+        ("pieces,", b"\xff", None, 1, "", 1),
+        ("pieces,", b"A", other, 3, "pieces: cannot write\n", 1),
         (
-            1,
-            Some(ErrorKind::Interrupted),
+            "pieces,",
+            b"\xff",
+            interrupted,
             3,
             "pieces: cannot write\n",
             1,
         ),
-        (2, other, 2, "", 0),
-        (3, other, 3, "", 0),
+        ("pieces,x,", b"A", other, 2, "pieces: wrong arguments\n", 0),
     ] {
         let mut writer = Fuse::ample(rt.alloc());
         writer.flush_failure = failure;
-        let mut out = Counted::new(writer);
-        let mut stderr = Fuse::ample(rt.alloc());
-        assert!(rt; finish_run(before, &mut out, &mut stderr) == status);
+        let words = Ok(words_of(rt.alloc(), words)?);
+        let mut streams = Streams {
+            input: Fuse::over(rt.alloc(), bytes),
+            out: Counted::new(writer),
+            stderr: Fuse::ample(rt.alloc()),
+        };
+        assert!(rt; pieces(rt.alloc(), words, &mut streams) == status);
+        let Streams {
+            input: _,
+            out,
+            stderr,
+        } = streams;
         assert!(rt; stderr.written.as_slice() == text.as_bytes());
         assert!(rt; out.into_inner().flushes == flushes);
     }
+    Ok(())
 }
 
 #[test]
-fn standard_error_may_fail(rt: HostRuntime) {
+fn standard_error_may_fail(rt: HostRuntime) -> Result<(), Fail> {
     for failure in [Failure::Error(ErrorKind::BrokenPipe), Failure::Nothing] {
-        let mut stderr = Fuse::failing(rt.alloc(), 0, failure);
         let mut input = Fuse::over(rt.alloc(), b"A");
         input.plan = Plan::fail_once(0, ErrorKind::Other);
-        let mut out = Counted::new(Fuse::ample(rt.alloc()));
-        let status = run_pieces(rt.alloc(), &[], &mut input, &mut out, &mut stderr);
-        assert!(rt; status == 3);
+        let mut streams = Streams {
+            input,
+            out: Counted::new(Fuse::ample(rt.alloc())),
+            stderr: Fuse::failing(rt.alloc(), 0, failure),
+        };
+        let words = Ok(words_of(rt.alloc(), "pieces,")?);
+        assert!(rt; pieces(rt.alloc(), words, &mut streams) == 3);
     }
+    Ok(())
 }
 
 // Writes to standard error are not counted.

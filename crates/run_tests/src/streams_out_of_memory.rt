@@ -1,4 +1,5 @@
 //! Streams that return an error of the kind `OutOfMemory`: they failed, and no allocation did.
+use cuts::programs::stops::Stop;
 use cuts::{Counted, Form, RecodeFault, recode, run_pieces, run_recode};
 use fakes::fuse::{Failure, Fuse, Plan};
 use std::alloc::{AllocError, Global};
@@ -26,13 +27,8 @@ fn a_reader_of_pieces(rt: HostRuntime) {
     for passes in 0..3 {
         let mut input = failing_reader(rt.alloc(), passes);
         let mut out = Counted::new(Fuse::ample(rt.alloc()));
-        let mut stderr = Fuse::ample(rt.alloc());
-        let status = run_pieces(rt.alloc(), &[], &mut input, &mut out, &mut stderr);
-        assert_eq!(rt; status, 3);
-        assert_eq!(rt;
-            stderr.written.as_slice(),
-            b"pieces: cannot read\n".as_slice()
-        );
+        let answer = run_pieces(rt.alloc(), &[], &mut input, &mut out);
+        assert_eq!(rt; answer, Err(Stop::CannotRead));
         assert!(rt; out.into_inner().given.is_empty());
     }
 }
@@ -41,13 +37,8 @@ fn a_reader_of_pieces(rt: HostRuntime) {
 fn a_counted_reader_of_pieces(rt: HostRuntime) {
     let mut input = Counted::new(failing_reader(rt.alloc(), 1));
     let mut out = Counted::new(Fuse::ample(rt.alloc()));
-    let mut stderr = Counted::new(Fuse::ample(rt.alloc()));
-    let status = run_pieces(rt.alloc(), &[], &mut input, &mut out, &mut stderr);
-    assert_eq!(rt; status, 3);
-    assert_eq!(rt;
-        stderr.into_inner().written.as_slice(),
-        b"pieces: cannot read\n".as_slice()
-    );
+    let answer = run_pieces(rt.alloc(), &[], &mut input, &mut out);
+    assert_eq!(rt; answer, Err(Stop::CannotRead));
     assert_eq!(rt; input.into_inner().given.len(), 2, "it is not asked again");
 }
 
@@ -57,13 +48,8 @@ fn a_writer_of_pieces(rt: HostRuntime) {
     let mut writer = Fuse::failing(rt.alloc(), 1, OUT_OF_MEMORY);
     writer.most = 11;
     let mut out = Counted::new(writer);
-    let mut stderr = Fuse::ample(rt.alloc());
-    let status = run_pieces(rt.alloc(), &[], &mut input, &mut out, &mut stderr);
-    assert_eq!(rt; status, 3);
-    assert_eq!(rt;
-        stderr.written.as_slice(),
-        b"pieces: cannot write\n".as_slice()
-    );
+    let answer = run_pieces(rt.alloc(), &[], &mut input, &mut out);
+    assert_eq!(rt; answer, Err(Stop::CannotWrite));
 }
 
 #[test]
@@ -89,12 +75,7 @@ fn a_run_of_recode(rt: HostRuntime) -> Result<(), Fail> {
     let args = two_forms(rt.alloc())?;
     let mut input = Counted::new(failing_reader(rt.alloc(), 1));
     let mut out = Counted::new(Fuse::ample(rt.alloc()));
-    let mut stderr = Fuse::ample(rt.alloc());
-    let status = run_recode(rt.alloc(), &args, &mut input, &mut out, &mut stderr);
-    assert_eq!(rt; status, 3);
-    assert_eq!(rt;
-        stderr.written.as_slice(),
-        b"recode: cannot read\n".as_slice()
-    );
+    let answer = run_recode(rt.alloc(), &args, &mut input, &mut out);
+    assert_eq!(rt; answer, Err(Stop::CannotRead));
     Ok(())
 }

@@ -5,8 +5,8 @@
 //! feed, and the last column may say how many allocations the run makes.
 
 use crate::columns::{column, lines_of, number, words_of};
-use cuts::programs::mains::arguments_of;
-use cuts::{Counted, run_pieces, run_recode};
+use cuts::Counted;
+use cuts::programs::mains::{Streams, arguments_of, pieces, recode};
 use fakes::budget::Budget;
 use fakes::fuse::{Fuse, Plan};
 use fakes::rows::{bytes_of, wrong_row};
@@ -17,6 +17,7 @@ use std::io;
 #[derive(Drop)]
 pub(crate) struct Row<'a> {
     pub(crate) recodes: bool,
+    pub(crate) words: &'a str,
     pub(crate) args: &'a str,
     pub(crate) input: Vec<u8>,
     pub(crate) status: usize,
@@ -31,6 +32,7 @@ pub(crate) fn parse(alloc: Global, row: &str) -> io::Result<Row<'_>> {
     let output = column(row, 3);
     Ok(Row {
         recodes,
+        words,
         args: words.split_once(',').map_or("", |(_, args)| args),
         input: bytes_of(alloc, column(row, 1))?,
         status: number(column(row, 2)).ok_or(wrong_row())?,
@@ -82,7 +84,7 @@ pub(crate) fn run<'a>(
     trial: Trial,
 ) -> Result<Ended<'a>, AllocError> {
     let budget = Budget::new(alloc, u32::MAX);
-    let args = words_of(&budget, row.args)?;
+    let words = words_of(&budget, row.words)?;
     budget.allow(trial.growths);
     let mut input = Fuse::over(alloc, &row.input);
     input.plan = trial.reads;
@@ -92,21 +94,26 @@ pub(crate) fn run<'a>(
     writer.most = trial.most.max(1);
     let out = Counted::new(writer);
     Ok(if row.recodes {
-        recode(alloc, &budget, &args, input, out)
+        convert(alloc, &budget, words, input, out)
     } else {
-        list(alloc, &budget, &args, input, out)
+        list(alloc, &budget, words, input, out)
     })
 }
 
 fn list<'a, A: Allocator + Copy>(
     alloc: Global,
     budget: A,
-    args: &[String<A>],
-    mut input: Fuse<'a>,
-    mut out: Counted<Fuse<'a>>,
+    words: Vec<String<A>, A>,
+    input: Fuse<'a>,
+    out: Counted<Fuse<'a>>,
 ) -> Ended<'a> {
-    let mut stderr = Fuse::ample(alloc);
-    let status = run_pieces(budget, args, &mut input, &mut out, &mut stderr);
+    let mut streams = Streams {
+        input,
+        out,
+        stderr: Fuse::ample(alloc),
+    };
+    let status = pieces(budget, Ok(words), &mut streams);
+    let Streams { input, out, stderr } = streams;
     Ended {
         status,
         reads: input.given.len(),
@@ -115,16 +122,20 @@ fn list<'a, A: Allocator + Copy>(
     }
 }
 
-fn recode<'a, A: Allocator + Copy>(
+fn convert<'a, A: Allocator + Copy>(
     alloc: Global,
     budget: A,
-    args: &[String<A>],
+    words: Vec<String<A>, A>,
     input: Fuse<'a>,
-    mut out: Counted<Fuse<'a>>,
+    out: Counted<Fuse<'a>>,
 ) -> Ended<'a> {
-    let mut stderr = Fuse::ample(alloc);
-    let mut input = Counted::new(input);
-    let status = run_recode(budget, args, &mut input, &mut out, &mut stderr);
+    let mut streams = Streams {
+        input: Counted::new(input),
+        out,
+        stderr: Fuse::ample(alloc),
+    };
+    let status = recode(budget, Ok(words), &mut streams);
+    let Streams { input, out, stderr } = streams;
     let input = input.into_inner();
     let reads = input.given.len();
     drop(input);
@@ -142,7 +153,7 @@ impl Ended<'_> {
     pub(crate) fn is_whole(&self, row: &Row<'_>) -> bool {
         usize::from(self.status) == row.status
             && self.out.written.as_slice() == row.output.as_slice()
-            && self.out.flushes == 0
+            && (self.out.flushes == 1) == (!row.recodes && row.status < 2)
             && self.says(row.said)
     }
 

@@ -1,5 +1,5 @@
 -- The effects of a run of a program once it has ended.
-use Rattle.std.specs.Prelude.{◌≡◌, ℕ, ◌-◌, ◌^◌, ◌<◌, ◌==◌, ◌⊎◌, IsTrue, if◌then◌else◌, List, [], ◌∷◌, ◌++◌, length, Option, IfSome, codes}
+use Rattle.std.specs.Prelude.{◌≡◌, ℕ, ◌+◌, ◌-◌, ◌^◌, ◌<◌, ◌==◌, ◌⊎◌, IsTrue, if◌then◌else◌, List, [], ◌∷◌, ◌++◌, length, Option, IfSome, codes}
 use Rattle.std.specs.Io.KnownBytes.{Appends}
 use Rattle.text_runs.specs.declared.streams.Source as Source
 use Rattle.text_runs.specs.declared.streams.Sink as Sink
@@ -74,13 +74,29 @@ FailsOrIsQuiet old new CannotRead = new.failures ≡ old.failures
 FailsOrIsQuiet old new CannotWrite = old.failures < new.failures
 FailsOrIsQuiet old new NoMemory = new.failures ≡ old.failures
 
--- if a program could not write, a write or a flush of its output failed; if it ended early for another reason, the
--- output is as it was
+-- a write failed, and the output was not flushed
+pub record FailsWriting {T : Type 0} (old new : Counting T) : Type 0 where
+  pub failed : old.failures < new.failures
+  pub other_calls : new.other_calls ≡ old.other_calls
+
+-- no write failed, and the output was flushed once, which failed
+pub record FailsFlushing {T : Type 0} (old new : Counting T) : Type 0 where
+  pub quiet : new.failures ≡ old.failures
+  pub flushed : new.other_calls.flushes ≡ old.other_calls.flushes + 1
+  pub failed : new.other_calls.failed_flushes ≡ old.other_calls.failed_flushes + 1
+
+-- if a program could not write, a write failed, or all was written and the one flush failed; if it ended early for
+-- another reason, the output is as it was
 abbrev pub FlushFailsOrStays : {T : Type 0} → Counting T → Counting T → Stop → Type 0
 FlushFailsOrStays old new WrongArguments = new ≡ old
 FlushFailsOrStays old new CannotRead = new ≡ old
-FlushFailsOrStays old new CannotWrite = (old.failures < new.failures) ⊎ (old.other_calls.failed_flushes < new.other_calls.failed_flushes)
+FlushFailsOrStays old new CannotWrite = FailsWriting old new ⊎ FailsFlushing old new
 FlushFailsOrStays old new NoMemory = new ≡ old
+
+-- all was read, and no read failed, if reads are counted
+pub record ReadsAll {R : Type 0} (source : Source.Ghosts R) (old new : R) : Type 0 where
+  pub drained : IsDrained (source.remaining old) (source.remaining new)
+  pub unbroken : IsTrue source.is_counted → NoFailedRead (source.reads old) (source.reads new)
 
 -- If reads are counted and a program could not read, one of them failed, unless the reader has as many bytes as there
 -- are reads; if it ended for another reason, no read failed; and if it could not write, it had read all. `source` is
@@ -89,9 +105,13 @@ abbrev pub ReadsUntil : {R : Type 0} → Source.Ghosts R → R → R → Stop �
 ReadsUntil source old new CannotRead =
     IsTrue source.is_counted → IfSome (source.remaining old) (λ xs. length xs < 2 ^ 64 - 1 → source.failures old < source.failures new)
 ReadsUntil source old new WrongArguments = IsTrue source.is_counted → NoFailedRead (source.reads old) (source.reads new)
-ReadsUntil source old new CannotWrite =
-    (IsTrue source.is_counted → NoFailedRead (source.reads old) (source.reads new)) × IsDrained (source.remaining old) (source.remaining new)
+ReadsUntil source old new CannotWrite = ReadsAll source old new
 ReadsUntil source old new NoMemory = IsTrue source.is_counted → NoFailedRead (source.reads old) (source.reads new)
+
+-- all was read, and no read failed, for a reader whose reads are counted
+pub record CountsAll {R : Type 0} (left : R → Option (List ℕ)) (old new : Counting R) : Type 0 where
+  pub drained : IsDrained (left old.inner) (left new.inner)
+  pub unbroken : NoFailedRead old.reads new.reads
 
 -- the reads failed as the reason says, for a reader whose reads are counted
 abbrev pub CountsUntil : {R : Type 0} → (R → Option (List ℕ)) → Counting R → Counting R → Stop → Type 0

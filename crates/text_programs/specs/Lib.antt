@@ -4,6 +4,7 @@ pub mod Arguments
 pub mod Line
 pub mod Lines
 pub mod Written
+pub mod Writes
 pub mod Layouts
 pub mod Listings
 pub mod Endings

@@ -1,10 +1,11 @@
 //! The entries of a list that is written line by line.
-ghost use Rattle.std.specs.Prelude.{◌≡◌, ◌+◌, ◌^◌, ◌<◌, ◌≤◌, ◌++◌, ◌∷◌, [], ℕ, Bool, if◌then◌else◌, List, length, flat_map, IfOk, OnOk, OnErr};
+ghost use Rattle.std.specs.Prelude.{◌≡◌, ◌+◌, ◌^◌, ◌<◌, ◌≤◌, ◌++◌, ◌∷◌, [], ℕ, Bool, if◌then◌else◌, List, length, flat_map, IfOk};
 ghost use Rattle.std.specs.Fmt.{decimal};
 ghost use Rattle.text_runs.specs.ForwardRuns.{is_fault};
-ghost use Rattle.text_runs.specs.Failures.{Known, AppendsFront, TellsStall};
+ghost use Rattle.text_runs.specs.Failures.{Known, AppendsFront};
 ghost use Rattle.text_programs.specs.Lines.{kind_name, answer_text, item_line};
 ghost use Rattle.text_programs.specs.Written.{WritesLines};
+ghost use Rattle.text_programs.specs.Writes.{CountsWrites};
 ghost use Rattle.text_programs.specs.declared.programs.lines.TheConstants.{LINE_ROOM, ROOM};
 
 use crate::programs::lines::Lines;
@@ -131,10 +132,7 @@ pub(crate) fn write_entries<T: Entry, W: Write>(
 ) -> io::Result<usize>
     ensures lines { IfOk result (Known W.contents (WritesLines T.line T.wrong entries.now) out.old out.new) }
     ensures front { Known W.contents AppendsFront out.old out.new (flat_map T.line entries.now) }
-    ensures quiet { OnOk result (out.new.failures ≡ out.old.failures) }
-    ensures err { OnErr result (out.old.failures < out.new.failures) }
-    ensures stalls { TellsStall result out.old.stalls out.new.stalls }
-    ensures other_calls { out.new.other_calls ≡ out.old.other_calls }
+    ensures writes { CountsWrites result out.old out.new }
 {
     let mut lines = Lines::new();
     let mut faults = 0;

@@ -1,9 +1,10 @@
 //! Lines of output, gathered in one buffer and written many at a time.
-ghost use Rattle.std.specs.Prelude.{◌≡◌, ◌↔◌, IsTrue, ◌+◌, ◌/◌, ◌%◌, ◌<◌, ◌≤◌, [], ◌∷◌, ◌++◌, length, take, drop, OnOk, OnErr};
+ghost use Rattle.std.specs.Prelude.{◌≡◌, ◌↔◌, IsTrue, ◌+◌, ◌/◌, ◌%◌, ◌<◌, ◌≤◌, [], ◌∷◌, ◌++◌, length, take, drop, OnOk};
 ghost use Rattle.std.specs.Fmt.{decimal};
 ghost use Rattle.std.specs.Io.KnownBytes.{Appends};
-ghost use Rattle.text_runs.specs.Failures.{Known, AppendsFront, TellsStall};
+ghost use Rattle.text_runs.specs.Failures.{Known, AppendsFront};
 ghost use Rattle.text_programs.specs.Line.{hex_digit, six_hex_digits};
+ghost use Rattle.text_programs.specs.Writes.{CountsWrites};
 
 use std::io;
 use std::io::Write;
@@ -94,10 +95,7 @@ impl Lines {
         ensures ok { OnOk result (Known W.contents Appends out.old out.new self.old) }
         ensures empty { OnOk result (self.new ≡ []) }
         ensures front { Known W.contents AppendsFront out.old out.new self.old }
-        ensures quiet { OnOk result (out.new.failures ≡ out.old.failures) }
-        ensures err { OnErr result (out.old.failures < out.new.failures) }
-        ensures stalls { TellsStall result out.old.stalls out.new.stalls }
-        ensures other_calls { out.new.other_calls ≡ out.old.other_calls }
+        ensures writes { CountsWrites result out.old out.new }
     {
         write_whole(self.as_bytes(), out)?;
         self.len = 0;

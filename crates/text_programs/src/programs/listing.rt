@@ -1,12 +1,13 @@
 //! The output for the pieces of some bytes: a line for each entry of a list.
-ghost use Rattle.std.specs.Prelude.{◌≡◌, ◌<◌, ◌↔◌, IfOk, OnOk, OnErr, count_by, is_err};
+ghost use Rattle.std.specs.Prelude.{◌≡◌, ◌↔◌, IfOk, count_by, is_err};
 ghost use Rattle.std.specs.Str.{IsUtf8};
 ghost use Rattle.encode_unicode.specs.Pieces.{pieces};
-ghost use Rattle.text_runs.specs.Failures.{Known, AppendsFront, TellsStall};
+ghost use Rattle.text_runs.specs.Failures.{Known, AppendsFront};
 ghost use Rattle.text_programs.specs.Layouts.{WritesListing, WritesListingFront};
 ghost use Rattle.text_programs.specs.Lines.{is_fault_step};
 ghost use Rattle.text_runs.specs.ForwardRuns.{faulty_item_count};
 ghost use Rattle.text_programs.specs.Written.{merged_lines, walk_lines, WritesMerged, WritesWalk};
+ghost use Rattle.text_programs.specs.Writes.{CountsWrites};
 
 use crate::programs::entries::{push_counted, write_entries};
 use crate::programs::lines::Lines;
@@ -26,15 +27,14 @@ use text_runs::runs::items::Item;
 /// fails, only the first lines were written, the last of them perhaps in part.
 ///
 /// Cost: O(n).
+// Not inlined, so that its loop has all registers.
+#[inline(never)]
 pub fn write_listing<W: Write>(src: &[u8], out: &mut Counted<W>) -> io::Result<usize>
     ensures listing { IfOk result (Known W.contents (WritesListing src.now) out.old out.new) }
     ensures count { IfOk result (λ faults. faults ≡ faulty_item_count (pieces src.now)) }
     ensures text { IfOk result (λ faults. (faults ≡ 0) ↔ IsUtf8 src.now) }
     ensures front { Known W.contents (WritesListingFront src.now) out.old out.new }
-    ensures quiet { OnOk result (out.new.failures ≡ out.old.failures) }
-    ensures err { OnErr result (out.old.failures < out.new.failures) }
-    ensures stalls { TellsStall result out.old.stalls out.new.stalls }
-    ensures other_calls { out.new.other_calls ≡ out.old.other_calls }
+    ensures writes { CountsWrites result out.old out.new }
 {
     let mut lines = Lines::new();
     let mut offset = Offset::new();
@@ -55,6 +55,7 @@ pub fn write_listing<W: Write>(src: &[u8], out: &mut Counted<W>) -> io::Result<u
 /// for `write_listing`.
 ///
 /// Cost: O(n).
+#[inline(never)]
 pub fn write_merged<W: Write>(
     results: &[Result<Utf8Char, Utf8Error>],
     out: &mut Counted<W>,
@@ -62,10 +63,7 @@ pub fn write_merged<W: Write>(
     ensures count { IfOk result (λ faults. faults ≡ count_by is_err results.now) }
     ensures lines { IfOk result (Known W.contents (WritesMerged results.now) out.old out.new) }
     ensures front { Known W.contents AppendsFront out.old out.new (merged_lines results.now) }
-    ensures quiet { OnOk result (out.new.failures ≡ out.old.failures) }
-    ensures err { OnErr result (out.old.failures < out.new.failures) }
-    ensures stalls { TellsStall result out.old.stalls out.new.stalls }
-    ensures other_calls { out.new.other_calls ≡ out.old.other_calls }
+    ensures writes { CountsWrites result out.old out.new }
 {
     write_entries(results, out)
 }
@@ -80,10 +78,7 @@ pub fn write_walk<W: Write>(steps: &[Option<Item>], out: &mut Counted<W>) -> io:
     ensures count { IfOk result (λ faults. faults ≡ count_by is_fault_step steps.now) }
     ensures lines { IfOk result (Known W.contents (WritesWalk steps.now) out.old out.new) }
     ensures front { Known W.contents AppendsFront out.old out.new (walk_lines steps.now) }
-    ensures quiet { OnOk result (out.new.failures ≡ out.old.failures) }
-    ensures err { OnErr result (out.old.failures < out.new.failures) }
-    ensures stalls { TellsStall result out.old.stalls out.new.stalls }
-    ensures other_calls { out.new.other_calls ≡ out.old.other_calls }
+    ensures writes { CountsWrites result out.old out.new }
 {
     write_entries(steps, out)
 }

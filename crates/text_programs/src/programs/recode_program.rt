@@ -1,7 +1,7 @@
 //! One run of `recode`, over any reader and writers.
-ghost use Rattle.std.specs.Prelude.{◌≡◌, ◌≢◌, ◌<◌, ◌⊎◌, [], codes, map, string_bytes, Some, IfSome, IfNone};
-ghost use Rattle.text_programs.specs.Endings.{CountsUntil, FailsOrIsQuiet, Says, EndsEarly, reason_of};
-ghost use Rattle.text_runs.specs.Failures.{IsDrained, Known, Pipes, NoFailedRead, NoReadAfterEnd};
+ghost use Rattle.std.specs.Prelude.{◌≡◌, ◌≢◌, ◌<◌, ◌⊎◌, [], map, string_bytes, Some, IfSome, IfNone, IfErr, OnOk, OnErr};
+ghost use Rattle.text_programs.specs.Endings.{CountsAll, CountsUntil, FailsOrIsQuiet, reason_of};
+ghost use Rattle.text_runs.specs.Failures.{Known, Pipes, NoReadAfterEnd};
 ghost use Rattle.text_programs.specs.Arguments.{form_name, AsksForms};
 ghost use Rattle.text_programs.specs.RecodeStream.{WritesRecoded, BeginsRecoded};
 
@@ -11,51 +11,43 @@ use recoding::form::Form;
 use std::alloc::Allocator;
 use std::io::{Read, Write};
 use text_runs::counted::Counted;
-use text_runs::streams::Sink;
 
-/// The name that `recode` prints on standard error.
-pub const PROGRAM: &str = "recode";
-
-/// Runs `recode` on the arguments after the program's name, and returns its status.
+/// Runs `recode` on the arguments after the program's name.
 ///
 /// The arguments are the names of two encodings, `utf8`, `utf16le` or `utf16be`, which may be the same: that
-/// of the input and that of the output. The status is then 0, whatever was replaced. All other arguments are
-/// invalid: then nothing is read or written, and the status is 2. If reading, writing or allocation fails, it
-/// is 3. `stderr` takes the line for standard error, and nothing if the status is 0.
+/// of the input and that of the output. All other arguments are invalid: then nothing is read or written.
 ///
 /// Cost: O(n), allocates an amount that does not grow with the input.
-pub fn run_recode<A: Allocator + Copy, R: Read, W: Write, E: Sink>(
+pub fn run_recode<A: Allocator + Copy, R: Read, W: Write>(
     alloc: A,
     args: &[String<A>],
     input: &mut Counted<R>,
     out: &mut Counted<W>,
-    stderr: &mut E,
-) -> u8
-    ensures recoded { (from to : Form) → AsksForms (map string_bytes args.now) from to → result ≡ 0 →
-        Known W.contents (WritesRecoded from to (R.remaining input.old.inner)) out.old out.new }
+) -> Result<(), Stop>
+    ensures recoded { (from to : Form) → AsksForms (map string_bytes args.now) from to → OnOk result
+        (Known W.contents (WritesRecoded from to (R.remaining input.old.inner)) out.old out.new) }
     ensures front { (from to : Form) → AsksForms (map string_bytes args.now) from to →
         Pipes R.remaining W.contents (BeginsRecoded from to) input.old input.new out.old out.new }
-    ensures drained { result ≡ 0 → Known R.remaining IsDrained input.old input.new }
-    ensures quiet { result ≡ 0 → out.new.failures ≡ out.old.failures }
-    ensures unbroken { result ≡ 0 → NoFailedRead input.old.reads input.new.reads }
+    ensures reads { OnOk result (CountsAll R.remaining input.old input.new) }
+    ensures until { IfErr result (CountsUntil R.remaining input.old input.new) }
     ensures in_time { NoReadAfterEnd input.old.reads input.new.reads }
-    ensures silent { result ≡ 0 → stderr.new ≡ stderr.old }
-    ensures early { 0 < result → EndsEarly (codes "recode") (CountsUntil R.remaining input.old input.new)
-        (FailsOrIsQuiet out.old out.new) (Says E.Sink stderr.old stderr.new) result }
+    ensures quiet { OnOk result (out.new.failures ≡ out.old.failures) }
+    ensures early { IfErr result (FailsOrIsQuiet out.old out.new) }
     ensures nothing { (from to : Form) → AsksForms (map string_bytes args.now) from to →
-        R.remaining input.old.inner ≡ Some [] → 0 < result →
-        (input.old.failures < input.new.failures) ⊎ (out.old.failures < out.new.failures) }
+        R.remaining input.old.inner ≡ Some [] →
+        OnErr result ((input.old.failures < input.new.failures) ⊎ (out.old.failures < out.new.failures)) }
     ensures other_calls { out.new.other_calls ≡ out.old.other_calls }
-    ensures wrong { ((from to : Form) → ¬ AsksForms (map string_bytes args.now) from to) → (result ≡ 2) ×
-        (input.new ≡ input.old) × (out.new ≡ out.old) }
-    ensures right { (from to : Form) → AsksForms (map string_bytes args.now) from to → result ≢ 2 }
+    ensures wrong { ((from to : Form) → ¬ AsksForms (map string_bytes args.now) from to) →
+        (result ≡ Err Stop.WrongArguments) × (input.new ≡ input.old) × (out.new ≡ out.old) }
+    ensures right { (from to : Form) → AsksForms (map string_bytes args.now) from to →
+        result ≢ Err Stop.WrongArguments }
 {
     let Some((from, to)) = forms_of(args) else {
-        return Stop::WrongArguments.report(PROGRAM, stderr);
+        return Err(Stop::WrongArguments);
     };
     match recode(alloc, input, out, from, to) {
-        Ok(()) => 0,
-        Err(fault) => stop_of(fault).report(PROGRAM, stderr),
+        Ok(()) => Ok(()),
+        Err(fault) => Err(stop_of(fault)),
     }
 }
 

@@ -2,6 +2,7 @@
 ghost use Rattle.std.specs.Prelude.{◌≡◌, ◌≢◌, ◌-◌, ◌^◌, ◌<◌, [], length, Some, IfSome, OnOk};
 ghost use Rattle.text_runs.specs.Failures.{IsDrained, Known, Pipes, NoFailedRead, NoReadAfterEnd};
 ghost use Rattle.text_programs.specs.RecodeStream.{AppendsRecoded, WritesRecoded, BeginsRecoded, HoldsBack, Passes, PassesFront, PassesLast, PassesLastFront};
+ghost use Rattle.text_programs.specs.Writes.{FailsIf};
 
 use recoding::form::Form;
 use recoding::recoder::Recoder;
@@ -48,15 +49,13 @@ pub fn recode<A: Allocator, R: Read, W: Write>(
     ensures held_back { result ≡ Err RecodeFault.Read →
         Pipes R.remaining W.contents (HoldsBack from to) input.old input.new out.old out.new }
     ensures drained { OnOk result (Known R.remaining IsDrained input.old input.new) }
-    ensures quiet { result ≢ Err RecodeFault.Write → out.new.failures ≡ out.old.failures }
     ensures unbroken { result ≢ Err RecodeFault.Read → NoFailedRead input.old.reads input.new.reads }
     ensures in_time { NoReadAfterEnd input.old.reads input.new.reads }
     ensures cannot_read { result ≡ Err RecodeFault.Read →
         IfSome (R.remaining input.old.inner) (λ xs. length xs < 2 ^ 64 - 1 →
         input.old.failures < input.new.failures) }
-    ensures cannot_write { result ≡ Err RecodeFault.Write → out.old.failures < out.new.failures }
+    ensures writes { FailsIf (result ≡ Err RecodeFault.Write) out.old out.new }
     ensures nothing { R.remaining input.old.inner ≡ Some [] → result ≢ Err RecodeFault.Memory }
-    ensures other_calls { out.new.other_calls ≡ out.old.other_calls }
 {
     let mut recoder = Recoder::new(from, to);
     let mut recoded = Vec::new(alloc);
@@ -86,10 +85,8 @@ fn write_part<A: Allocator, W: Write>(
         Known W.contents (PassesFront recoder.old part.now) out.old out.new recoder.new }
     ensures refused { result ≡ Err RecodeFault.Memory → out.new ≡ out.old }
     ensures empty { OnOk result (recoded.new.items ≡ []) }
-    ensures quiet { result ≢ Err RecodeFault.Write → out.new.failures ≡ out.old.failures }
     ensures can_read { result ≢ Err RecodeFault.Read }
-    ensures cannot_write { result ≡ Err RecodeFault.Write → out.old.failures < out.new.failures }
-    ensures other_calls { out.new.other_calls ≡ out.old.other_calls }
+    ensures writes { FailsIf (result ≡ Err RecodeFault.Write) out.old out.new }
 {
     if recoder.feed(part, recoded).is_err() {
         return Err(RecodeFault::Memory);
@@ -112,11 +109,9 @@ fn write_end<A: Allocator, W: Write>(
     ensures front { result ≡ Err RecodeFault.Write →
         Known W.contents (PassesLastFront recoder) out.old out.new }
     ensures refused { result ≡ Err RecodeFault.Memory → out.new ≡ out.old }
-    ensures quiet { result ≢ Err RecodeFault.Write → out.new.failures ≡ out.old.failures }
     ensures can_read { result ≢ Err RecodeFault.Read }
-    ensures cannot_write { result ≡ Err RecodeFault.Write → out.old.failures < out.new.failures }
+    ensures writes { FailsIf (result ≡ Err RecodeFault.Write) out.old out.new }
     ensures nothing { length recoder.held ≡ 0 → result ≢ Err RecodeFault.Memory }
-    ensures other_calls { out.new.other_calls ≡ out.old.other_calls }
 {
     if recoder.finish(recoded).is_err() {
         return Err(RecodeFault::Memory);

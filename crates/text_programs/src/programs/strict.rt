@@ -2,6 +2,7 @@
 ghost use Rattle.std.specs.Prelude.{◌≡◌, ◌≢◌, ◌+◌, ◌-◌, ◌*◌, ◌^◌, ◌<◌, ◌≤◌, [], length, IfSome, IfErr, OnOk};
 ghost use Rattle.text_runs.specs.Failures.{IsDrained, Known, Pipes, NoFailedRead, NoReadAfterEnd};
 ghost use Rattle.text_programs.specs.StrictRelayed.{BeginsTranscoded, EndsText, HoldsText, IfFaulty, IsFollowed, PassesText, PassesTextFront, PassesTextLast, StopsFaulty, StopsText, WritesText, strict_error_text};
+ghost use Rattle.text_programs.specs.Writes.{FailsIf};
 
 use recoding::faults::{Fault, FaultKind, Outcome};
 use recoding::form::Form;
@@ -89,14 +90,12 @@ pub fn recode_strict<R: Read, W: Write>(
     ensures held_back { result ≡ Err StrictError.Read →
         Pipes R.remaining W.contents (HoldsText from to) input.old input.new out.old out.new }
     ensures drained { OnOk result (Known R.remaining IsDrained input.old input.new) }
-    ensures quiet { result ≢ Err StrictError.Write → out.new.failures ≡ out.old.failures }
     ensures unbroken { result ≢ Err StrictError.Read → NoFailedRead input.old.reads input.new.reads }
     ensures in_time { NoReadAfterEnd input.old.reads input.new.reads }
     ensures cannot_read { result ≡ Err StrictError.Read →
         IfSome (R.remaining input.old.inner) (λ xs. length xs < 2 ^ 64 - 1 →
         input.old.failures < input.new.failures) }
-    ensures cannot_write { result ≡ Err StrictError.Write → out.old.failures < out.new.failures }
-    ensures other_calls { out.new.other_calls ≡ out.old.other_calls }
+    ensures writes { FailsIf (result ≡ Err StrictError.Write) out.old out.new }
 {
     let mut recoder = Recoder::new(from, to);
     let mut part = [0; PART];
@@ -131,10 +130,8 @@ fn pass_part<W: Write>(
     ensures faulty { IfErr result (λ e. IfFaulty e
         (Known W.contents (StopsText recoder.old part.now IsFollowed offset) out.old out.new)) }
     ensures front { Known W.contents (PassesTextFront recoder.old part.now) out.old out.new }
-    ensures quiet { result ≢ Err StrictError.Write → out.new.failures ≡ out.old.failures }
     ensures can_read { result ≢ Err StrictError.Read }
-    ensures cannot_write { result ≡ Err StrictError.Write → out.old.failures < out.new.failures }
-    ensures other_calls { out.new.other_calls ≡ out.old.other_calls }
+    ensures writes { FailsIf (result ≡ Err StrictError.Write) out.old out.new }
 {
     let progress = recoder.feed_strict_into(part, room);
     if write_whole(&room[..progress.written], out).is_err() {
@@ -160,10 +157,8 @@ fn pass_end<W: Write>(
     ensures faulty { IfErr result
         (λ e. IfFaulty e (Known W.contents (StopsText recoder.old [] EndsText offset) out.old out.new)) }
     ensures front { Known W.contents (PassesTextFront recoder.old []) out.old out.new }
-    ensures quiet { result ≢ Err StrictError.Write → out.new.failures ≡ out.old.failures }
     ensures can_read { result ≢ Err StrictError.Read }
-    ensures cannot_write { result ≡ Err StrictError.Write → out.old.failures < out.new.failures }
-    ensures other_calls { out.new.other_calls ≡ out.old.other_calls }
+    ensures writes { FailsIf (result ≡ Err StrictError.Write) out.old out.new }
 {
     let progress = recoder.finish_strict_into(room);
     if write_whole(&room[..progress.written], out).is_err() {

@@ -15,10 +15,10 @@ pub returns-in_default-clause-front : goal.returns-in_default-clause-front
 returns-in_default-clause-front g c from to asks = absurd (c.in_default.ensures.none from to asks)
 
 pub returns-in_default-clause-nothing : goal.returns-in_default-clause-nothing
-returns-in_default-clause-nothing g c from to asks none some = absurd (c.in_default.ensures.none from to asks)
+returns-in_default-clause-nothing g c from to asks none = absurd (c.in_default.ensures.none from to asks)
 
 pub returns-in-Err-clause-nothing : goal.returns-in-Err-clause-nothing
-returns-in-Err-clause-nothing g c from to asks none some =
+returns-in-Err-clause-nothing g c from to asks none =
     let done = c.in-Err.ensures in
     fails_at_an_end c.in-Err.fault _ _ _ _
-    (λ e. rw none at (done.cannot_read (ap Err e)) (omega arith)) (λ e. done.cannot_write (ap Err e)) (λ e. done.nothing none (ap Err e))
+    (λ e. rw none at (done.cannot_read (ap Err e)) (omega arith)) (λ e. done.writes.failed (ap Err e)) (λ e. done.nothing none (ap Err e))

@@ -34,13 +34,13 @@ loop-preserved g c =
             empty = passed.empty;
             relayed = IsRelayed-part c.loop.invariant.relayed taken.consumes.0 (omega arith) same passed.passes;
             never_fewer = omega arith;
-            quiet = passed.quiet (search rules) ∙ quiet;
+            quiet = passed.writes.quiet (search rules) ∙ quiet;
             unbroken = taken.reads.whole ∙ c.loop.invariant.unbroken;
             unended = λ open_yet. still_false _ _ _ taken.reads.ended (c.loop.invariant.unended open_yet) (is_end-some w.in-Ok.count _ (omega arith));
             in_time = λ open_yet. still_early _ _ _ taken.reads.reads_after_end (c.loop.invariant.unended open_yet) ∙ c.loop.invariant.in_time open_yet;
             drained = λ none. absurd (from_nothing _ _ (rw (c.loop.invariant.drained none) at taken.consumes.0) (omega arith));
             unheld = λ none. absurd (from_nothing _ _ (rw (c.loop.invariant.drained none) at taken.consumes.0) (omega arith));
-            other_calls = passed.other_calls ∙ other_calls;
+            other_calls = passed.writes.other_calls ∙ other_calls;
           })
       | in-Err w ↦
           let failed = w.in-Err.ensures in

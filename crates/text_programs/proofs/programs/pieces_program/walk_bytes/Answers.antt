@@ -1,6 +1,0 @@
-use Rattle.text_programs.specs.Arguments.{walked}
-use Rattle.text_programs.proofs.RunLemmas.{WritesAskedFront-none}
-use Rattle.text_programs.proofs.programs.pieces_program.walk_bytes.Goals as goal
-
-pub returns-in_default-clause-front : goal.returns-in_default-clause-front
-returns-in_default-clause-front g c = WritesAskedFront-none (walked c.args.word.now) c.args.bytes.now (g.W.Write.contents c.args.out.now.inner)
