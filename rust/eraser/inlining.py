@@ -19,7 +19,8 @@ def cooled(text, name, seen):
     for it in sorted(rules.COLD):
         file, function = it.split(":")
         if file == name:
-            text, count = re.subn(rf"(?m)^( *)#\[inline\(never\)\]\n *fn {function}\b", rf"\1#[cold]\n\1{seen_by(name, function)}fn {function}", text)
+            outlined = rf"(?m)^( *)#\[inline\(never\)\]\n *(pub\(crate\) )?fn {function}\b"
+            text, count = re.subn(outlined, lambda it: f"{it[1]}#[cold]\n{it[1]}{it[2] or seen_by(name, function)}fn {function}", text)
             if count == 1:
                 seen.add(it)
     return text

@@ -125,7 +125,7 @@ ONCE = {"utf_lanes/byte_order.rt", "utf_lanes/replacements.rt"}
 
 # Of these files the items that exist once: what runs byte by byte, and what that needs. The copy of the file imports them.
 SHARED = {
-    "recoding/engine.rt": ("Reached", "recode_faults", "recode_faults_within", "recode_text_within"),
+    "recoding/engine.rt": ("Reached", "recode_faults", "recode_within", "recode_text_within"),
     "recoding/room.rt": ("Room",),
 }
 
@@ -141,8 +141,8 @@ def is_wide(name):
 # Generic functions that are outlined since they run rarely. rustc exports what is `#[inline(never)]` and generic for all types that any caller
 # names, also those with which LLVM finds that no call is left; these become `#[cold]`, of which only the called ones are compiled.
 COLD = {
-    "recoding/engine.rt:recode_faults", "recoding/engine.rt:recode_faults_within", "recoding/engine.rt:recode_text_within",
-    "recoding/kernels.rt:copy_damaged", "recoding/kernels.rt:widen_damaged", "recoding/text.rt:put_at_end",
+    "recoding/engine.rt:recode_faults", "recoding/engine.rt:recode_within", "recoding/engine.rt:recode_text_within",
+    "recoding/form_calls.rt:put_shown", "recoding/kernels.rt:copy_damaged", "recoding/kernels.rt:widen_damaged", "recoding/text.rt:put_at_end",
 }
 
 # The functions that select which copy runs: how long the input is, and the result of the other copy.
