@@ -310,6 +310,7 @@ class Eraser(Text):
                 self.is_no_bound(i, after)
             elif (word, self.text(after)) == ("Error", "for") and self.text(b) == "impl":
                 self.describe(self.until(after, "{"))
+            # (`$each!` of a macro is a macro that its caller names, in a line which is looked at itself)
             elif self.text(after) == "!" and self.text(self.next(after)) in OPEN and self.text(b) != "$" and word not in rules.MACROS | self.project.macros:
                 self.stop(i, f"the macro `{word}!` is not known")
         for it in self.lists:
