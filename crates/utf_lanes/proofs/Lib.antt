@@ -31,4 +31,5 @@ pub mod MaskLanes
 pub mod FaultKinds
 pub mod MendedTexts
 pub mod MendedWindows
+pub mod MendedUnits
 pub mod LaterText

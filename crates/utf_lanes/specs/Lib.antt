@@ -9,3 +9,4 @@ pub mod Starts
 pub mod UnitStarts
 pub mod FaultMasks
 pub mod Mending
+pub mod UnitMending
