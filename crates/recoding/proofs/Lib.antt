@@ -22,6 +22,7 @@ pub mod Growing
 pub mod JoinedShards
 pub mod Listed
 pub mod MendedRuns
+pub mod MendedUnitRuns
 pub mod LastBoundaries
 pub mod LossyLists
 pub mod LossyShards

@@ -321,6 +321,13 @@ module _ (low high lone : List ℕ) (p : IsVector 32 low) (q : IsVector 32 high)
       where_passed_at 32 (λ a b. not (eqb a b)) lone 0 (replicate 32 byte) v is.wide (length-replicate 32 byte) r.0 k lt
       ∙ ap₂ (λ b x. cond b x (get_or v k 0)) (differs_told k lt) (get_or-replicate 32 k byte 0 lt)
 
+  chosen_fits : (byte : ℕ) → byte < 256 → (v : List ℕ) → IsVector 32 v → (k : ℕ) → k < 32 → get_or (chosen_from byte v) k 0 < 256
+  chosen_fits byte below v r k lt = rw (chosen_is byte v r k lt) (either (is_lone 32 unit k))
+    where
+      either : (b : Bool) → cond b byte (get_or v k 0) < 256
+      either true = below
+      either false = lane_fits v k r lt
+
   made_at : (k : ℕ) → k < 32 → lane_unit (chosen_from 0xFD low) (chosen_from 0xFF high) k ≡ mended_unit 32 unit k
   made_at k lt = ap₂ (λ l h. h * 256 + l) (chosen_is 0xFD low p k lt) (chosen_is 0xFF high q k lt) ∙ either (is_lone 32 unit k)
     where
@@ -348,6 +355,8 @@ module _ (low high lone : List ℕ) (p : IsVector 32 low) (q : IsVector 32 high)
       text = record {
         low_len = chosen_wide 0xFD low p;
         high_len = chosen_wide 0xFF high q;
+        low_fits = chosen_fits 0xFD (lit< tt) low p;
+        high_fits = chosen_fits 0xFF (lit< tt) high q;
         least = least;
         most = most;
         text = rw e (text_of_all unit made_unit made_at (leads_last ∙ all e));
@@ -364,6 +373,8 @@ module _ (low high lone : List ℕ) (p : IsVector 32 low) (q : IsVector 32 high)
           text = record {
             low_len = chosen_wide 0xFD low p;
             high_len = chosen_wide 0xFF high q;
+            low_fits = chosen_fits 0xFD (lit< tt) low p;
+            high_fits = chosen_fits 0xFF (lit< tt) high q;
             least = least;
             most = most;
             text = rw e (text_of_others unit made_unit made_at lead);

@@ -1,5 +1,5 @@
 -- Damaged units as text: U+FFFD in place of each lone surrogate.
-use Rattle.std.specs.Prelude.{◌≡◌, ℕ, zero, suc, ◌+◌, ◌<◌, ◌≤◌, Bool, true, false, not, ◌&&◌, ◌||◌, nat_lt, if◌then◌else◌, List, length}
+use Rattle.std.specs.Prelude.{◌≡◌, ℕ, zero, suc, ◌+◌, ◌<◌, ◌≤◌, Bool, true, false, not, ◌&&◌, ◌||◌, nat_lt, if◌then◌else◌, List, length, slice_index}
 use Rattle.utf_base.specs.Units.{is_leading_surrogate, is_trailing_surrogate}
 use Rattle.utf_lanes.specs.UnitCodes.{lane_unit, AreText}
 use Rattle.utf_lanes.specs.declared.unit_mending.MendedUnits.{MendedUnits}
@@ -30,6 +30,8 @@ count_from holds k (suc n) = (if holds k then 1 else 0) + count_from holds (suc 
 pub record AreTextUnits (low high : List ℕ) (len : ℕ) : Type 0 where
   pub low_len : length low ≡ 32
   pub high_len : length high ≡ 32
+  pub low_fits : (k : ℕ) → k < 32 → slice_index low k < 256
+  pub high_fits : (k : ℕ) → k < 32 → slice_index high k < 256
   pub least : 31 ≤ len
   pub most : len ≤ 32
   pub text : AreText (lane_unit low high) len

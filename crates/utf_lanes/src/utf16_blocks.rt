@@ -69,9 +69,22 @@ pub fn write_thirty_two(low: u8x32, high: u8x32, room: &mut [u8], at: usize) -> 
 }
 
 /// Writes the UTF-8 of the first of thirty-two units, which are text: all, or all but a leading surrogate at the end.
-/// Returns the offset after the bytes. Outlined, since damaged text takes it in one place for each output.
-#[inline(never)]
+/// Returns the offset after the bytes.
+#[inline(always)]
 pub fn write_text_units(low: u8x32, high: u8x32, count: usize, room: &mut [u8], at: usize) -> usize
+    requires room { at + 112 ≤ length room.old }
+    requires text { AreTextUnits low high count }
+    ensures { WritesUnits 32 low high room.old room.new at count result }
+{
+    if count == 32 && are_ascii(low, high) {
+        return write_ascii_units(low, high, room, at);
+    }
+    write_other_units(low, high, count, room, at)
+}
+
+// Writes the UTF-8 of units that are not all ASCII. Outlined, so that its code is there once for all encodings.
+#[inline(never)]
+fn write_other_units(low: u8x32, high: u8x32, count: usize, room: &mut [u8], at: usize) -> usize
     requires room { at + 112 ≤ length room.old }
     requires text { AreTextUnits low high count }
     ensures { WritesUnits 32 low high room.old room.new at count result }
