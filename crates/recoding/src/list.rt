@@ -167,6 +167,6 @@ fn append_text_units<A: Allocator>(low: u8x32, high: u8x32, count: usize, out: &
 {
     let start = out.len();
     out.put(&[0; 112]);
-    let end = write_text_units(low, high, count, out.as_mut_slice(), start);
-    out.truncate(end);
+    let after = write_text_units(low, high, count, out.as_mut_slice(), start);
+    out.truncate(after);
 }

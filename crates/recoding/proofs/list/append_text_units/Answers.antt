@@ -5,7 +5,7 @@ use Rattle.recoding.proofs.list.append_text_units.Goals as goal
 pub returns : goal.returns
 returns g c =
     let value = c.as_mut_slice.ensures.value in
-    let written = c.write_text_units-end.ensures in
+    let written = c.write_text_units-after.ensures in
     record {
       items =
           written_back c.args.out.now.items _ c.as_mut_slice.result.now _ _ _ _ c.len-start.result _ _ (value ∙ c.put.ensures.items) (c.len-start.ensures ∙ c.args.out.now.ok.0)
