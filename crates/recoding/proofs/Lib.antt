@@ -24,6 +24,7 @@ pub mod Growing
 pub mod JoinedShards
 pub mod Listed
 pub mod MendedRuns
+pub mod MendedUnitRuns
 pub mod PlainRuns
 pub mod LastBoundaries
 pub mod LossyLists

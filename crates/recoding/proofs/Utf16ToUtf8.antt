@@ -30,10 +30,10 @@ units u k n = concat_range (λ i. u i ∷ []) k n
 
 -- n units are the codes of some scalars, and their bytes are codes of those
 pub record Shown (u : ℕ → ℕ) (k n : ℕ) : Type 0 where
-  ts : List ℕ
-  all : All IsScalar ts
-  made : units u k n ≡ flat_map utf16 ts
-  codes : concat_range (code_at u) k n ≡ flat_map utf8 ts
+  pub ts : List ℕ
+  pub all : All IsScalar ts
+  pub made : units u k n ≡ flat_map utf16 ts
+  pub codes : concat_range (code_at u) k n ≡ flat_map utf8 ts
 
 shown_none : (u : ℕ → ℕ) (k : ℕ) → Shown u k 0
 unfolding concat_range
@@ -99,7 +99,7 @@ module _ (u : ℕ → ℕ) (count : ℕ) (fits : (k : ℕ) → k < count → u k
         | inr lone ↦ shown_one u k (suc n) (fits k (omega arith)) lone (no_surrogate (u k) lone (starts (omega arith))) (shown (suc n) (suc k) (omega arith) (after_character k lone))
       ]
 
-  all_shown : Shown u 0 count
+  pub all_shown : Shown u 0 count
   all_shown = shown count 0 (omega arith) text.first
 
 ascii_units : (us : List ℕ) → AreAscii us 0 (length us) → us ≡ flat_map utf16 us

@@ -8,7 +8,7 @@ use Rattle.recoding.specs.declared.way.Way.TheVariants.{Faults, Subparts, Table}
 use Rattle.recoding.specs.Faults.{CountsTo, fault_count, saturated}
 use Rattle.recoding.specs.Lossy.{ReadsParts}
 use Rattle.recoding.specs.LossyBytes.{lossy}
-use Rattle.recoding.specs.NextScalars.{Decides, Ends, Leads, LeadsLast, fault_len}
+use Rattle.recoding.specs.NextScalars.{Decides, Ends, Leads, LeadsLast, fault_len, utf16_form}
 use Rattle.recoding.specs.Outputs.{Extends}
 use Rattle.recoding.specs.declared.engine.Reached.{Reached}
 use Rattle.recoding.specs.declared.form.TheConstants.{WIDEST}
@@ -48,6 +48,10 @@ abbrev pub replaced_by : Way → Form → List ℕ → Option ℕ
 replaced_by Faults from bytes = Some 0xFFFD
 replaced_by Subparts from bytes = Some 0xFFFD
 replaced_by (Table t) from bytes = (text_form from).repaired_fault t.chars.now bytes
+
+-- U+FFFD replaces a lone surrogate
+abbrev pub ReplacesUnits : Way → Type 0
+ReplacesUnits way = (high_first : Bool) (bytes : List ℕ) → replaced_by way (utf16_form high_first) bytes ≡ Some 0xFFFD
 
 -- the code of a character, or nothing
 abbrev pub code_of : Form → Option ℕ → List ℕ

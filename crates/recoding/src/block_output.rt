@@ -3,9 +3,12 @@ ghost use Rattle.std.specs.Prelude.{◌+◌, ◌*◌, ◌≤◌, length};
 ghost use Rattle.recoding.specs.NextScalars.{utf16_form};
 ghost use Rattle.recoding.specs.Strict.{PutsText};
 ghost use Rattle.recoding.specs.declared.form.Form.TheVariants.{Utf8};
-ghost use Rattle.utf_lanes.specs.Utf8ToUtf16.{utf16_bytes};
+ghost use Rattle.utf_lanes.specs.UnitCodes.{code_at, lane_unit};
+ghost use Rattle.utf_lanes.specs.UnitMending.{AreTextUnits};
+ghost use Rattle.utf_lanes.specs.Utf8ToUtf16.{concat_range, utf16_bytes};
 
 use crate::output::Output;
+use std::simd::prelude::*;
 use utf_lanes::byte_order::ByteOrder;
 
 // An output into which blocks converted between UTF-8 and UTF-16 are written in place.
@@ -21,4 +24,11 @@ pub(crate) trait BlockOutput: Output {
     // worst-case output fits. Returns the length of the blocks in bytes.
     fn put_blocks<E: ByteOrder>(&mut self, bytes: &[u8]) -> usize
         ensures { PutsText Self.appends (utf16_form E.HIGH_FIRST) Utf8 bytes.now self.old self.new result };
+
+    // Appends the UTF-8 of the first of 32 units, which are text: all, or all but a leading surrogate at the end. Two
+    // vectors have the halves of the units.
+    fn put_text_units(&mut self, low: u8x32, high: u8x32, count: usize)
+        requires text { AreTextUnits low high count }
+        requires room { 112 ≤ Self.room self.old }
+        ensures { Self.appends self.old (concat_range (code_at (lane_unit low high)) 0 count) self.new };
 }

@@ -1,11 +1,14 @@
 //! Blocks transcoded from one encoding to another, to any output: copied, widened or narrowed.
 ghost use Rattle.std.specs.Prelude.{◌≡◌, ◌-◌, ◌+◌, ◌*◌, ◌<◌, ◌≤◌, length, slice_index, slice_range, IfNone, IfSome, IsTrue, IsFalse, IsUtf8};
-ghost use Rattle.recoding.specs.Recodes.{FitsAll};
-ghost use Rattle.recoding.specs.Replacing.{Recodes};
+ghost use Rattle.recoding.specs.Recodes.{FitsAll, PutsLanes};
+ghost use Rattle.recoding.specs.Replacing.{Recodes, ReplacesUnits};
 ghost use Rattle.recoding.specs.Strict.{PutsText};
 ghost use Rattle.recoding.specs.NextScalars.{utf16_form};
 ghost use Rattle.recoding.specs.declared.form.Form.TheVariants as form;
+ghost use Rattle.recoding.specs.declared.way.Way.{Way as AnyWay};
 ghost use Rattle.utf_lanes.specs.PlainWindows.{plain_unit};
+ghost use Rattle.utf_lanes.specs.UnitCodes.{lane_unit};
+ghost use Rattle.utf_lanes.specs.UnitMending.{AreTextUnits};
 ghost use Rattle.utf_lanes.specs.Utf8ToUtf16.{concat_range, utf16_bytes};
 
 use crate::ascii_to_utf16::{put_ascii_64, put_ascii_as_utf16, put_ascii_front};
@@ -24,6 +27,8 @@ use utf_lanes::plain_windows::{lone_count, plain_units};
 use utf_lanes::replacements::{Each, Subparts};
 use utf_lanes::text_blocks::{are_text, ends_character, text_end, text_len};
 use utf_lanes::text_puts::{write_few, write_first, write_rest};
+use utf_lanes::unit_bytes::thirty_two_halves;
+use utf_lanes::unit_mending::{MendedUnits, interleaved, mended_units};
 
 // The number of bytes that are validated before they are copied or widened, while they are in the cache.
 pub(crate) const PART: usize = 8192;
@@ -37,6 +42,14 @@ const LONG: usize = 1024;
 
 // The number of bytes that have to be left for a plain window: its own, and the three that decide what its last bytes are.
 const PLAIN: usize = 67;
+
+// The length of a window of damaged units in bytes, and the capacity that its output needs.
+const WINDOW: usize = 64;
+
+const WINDOW_ROOM: usize = 112;
+
+// The greatest number of windows without a fault after which damaged units do not end.
+const CALM: usize = 8;
 
 // The greatest number of bytes that are first tested for ASCII. Above this, an error would rescan too much.
 const SHORT: usize = 1024;
@@ -480,13 +493,97 @@ fn put_judged<O: BlockOutput, E: ByteOrder>(bytes: &[u8], out: &mut O) -> usize
 impl<E: ByteOrder> Kernel<Utf16<E>, Utf8> for Narrowed {
     const TAKES_ALL: bool = false;
 
-    const CROWD: usize = 1;
+    const CROWD: usize = 0;
 
     #[inline(always)]
     fn put_text<O: BlockOutput>(is_ample: bool, bytes: &[u8], out: &mut O) -> usize {
         let len = out.put_blocks::<E>(bytes);
         len + narrow_ascii::<O, E>(&bytes[len..], out)
     }
+
+    #[inline(always)]
+    fn put_damaged<O: BlockOutput>(
+        way: Way<'_>,
+        _is_ample: bool,
+        bytes: &[u8],
+        out: &mut O,
+    ) -> Damaged {
+        put_damaged_units::<Utf8, O, E>(way, bytes, out)
+    }
+}
+
+// Encodings in which mended units are written at once.
+trait TakesUnits: Text {
+    // Appends the units that are text.
+    fn put_mended<O: BlockOutput>(units: MendedUnits, out: &mut O)
+        requires text { AreTextUnits units.low units.high units.len }
+        requires room { 112 ≤ O.room out.old }
+        ensures { PutsLanes O.appends Self.form (lane_unit units.low units.high) out.old out.new units.len };
+}
+
+impl TakesUnits for Utf8 {
+    #[inline(always)]
+    fn put_mended<O: BlockOutput>(units: MendedUnits, out: &mut O) {
+        out.put_text_units(units.low, units.high, units.len);
+    }
+}
+
+impl<W: ByteOrder> TakesUnits for Utf16<W> {
+    #[inline(always)]
+    fn put_mended<O: BlockOutput>(units: MendedUnits, out: &mut O) {
+        let (front, back) = interleaved::<W>(units.low, units.high);
+        let last = back.to_array();
+        out.put(&front.to_array());
+        out.put(&last[..2 * units.len - 32]);
+    }
+}
+
+// Transcodes damaged units in windows, if U+FFFD replaces lone surrogates.
+#[inline(always)]
+fn put_damaged_units<T: TakesUnits, O: BlockOutput, E: ByteOrder>(
+    way: Way<'_>,
+    bytes: &[u8],
+    out: &mut O,
+) -> Damaged
+    ensures { Recodes O.appends way.entry (utf16_form E.HIGH_FIRST) T.form bytes.now out.old out.new
+        result.read result.replaced }
+{
+    if bytes.len() < WINDOW || !replaces_units(way) {
+        return NOTHING;
+    }
+    put_windows::<T, O, E>(bytes, out)
+}
+
+// Returns true if U+FFFD replaces a lone surrogate.
+#[inline(always)]
+fn replaces_units(way: Way<'_>) -> bool
+    ensures { IsTrue result → ReplacesUnits way.entry }
+{
+    match way {
+        Way::Faults | Way::Subparts => true,
+        Way::Table(repair) => repair.unit_for().is_some(),
+    }
+}
+
+// Transcodes damaged units in windows, up to the last few, as far as the worst-case output fits. It ends after some
+// windows without a fault: as many as there were faults, and a few at most.
+#[inline(never)]
+fn put_windows<T: TakesUnits, O: BlockOutput, E: ByteOrder>(bytes: &[u8], out: &mut O) -> Damaged
+    ensures { (way : AnyWay) → ReplacesUnits way → Recodes O.appends way (utf16_form E.HIGH_FIRST) T.form bytes.now
+        out.old out.new result.read result.replaced }
+{
+    let mut read = 0;
+    let mut replaced = 0;
+    let mut calm = 0;
+    while calm <= CALM.min(replaced) && WINDOW <= bytes.len() - read && WINDOW_ROOM <= out.room() {
+        let (low, high) = thirty_two_halves::<E>(&bytes[read..]);
+        let units = mended_units(low, high);
+        T::put_mended::<O>(units, out);
+        read += 2 * units.len;
+        replaced += units.replaced;
+        calm = if units.replaced == 0 { calm + 1 } else { 0 };
+    }
+    Damaged { read, replaced }
 }
 
 // Transcodes the blocks of eight units of ASCII at the front of the bytes to UTF-8, as far as there is capacity.
@@ -511,7 +608,7 @@ fn narrow_ascii<O: Output, E: ByteOrder>(bytes: &[u8], out: &mut O) -> usize
 impl<E: ByteOrder, W: ByteOrder> Kernel<Utf16<E>, Utf16<W>> for Turned {
     const TAKES_ALL: bool = false;
 
-    const CROWD: usize = 1;
+    const CROWD: usize = 0;
 
     #[inline(always)]
     fn put_text<O: BlockOutput>(is_ample: bool, bytes: &[u8], out: &mut O) -> usize {
@@ -520,6 +617,16 @@ impl<E: ByteOrder, W: ByteOrder> Kernel<Utf16<E>, Utf16<W>> for Turned {
             return 0;
         }
         copy_units::<O, E, W>(&bytes[..most], out)
+    }
+
+    #[inline(always)]
+    fn put_damaged<O: BlockOutput>(
+        way: Way<'_>,
+        _is_ample: bool,
+        bytes: &[u8],
+        out: &mut O,
+    ) -> Damaged {
+        put_damaged_units::<Utf16<W>, O, E>(way, bytes, out)
     }
 }
 

@@ -4,7 +4,9 @@ ghost use Rattle.recoding.specs.NextScalars.{utf16_form};
 ghost use Rattle.recoding.specs.Outputs.{Extends, Lengthens};
 ghost use Rattle.recoding.specs.Recodes.{PutsUnits};
 ghost use Rattle.recoding.specs.Strict.{PutsText};
-ghost use Rattle.utf_lanes.specs.Utf8ToUtf16.{utf16_bytes};
+ghost use Rattle.utf_lanes.specs.UnitCodes.{code_at, lane_unit};
+ghost use Rattle.utf_lanes.specs.UnitMending.{AreTextUnits};
+ghost use Rattle.utf_lanes.specs.Utf8ToUtf16.{concat_range, utf16_bytes};
 
 use crate::block_output::BlockOutput;
 use crate::form::Form;
@@ -15,7 +17,7 @@ use std::alloc::Allocator;
 use std::simd::prelude::*;
 use utf_lanes::byte_order::ByteOrder;
 use utf_lanes::unit_bytes::{are_ascii, sixteen_halves};
-use utf_lanes::utf16_blocks::write_others;
+use utf_lanes::utf16_blocks::{write_others, write_text_units};
 
 // The number of zeros that are appended in one call: so few that the C library stores them with SIMD.
 const AT_ONCE: usize = 1984;
@@ -64,6 +66,11 @@ impl<A: Allocator> BlockOutput for Vec<u8, A> {
     #[inline(always)]
     fn put_blocks<E: ByteOrder>(&mut self, bytes: &[u8]) -> usize {
         append_blocks::<A, E>(bytes, self)
+    }
+
+    #[inline(always)]
+    fn put_text_units(&mut self, low: u8x32, high: u8x32, count: usize) {
+        append_text_units(low, high, count, self);
     }
 }
 
@@ -148,4 +155,18 @@ fn append_others<A: Allocator>(low: u8x16, high: u8x16, out: &mut Vec<u8, A>) ->
     let (units, end) = write_others(low, high, out.as_mut_slice(), start);
     out.truncate(end);
     units
+}
+
+// Appends the UTF-8 of the first of 32 units, which are text. They are written in place, and the bytes after them are
+// truncated.
+#[inline(never)]
+fn append_text_units<A: Allocator>(low: u8x32, high: u8x32, count: usize, out: &mut Vec<u8, A>)
+    requires text { AreTextUnits low high count }
+    requires room { 112 ≤ vec_capacity out.old - vec_len out.old }
+    ensures { Extends out.old (concat_range (code_at (lane_unit low high)) 0 count) out.new }
+{
+    let start = out.len();
+    out.put(&[0; 112]);
+    let after = write_text_units(low, high, count, out.as_mut_slice(), start);
+    out.truncate(after);
 }

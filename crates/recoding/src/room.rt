@@ -8,6 +8,7 @@ use crate::utf8_to_utf16::widen_text;
 use crate::utf16_to_utf8::write_blocks;
 use std::simd::prelude::*;
 use utf_lanes::byte_order::ByteOrder;
+use utf_lanes::utf16_blocks::write_text_units;
 
 // A slice whose first bytes are written.
 #[derive(Drop)]
@@ -76,5 +77,10 @@ impl BlockOutput for Room<'_> {
         let (read, end) = write_blocks::<E>(bytes, self.bytes, self.len);
         self.len = end;
         read
+    }
+
+    #[inline(always)]
+    fn put_text_units(&mut self, low: u8x32, high: u8x32, count: usize) {
+        self.len = write_text_units(low, high, count, self.bytes, self.len);
     }
 }

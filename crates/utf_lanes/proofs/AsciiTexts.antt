@@ -41,36 +41,27 @@ unfolding concat_range
 beside ys d p zero = refl
 beside ys d p (suc n) = ap (λ zs. get_or ys p 0 ∷ get_or ys (p + d) 0 ∷ zs) (beside ys d (suc p) n)
 
-module _ (d : ℕ) (xs ys : List ℕ) (p : length xs ≡ d) (q : length ys ≡ d) where
-  pub lanes_beside : (i n : ℕ) → i + n ≤ d → map (λ k. get_or (xs ++ ys) k 0) (side_places d i n) ≡ concat_range (λ k. get_or xs k 0 ∷ get_or ys k 0 ∷ []) i n
-  lanes_beside i n within =
-      beside (xs ++ ys) d i n ∙ joined_same _ _ i n (λ k ge lt.
-      let back : k + d - d ≡ k = omega arith in
-      ap₂ (λ x y. x ∷ y ∷ []) (get_or_append_left xs ys 0 k (omega arith))
-      (get_or-append_right xs ys d (k + d) 0 p (omega arith) ∙ ap (λ j. get_or ys j 0) back))
+-- two vectors interleaved: the lane of one, and that of the other
+pub interleaved_lanes : {d : ℕ} (xs ys : List ℕ) → length xs ≡ d → length ys ≡ d → (p n : ℕ) → p + n ≤ d
+    → map (λ k. get_or (xs ++ ys) k 0) (side_places d p n) ≡ concat_range (λ k. get_or xs k 0 ∷ get_or ys k 0 ∷ []) p n
+interleaved_lanes {d} xs ys long wide p n within = beside (xs ++ ys) d p n ∙ joined_same _ _ p n (λ k ge lt. both k (omega arith))
+  where
+    both : (k : ℕ) → k < d → get_or (xs ++ ys) k 0 ∷ get_or (xs ++ ys) (k + d) 0 ∷ [] ≡ get_or xs k 0 ∷ get_or ys k 0 ∷ []
+    both k lt =
+        let back : k + d - d ≡ k = omega arith in
+        ap₂ (λ x y. x ∷ y ∷ []) (get_or_append_left xs ys 0 k (omega (arith, long))) (get_or-append_right xs ys d (k + d) 0 long (omega arith) ∙ ap (λ j. get_or ys j 0) back)
 
 module _ (d : ℕ) (xs : List ℕ) (long : length xs ≡ d) where
   abbrev nuls : List ℕ
   nuls = replicate d 0
 
-  right : (k : ℕ) → k < d → get_or (xs ++ nuls) k 0 ∷ get_or (xs ++ nuls) (k + d) 0 ∷ [] ≡ halves false (get_or xs k 0) 0
-  right k lt =
-      let back : k + d - d ≡ k = omega arith in
-      ap₂ (λ x y. x ∷ y ∷ []) (get_or_append_left xs nuls 0 k (omega (arith, long)))
-      (get_or-append_right xs nuls d (k + d) 0 long (omega arith) ∙ ap (λ j. get_or nuls j 0) back ∙ get_or-replicate d k 0 0 lt)
-
-  left : (k : ℕ) → k < d → get_or (nuls ++ xs) k 0 ∷ get_or (nuls ++ xs) (k + d) 0 ∷ [] ≡ halves true (get_or xs k 0) 0
-  left k lt =
-      let back : k + d - d ≡ k = omega arith in
-      let wide : length nuls ≡ d = length-replicate d 0 in
-      ap₂ (λ x y. x ∷ y ∷ []) (get_or_append_left nuls xs 0 k (omega (arith, wide)) ∙ get_or-replicate d k 0 0 lt)
-      (get_or-append_right nuls xs d (k + d) 0 wide (omega arith) ∙ ap (λ j. get_or xs j 0) back)
-
   pub nuls_second : (p n : ℕ) → p + n ≤ d → map (λ k. get_or (xs ++ nuls) k 0) (side_places d p n) ≡ concat_range (λ k. halves false (get_or xs k 0) 0) p n
-  nuls_second p n within = beside (xs ++ nuls) d p n ∙ joined_same _ _ p n (λ k ge lt. right k (omega arith))
+  nuls_second p n within =
+      interleaved_lanes xs nuls long (length-replicate d 0) p n within ∙ joined_same _ _ p n (λ k ge lt. ap (λ y. get_or xs k 0 ∷ y ∷ []) (get_or-replicate d k 0 0 (omega arith)))
 
   pub nuls_first : (p n : ℕ) → p + n ≤ d → map (λ k. get_or (nuls ++ xs) k 0) (side_places d p n) ≡ concat_range (λ k. halves true (get_or xs k 0) 0) p n
-  nuls_first p n within = beside (nuls ++ xs) d p n ∙ joined_same _ _ p n (λ k ge lt. left k (omega arith))
+  nuls_first p n within =
+      interleaved_lanes nuls xs (length-replicate d 0) long p n within ∙ joined_same _ _ p n (λ k ge lt. ap (λ x. x ∷ get_or xs k 0 ∷ []) (get_or-replicate d k 0 0 (omega arith)))
 
 -- beside NULs
 pub nuls_beside : (high : Bool) (xs : List ℕ) (p n : ℕ) → p + n ≤ 64 → concat_range (halves_at high xs (replicate 64 0)) p n ≡ concat_range (λ k. halves high (get_or xs k 0) 0) p n

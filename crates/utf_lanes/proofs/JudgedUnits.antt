@@ -17,7 +17,7 @@ use Rattle.utf_lanes.proofs.UnitSlots.{leading_is, surrogate_is}
 
 -- Masks.
 
-trailing_is : (h l : ℕ) → l < 256 → eqb (h / 4) 0x37 ≡ is_trailing_surrogate (h * 256 + l)
+pub trailing_is : (h l : ℕ) → l < 256 → eqb (h / 4) 0x37 ≡ is_trailing_surrogate (h * 256 + l)
 trailing_is h l L = grind (arith, common_steps)
 
 bit_true : (b : Bool) → cond {A = ℕ} b 1 0 ≡ 1 → b ≡ true

@@ -31,5 +31,6 @@ pub mod MaskLanes
 pub mod FaultKinds
 pub mod MendedTexts
 pub mod MendedWindows
+pub mod MendedUnits
 pub mod LaterText
 pub mod PlainWindows

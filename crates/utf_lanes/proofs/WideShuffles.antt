@@ -25,6 +25,16 @@ later_at n xs long k lt =
     let at : place_before n (k + 1) ≡ k = rw (le-ltb (k + 1) 1 (omega arith)) (omega arith) in
     picked_at (xs ++ xs) (place_before n) n (k + 1) lt ∙ ap (λ j. get_or (xs ++ xs) j 0) at ∙ get_or_append_left xs xs 0 k (omega (arith, long))
 
+-- Each lane of thirty-two one offset earlier.
+
+abbrev place_after : ℕ → ℕ
+place_after k = cond (ltb k 31) (k + 1) (k - 31)
+
+pub earlier_at : (xs : List ℕ) → length xs ≡ 32 → (k : ℕ) → k < 31 → get_or (picked (xs ++ xs) place_after 32) k 0 ≡ get_or xs (k + 1) 0
+earlier_at xs long k lt =
+    let at : place_after k ≡ k + 1 = rw (lt-ltb k 31 lt) refl in
+    picked_at (xs ++ xs) place_after 32 k (omega arith) ∙ ap (λ j. get_or (xs ++ xs) j 0) at ∙ get_or_append_left xs xs 0 (k + 1) (omega (arith, long))
+
 -- The halves of thirty-two lanes.
 
 pub first_half : (xs : List ℕ) → length xs ≡ 32 → pick_l 0 (xs ++ xs) (range_with_len 0 16) ≡ take 16 xs

@@ -10,3 +10,4 @@ pub mod UnitStarts
 pub mod FaultMasks
 pub mod Mending
 pub mod PlainWindows
+pub mod UnitMending

@@ -32,5 +32,6 @@ pub mod text_puts;
 pub mod text_units;
 pub mod unit_blocks;
 pub mod unit_bytes;
+pub mod unit_mending;
 pub mod unit_starts;
 pub mod utf16_blocks;

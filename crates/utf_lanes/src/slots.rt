@@ -1,6 +1,6 @@
 //! The bytes of sixteen or thirty-two slots, written into a buffer from an offset on, by rows: vectors of
 //! which the first bytes count.
-ghost use Rattle.std.specs.Prelude.{◌≡◌, ℕ, ◌+◌, ◌*◌, ◌<◌, ◌≤◌, length, slice_index, false, true, ◌++◌, take, drop};
+ghost use Rattle.std.specs.Prelude.{◌≡◌, ℕ, ◌+◌, ◌-◌, ◌*◌, ◌<◌, ◌≤◌, length, slice_index, false, true, ◌++◌, take, drop};
 ghost use Rattle.utf_lanes.specs.UnitCodes.{Writes, short_slots_of, slots_of, lanes_of, row_given, row_most, row_of, row_places, row_slots, rows_given};
 ghost use Rattle.utf_lanes.specs.Utf8ToUtf16.{IsRow};
 ghost use Rattle.utf_lanes.specs.Lanes.{ArePairs, pair_of_lanes};
@@ -11,9 +11,11 @@ use std::simd::prelude::*;
 // The operations that depend on the vector width: they write the bytes of N slots from the offset on, and
 // return the offset after them.
 pub(crate) trait SlotWriter<const N: usize> {
-    // Each lane one offset later.
+    // Each lane one offset later, and the last in place of the first.
     fn one_later(lanes: Simd<u8, N>) -> Simd<u8, N>
-        ensures { (k : ℕ) → k + 1 < N → slice_index result (k + 1) ≡ slice_index lanes.entry k };
+        ensures wide { length result ≡ N }
+        ensures others { (k : ℕ) → k + 1 < N → slice_index result (k + 1) ≡ slice_index lanes.entry k }
+        ensures first { slice_index result 0 ≡ slice_index lanes.entry (N - 1) };
 
     // Writes the bytes of slots in which none has three.
     fn write_short(middle: Simd<u8, N>, last: Simd<u8, N>, room: &mut [u8], at: usize) -> usize
@@ -40,7 +42,9 @@ pub(crate) struct Sixteen;
 impl SlotWriter<16> for Sixteen {
     #[inline(always)]
     fn one_later(lanes: u8x16) -> u8x16
-        ensures { (k : ℕ) → k + 1 < 16 → slice_index result (k + 1) ≡ slice_index lanes k }
+        ensures wide { length result ≡ 16 }
+        ensures others { (k : ℕ) → k + 1 < 16 → slice_index result (k + 1) ≡ slice_index lanes k }
+        ensures first { slice_index result 0 ≡ slice_index lanes (16 - 1) }
     {
         lanes.rotate_elements_right::<1>()
     }
@@ -73,7 +77,9 @@ pub(crate) struct ThirtyTwo;
 impl SlotWriter<32> for ThirtyTwo {
     #[inline(always)]
     fn one_later(wide: u8x32) -> u8x32
-        ensures { (k : ℕ) → k + 1 < 32 → slice_index result (k + 1) ≡ slice_index wide k }
+        ensures wide { length result ≡ 32 }
+        ensures others { (k : ℕ) → k + 1 < 32 → slice_index result (k + 1) ≡ slice_index wide k }
+        ensures first { slice_index result 0 ≡ slice_index wide (32 - 1) }
     {
         wide.rotate_elements_right::<1>()
     }

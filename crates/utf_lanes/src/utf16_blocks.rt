@@ -1,6 +1,7 @@
 //! Sixteen or thirty-two units of UTF-16 as bytes of UTF-8, written into a buffer from an offset on.
 ghost use Rattle.std.specs.Prelude.{◌≡◌, ℕ, ◌+◌, ◌-◌, ◌*◌, ◌<◌, ◌≤◌, true, length, slice_index};
 ghost use Rattle.utf_lanes.specs.UnitCodes.{lane_unit, AreCharacters, AreText, WritesUnits};
+ghost use Rattle.utf_lanes.specs.UnitMending.{AreTextUnits};
 ghost use Rattle.utf_base.specs.Units.{is_leading_surrogate};
 
 use crate::slots::{Sixteen, SlotWriter, ThirtyTwo};
@@ -65,6 +66,33 @@ pub fn write_thirty_two(low: u8x32, high: u8x32, room: &mut [u8], at: usize) -> 
         return write_text::<32, ThirtyTwo>(low, high, room, at);
     }
     (32, write_characters(low, high, room, at))
+}
+
+/// Writes the UTF-8 of the first of thirty-two units, which are text: all, or all but a leading surrogate at the end.
+/// Returns the offset after the bytes.
+#[inline(always)]
+pub fn write_text_units(low: u8x32, high: u8x32, count: usize, room: &mut [u8], at: usize) -> usize
+    requires room { at + 112 ≤ length room.old }
+    requires text { AreTextUnits low high count }
+    ensures { WritesUnits 32 low high room.old room.new at count result }
+{
+    if count == 32 && are_ascii(low, high) {
+        return write_ascii_units(low, high, room, at);
+    }
+    write_other_units(low, high, count, room, at)
+}
+
+// Writes the UTF-8 of units that are not all ASCII. Outlined, so that its code is there once for all encodings.
+#[inline(never)]
+fn write_other_units(low: u8x32, high: u8x32, count: usize, room: &mut [u8], at: usize) -> usize
+    requires room { at + 112 ≤ length room.old }
+    requires text { AreTextUnits low high count }
+    ensures { WritesUnits 32 low high room.old room.new at count result }
+{
+    if count == 32 && are_characters(high) {
+        return write_characters(low, high, room, at);
+    }
+    write_paired::<32, ThirtyTwo>(low, high, count, room, at)
 }
 
 /// Writes the bytes of N units of ASCII. Returns the offset after them.
@@ -134,13 +162,32 @@ fn write_text<const N: usize, W: SlotWriter<N>>(
     if count == 0 {
         return (0, at);
     }
+    (count, write_paired::<N, W>(low, high, count, room, at))
+}
+
+// Writes the UTF-8 of the first of N units, which are text: all, or all but a leading surrogate at the end. Returns
+// the offset after the bytes.
+#[inline(always)]
+fn write_paired<const N: usize, W: SlotWriter<N>>(
+    low: Simd<u8, N>,
+    high: Simd<u8, N>,
+    count: usize,
+    room: &mut [u8],
+    at: usize,
+) -> usize
+    requires least { 2 ≤ N }
+    requires most { N ≤ 32 }
+    requires room { at + (3 * N + 16) ≤ length room.old }
+    requires few { N ≤ count + 1 }
+    requires within { count ≤ N }
+    requires text { AreText (lane_unit low high) count }
+    requires last { count + 1 ≡ N → is_leading_surrogate (lane_unit low high count) ≡ true }
+    ensures { WritesUnits N low.entry high.entry room.old room.new at count result }
+{
     let middle = text_middle_bytes(W::one_later(low), low, high);
     let last = text_last_bytes(low, high);
     let end = W::write_slots(text_first_bytes(high), middle, last, room, at);
-    if count == N {
-        return (N, end);
-    }
-    (N - 1, end - 2)
+    if count == N { end } else { end - 2 }
 }
 
 // The number of units that are text: all, or all but a leading surrogate at the end, or otherwise none.

@@ -1,4 +1,4 @@
-use Rattle.std.proofs.Common.{rules, ◌≡◌, take, drop, length, arith, ◌∙◌, ap, length-take}
+use Rattle.std.proofs.Common.{rules, ◌≡◌, ◌≤◌, take, drop, length, arith, ◌∙◌, ap, length-drop, length-take}
 use Rattle.std.proofs.lemmas.List.{take_all, take_rest}
 use Rattle.recoding.specs.Recoded.{Lacks}
 use Rattle.recoding.specs.Replacing.{BeginsBy}
@@ -19,10 +19,10 @@ pub returns-in_default-clause-reaches : goal.returns-in_default-clause-reaches
 returns-in_default-clause-reaches g c =
     let xs = drop c.loop-read.read c.args.bytes.now in
     let window : c.first_four.result.now ≡ take 4 xs = c.first_four.ensures ∙ ap (take 4) (take_rest c.args.bytes.now c.loop-read.read) in
-    let few = rw window at c.in_default.ensures.few in
+    let few : length (take 4 xs) ≤ 3 = rw window at c.in_default.ensures.few in
     let all : take 4 xs ≡ xs = take_all 4 xs (omega (arith, few, length-take 4 xs)) in
     let lacks : Lacks c.args.from xs = rw (window ∙ all) at c.in_default.ensures.lacks in
-    rw c.ended.ensures (Reaches-waiting c.loop-read.invariant (omega (arith, few, length-take 4 xs)) lacks)
+    rw c.ended.ensures (Reaches-waiting c.loop-read.invariant (omega (arith, few, length-take 4 xs, length-drop c.loop-read.read c.args.bytes.now)) lacks)
 
 pub returns-then-not-put_shown-clause-reaches : goal.returns-then-not-put_shown-clause-reaches
 returns-then-not-put_shown-clause-reaches g c =

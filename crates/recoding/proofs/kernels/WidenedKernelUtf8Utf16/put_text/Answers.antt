@@ -4,27 +4,14 @@ use Rattle.recoding.proofs.TextRuns.{PutsText-none, PutsText-part, PutsText-then
 use Rattle.recoding.proofs.AsciiToUtf16.{PutsText-widened, ascii_front, few_widened}
 use Rattle.recoding.proofs.kernels.WidenedKernelUtf8Utf16.put_text.Goals as goal
 
-pub returns-then-not-is_ample : goal.returns-then-not-is_ample
-returns-then-not-is_ample g c = PutsText-none g.met.O.Output.appends_none
+pub returns-then-most-lt32 : goal.returns-then-most-lt32
+returns-then-most-lt32 g c = PutsText-none g.met.O.Output.appends_none
 
 pub returns-then-most-lt32-2 : goal.returns-then-most-lt32-2
 returns-then-most-lt32-2 g c = PutsText-part c.min-most.result c.put_few.ensures
 
 pub returns-then-is_ascii : goal.returns-then-is_ascii
 returns-then-is_ascii g c = PutsText-widened _ (is_utf16 _) (omega arith) (c.is_ascii.ensures.ascii c.if-is_ascii.true) c.put_ascii_as_utf16.ensures
-
-pub put_judged-requires : goal.put_judged-requires
-put_judged-requires g c =
-    let part = take c.min-most.result c.args.bytes.now in
-    let front = c.put_ascii_front-front.result in
-    omega (
-      arith,
-      g.met.O.Output.appends_room _ _ _ c.put_ascii_front-front.ensures.appends,
-      few_widened g.E.ByteOrder.HIGH_FIRST part front,
-      length-take c.min-most.result c.args.bytes.now,
-      length-take (length part - front) (drop front part),
-      length-drop front part,
-    )
 
 pub returns : goal.returns
 returns g c =
