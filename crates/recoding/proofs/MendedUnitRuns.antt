@@ -17,14 +17,16 @@ use Rattle.utf_lanes.proofs.UnitBytes.{not_both, not_true}
 use Rattle.recoding.specs.NextScalars.{HasByteOrder, utf16_form}
 use Rattle.recoding.specs.Recoded.{written}
 use Rattle.recoding.specs.Recodes.{PutsLanes}
-use Rattle.recoding.specs.Replacing.{Becomes, BeginsBy, Recodes, ReplacesUnits}
+use Rattle.recoding.specs.Replacing.{Becomes, BeginsBy, Recodes, ReplacesUnits, replaced_by}
+use Rattle.recoding.specs.Strict.{BeginsFault}
+use Rattle.recoding.specs.declared.faults.FaultKind.{FaultKind}
 use Rattle.recoding.specs.declared.form.Form.{Form}
 use Rattle.recoding.specs.declared.form.Form.TheVariants.{Utf8}
 use Rattle.recoding.specs.declared.way.Way.{Way}
 use Rattle.recoding.proofs.Becoming.{Becomes-none, Becomes-where, begins_short, next_piece, run_after}
 use Rattle.recoding.proofs.CopiedUnits.{all_written, front_fits, rest_fits}
 use Rattle.recoding.proofs.FirstPieces.{BeginsChar-pair, BeginsChar-unit, BeginsFault-trailing, BeginsFault-unmatched}
-use Rattle.recoding.proofs.Forms.{is_utf16}
+use Rattle.recoding.proofs.Forms.{is_utf16, parts_of_utf16}
 use Rattle.recoding.proofs.FrontBytes.{first_unit, second_unit}
 use Rattle.recoding.proofs.NextPieces.{Begins-char, Begins-unit}
 use Rattle.recoding.proofs.Utf16ToUtf8.{all_shown}
@@ -101,17 +103,20 @@ module _ (way : Way) (shows : ReplacesUnits way) (high : Bool) (to : Form) (byte
       leads_where false false inside n b e p = absurd cc
       leads_where false true inside n b e p = absurd cc
 
+      one : {k : FaultKind} → BeginsFault from (w i) k 2 → BeginsBy way from (w i) (Some 0xFFFD) 2 1
+      one f = subst (λ c. BeginsBy way from (w i) c 2 1) (shows high (w i)) (subst (λ n. BeginsBy way from (w i) (replaced_by way from (w i)) 2 n) (parts_of_utf16 high 2) (Begins-unit way high f))
+
       by : (t : Bool) → is_trailing_surrogate (u i) ≡ t → BeginsBy way from (w i) (Some 0xFFFD) 2 1
       by true t =
           let first : is_trailing_surrogate (first_unit high (w i)) ≡ true = ap is_trailing_surrogate (first_is i lt) ∙ t in
-          subst (λ c. BeginsBy way from (w i) c 2 1) (shows high (w i)) (Begins-unit way high (BeginsFault-trailing high from (w i) (is_utf16 high) (len_w i lt) first))
+          one (BeginsFault-trailing high from (w i) (is_utf16 high) (len_w i lt) first)
       by false t =
           let next = lone_leads (is_leading_surrogate (u i)) (is_trailing_surrogate (u i)) (ltb (i + 1) 32) (is_trailing_surrogate (u (i + 1))) (holds_before (λ k. is_leading_surrogate (u k)) i) e t in
           let inside = ltb-true (i + 1) 32 next.0 in
           let lead = leads_where (is_leading_surrogate (u i)) (is_trailing_surrogate (u i)) (ltb (i + 1) 32) (is_trailing_surrogate (u (i + 1))) (holds_before (λ k. is_leading_surrogate (u k)) i) e t in
           let first : is_leading_surrogate (first_unit high (w i)) ≡ true = ap is_leading_surrogate (first_is i lt) ∙ lead in
           let second : is_trailing_surrogate (second_unit high (w i)) ≡ false = ap is_trailing_surrogate (second_is i (omega arith)) ∙ next.1 in
-          subst (λ c. BeginsBy way from (w i) c 2 1) (shows high (w i)) (Begins-unit way high (BeginsFault-unmatched high from (w i) (is_utf16 high) (len_four i (omega arith)) first second))
+          one (BeginsFault-unmatched high from (w i) (is_utf16 high) (len_four i (omega arith)) first second)
 
   unit_begins : (i s : ℕ) → i < 32 → IsScalar s → s < 0x1_0000 → u i ≡ s → BeginsBy way from (w i) (Some s) 2 0
   unit_begins i s lt scalar below e =

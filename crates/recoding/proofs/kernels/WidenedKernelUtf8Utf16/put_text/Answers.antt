@@ -4,8 +4,8 @@ use Rattle.recoding.proofs.TextRuns.{PutsText-none, PutsText-part, PutsText-then
 use Rattle.recoding.proofs.AsciiToUtf16.{PutsText-widened, ascii_front, few_widened}
 use Rattle.recoding.proofs.kernels.WidenedKernelUtf8Utf16.put_text.Goals as goal
 
-pub returns-then-most-lt32 : goal.returns-then-most-lt32
-returns-then-most-lt32 g c = PutsText-none g.met.O.Output.appends_none
+pub returns-then-most-bytes : goal.returns-then-most-bytes
+returns-then-most-bytes g c = PutsText-none g.met.O.Output.appends_none
 
 pub returns-then-most-lt32-2 : goal.returns-then-most-lt32-2
 returns-then-most-lt32-2 g c = PutsText-part c.min-most.result c.put_few.ensures
