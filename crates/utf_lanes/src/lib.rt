@@ -6,7 +6,7 @@
 //! - Conversion: `text_puts` and `text_units` convert text in UTF-8 to units, `utf16_blocks` sixteen or thirty-two units
 //!   to UTF-8, and `byte_pairs` units to the other byte order; text that keeps its encoding is only validated.
 //! - Damaged bytes: `fault_masks` finds the invalid bytes of 64, and `mending` writes damaged bytes as text, with what
-//!   `replacements` have for them. `unit_mending` does so with 32 units of UTF-16, in which U+FFFD replaces lone surrogates.
+//!   `replacements` have for them. `unit_mending` replaces each lone surrogate of 32 units by U+FFFD.
 //! - `text_front` decodes one character at the front of bytes, and `byte_order` has the byte orders of a unit, as types.
 //!
 //! It is an addition of this project, and no part of the Rust crate. Nothing here allocates, and nothing knows an
