@@ -43,11 +43,6 @@ counted_most holds k (suc n) = let rest = counted_most holds (suc k) n in let on
 
 -- What a lone surrogate is, by its two tests.
 
-lone_trails : (l t inside n b : Bool) → (l && (inside && not n)) || (t && not b) ≡ true → l ≡ false → t ≡ true
-lone_trails false true inside n b e p = refl
-lone_trails false false inside n b e p = absurd cc
-lone_trails true t inside n b e p = absurd cc
-
 lone_leads : (l t inside n b : Bool) → (l && (inside && not n)) || (t && not b) ≡ true → t ≡ false → (inside ≡ true) × (n ≡ false)
 lone_leads true false true false b e p = (refl, refl)
 lone_leads true false true true b e p = absurd cc

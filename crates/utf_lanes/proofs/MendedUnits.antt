@@ -123,19 +123,6 @@ module _ (leads trails : ℕ → Bool) (leading trailing later unpaired earlier 
 
 -- How many of some lanes are 255.
 
-pub count_shifted : (holds : ℕ → Bool) (p q n : ℕ) (others : ℕ → Bool) → ((i : ℕ) → i < n → holds (p + i) ≡ others (q + i)) → count_from holds p n ≡ count_from others q n
-unfolding count_from
-count_shifted holds p q zero others same = refl
-count_shifted holds p q (suc n) others same =
-    let zp : p + 0 ≡ p = omega arith in
-    let zq : q + 0 ≡ q = omega arith in
-    let first : holds p ≡ others q = rw (zp, zq) at (same 0 (omega arith)) in
-    ap₂ (λ a b. cond {A = ℕ} a 1 0 + b) first
-    (count_shifted holds (suc p) (suc q) n others (λ i lt.
-    let sp : suc p + i ≡ p + suc i = omega arith in
-    let sq : suc q + i ≡ q + suc i = omega arith in
-    rw (sp, sq) (same (suc i) (omega arith))))
-
 told : (b : Bool) → not (eqb (ones b) 0) ≡ b
 told true = refl
 told false = refl

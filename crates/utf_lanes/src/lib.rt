@@ -7,6 +7,7 @@
 //!   to UTF-8, and `byte_pairs` units to the other byte order; text that keeps its encoding is only validated.
 //! - Damaged bytes: `fault_masks` finds the invalid bytes of 64, and `mending` writes damaged bytes as text, with what
 //!   `replacements` have for them. `plain_windows` converts 64 bytes of ASCII and single invalid bytes to units.
+//!   `unit_mending` replaces each lone surrogate of 32 units by U+FFFD.
 //! - `text_front` decodes one character at the front of bytes, and `byte_order` has the byte orders of a unit, as types.
 //!
 //! It is an addition of this project, and no part of the Rust crate. Nothing here allocates, and nothing knows an
