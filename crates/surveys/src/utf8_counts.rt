@@ -96,7 +96,8 @@ pub(crate) fn count(bytes: &[u8]) -> Utf8Counts
                 place = text;
                 reach = LEAST;
             } else {
-                let (some, next) = each_seen(bytes, place, reach);
+                let end = place + reach.min(bytes.len() - (WINDOW - 1) - place);
+                let (some, next) = each_seen(bytes, place, end);
                 counts.add(some);
                 place = next;
                 reach = (2 * reach).min(MOST);
@@ -106,18 +107,18 @@ pub(crate) fn count(bytes: &[u8]) -> Utf8Counts
     counts
 }
 
-// The counts of the windows from an offset on, one by one, up to the returned offset: those of `reach` bytes, and of the
-// character at their end.
-fn each_seen(bytes: &[u8], start: usize, reach: usize) -> (Utf8Counts, usize)
-    requires some { 0 < reach }
-    requires within { start + 17 ≤ length bytes.now }
+// The counts of the windows from an offset on, one by one, up to the returned offset: that is `end`, or after the
+// characters there.
+fn each_seen(bytes: &[u8], start: usize, end: usize) -> (Utf8Counts, usize)
+    requires some { start < end }
+    requires within { end + 16 ≤ length bytes.now }
     ensures more { start < result.1 }
     ensures within { result.1 ≤ length bytes.now }
     ensures counts { counted result.0 (drop result.1 bytes.now) ≡ counted nothing (drop start bytes.now) }
 {
     let mut counts = Utf8Counts::new();
     let mut place = start;
-    while WINDOW <= bytes.len() - place && place - start < reach {
+    while place < end {
         if bytes[place + 3] < 0x80 {
             place = ascii_step(bytes, place);
         } else {
