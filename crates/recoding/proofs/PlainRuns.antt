@@ -1,5 +1,5 @@
 -- Windows in which each byte is ASCII, or is replaced by itself, as transcoded bytes.
-use Rattle.std.proofs.Common.{◌≡◌, ℕ, zero, suc, ◌+◌, ◌-◌, ◌*◌, ◌/◌, ◌%◌, ◌<◌, ◌≤◌, Bool, true, false, cond, leb, List, [], ◌∷◌, ◌++◌, length, get_or, take, drop, flat_map, refl, Option, Some, None, arith, lit<, ap, ap₂, sym, subst, ◌∙◌, inl, inr, le-leb, le-ltb, lt-ltb, drop-cons, length-take}
+use Rattle.std.proofs.Common.{◌≡◌, ℕ, zero, suc, ◌+◌, ◌<◌, ◌≤◌, Bool, true, false, cond, leb, List, [], ◌∷◌, ◌++◌, length, get_or, take, drop, flat_map, refl, Some, arith, lit<, ap₂, sym, subst, ◌∙◌, inl, inr, le-leb, le-ltb, lt-ltb, drop-cons, length-take}
 use Rattle.std.proofs.lemmas.Bool.{cases_lt, lt-leb}
 use Rattle.std.proofs.lemmas.List.Elements.{All-cons, All-nil}
 use Rattle.std.proofs.lemmas.List.Sums.{count_by-le-length, sum_by-cons}
@@ -7,14 +7,13 @@ use Rattle.std.specs.Prelude.{All, count_by, is_none}
 use Rattle.utf_base.specs.CutLaws.{Follow}
 use Rattle.utf_base.specs.Piece.{Piece}
 use Rattle.utf_base.proofs.Utf16Code.{utf16-1}
-use Rattle.utf_lanes.specs.BytePairs.{bytes_of}
 use Rattle.utf_lanes.specs.Mending.{IsMendedAt, all_shown, invalid_bytes, shown_as}
 use Rattle.utf_lanes.specs.PlainWindows.{ArePlain, char_alone, plain_unit}
 use Rattle.utf_lanes.specs.Utf8ToUtf16.{concat_range, halves}
 use Rattle.utf_lanes.proofs.Joined.{joined_add}
 use Rattle.recoding.specs.NextScalars.{HasByteOrder}
 use Rattle.recoding.specs.Recoded.{written}
-use Rattle.recoding.specs.Replacing.{Becomes, Recodes, byte_shown, code_of, joins}
+use Rattle.recoding.specs.Replacing.{Recodes, byte_shown, code_of, joins}
 use Rattle.recoding.specs.declared.form.Form.{Form}
 use Rattle.recoding.specs.declared.form.Form.TheVariants.{Utf8}
 use Rattle.recoding.specs.declared.way.Way.{Way}
