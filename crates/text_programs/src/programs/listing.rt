@@ -20,6 +20,8 @@ use std::io::Write;
 use text_runs::counted::Counted;
 use text_runs::runs::items::Item;
 
+// These are not inlined, so that the loop of each has all registers.
+
 /// Writes one line for each piece of the bytes, and returns the number of errors.
 ///
 /// A line is the offset and the length in decimal, and the code point in six hexadecimal digits or the name
@@ -27,7 +29,6 @@ use text_runs::runs::items::Item;
 /// fails, only the first lines were written, the last of them perhaps in part.
 ///
 /// Cost: O(n).
-// Not inlined, so that its loop has all registers.
 #[inline(never)]
 pub fn write_listing<W: Write>(src: &[u8], out: &mut Counted<W>) -> io::Result<usize>
     ensures listing { IfOk result (Known W.contents (WritesListing src.now) out.old out.new) }
