@@ -22,7 +22,7 @@ use utf_lanes::replacements::{Each, Subparts};
 pub(crate) const STRIDE: usize = 16;
 
 // The number of bytes that are transcoded by the careful path from a fault on.
-pub(crate) const AFTER_FAULT: usize = 8;
+pub(crate) const AFTER_FAULT: usize = 4;
 
 // The number of bytes of text that are transcoded character by character before a run tries blocks again.
 const STRETCH: usize = 128;

@@ -320,6 +320,9 @@ fn put_plain<F: Windowed, O: Output, E: ByteOrder>(by: F, bytes: &[u8], out: &mu
     ensures { Recodes O.appends (F.way by) form.Utf8 (utf16_form E.HIGH_FIRST) bytes.now
         out.old out.new result.read result.replaced }
 {
+    if !may_be_plain(bytes) {
+        return NOTHING;
+    }
     let mut read = 0;
     let mut replaced = 0;
     while PLAIN <= bytes.len() - read && 128 <= out.room() {
