@@ -149,8 +149,8 @@ export function boundaryAfter(data: Bytes, at: number, encoding?: Encoding): num
 /**
  * Where to cut bytes that are converted in shards: the last offset up to `at` that is not inside a character or a maximal subpart, and in
  * UTF-16 not inside a 16-bit unit; at most three bytes before `at`. What the shards become, joined, is what the whole becomes, with one
- * U+FFFD for each invalid byte and with one for each maximal subpart. The length if `at` is beyond it. An `at` that is not a whole number
- * from 0 on is a `RangeError`. O(1).
+ * U+FFFD for each invalid byte, with one for each maximal subpart, and with a table. The length if `at` is beyond it. An `at` that is not a
+ * whole number from 0 on is a `RangeError`. O(1).
  */
 export function shardEnd(data: Bytes, at: number, encoding?: Encoding): number;
 
