@@ -27171,8 +27171,8 @@
 	.cfi_def_cfa_offset 48
 	pushq	%rbx
 	.cfi_def_cfa_offset 56
-	subq	$1096, %rsp                     # imm = 0x448
-	.cfi_def_cfa_offset 1152
+	subq	$584, %rsp                      # imm = 0x248
+	.cfi_def_cfa_offset 640
 	.cfi_offset %rbx, -56
 	.cfi_offset %r12, -48
 	.cfi_offset %r13, -40
@@ -27187,7 +27187,7 @@
 	movq	$0, 32(%rsp)
 	leaq	72(%rsp), %rdi
 	xorl	%r15d, %r15d
-	movl	$1024, %edx                     # imm = 0x400
+	movl	$512, %edx                      # imm = 0x200
 	xorl	%esi, %esi
 	callq	memset@PLT
 	xorl	%ebx, %ebx
@@ -27734,7 +27734,7 @@
 .LBB68_48:                              # %return.6
 	movq	%rbx, %rax
 	movq	%r15, %rdx
-	addq	$1096, %rsp                     # imm = 0x448
+	addq	$584, %rsp                      # imm = 0x248
 	.cfi_def_cfa_offset 56
 	popq	%rbx
 	.cfi_def_cfa_offset 48
@@ -27869,7 +27869,7 @@
 	jb	.LBB69_11
 # %bb.2:                                # %then.3
                                         #   in Loop: Header=BB69_1 Depth=1
-	cmpq	$768, %r9                       # imm = 0x300
+	cmpq	$256, %r9                       # imm = 0x100
 	ja	.LBB69_11
 # %bb.3:                                # %join.5
                                         #   in Loop: Header=BB69_1 Depth=1
@@ -28257,8 +28257,8 @@
 	.cfi_def_cfa_offset 48
 	pushq	%rbx
 	.cfi_def_cfa_offset 56
-	subq	$1096, %rsp                     # imm = 0x448
-	.cfi_def_cfa_offset 1152
+	subq	$584, %rsp                      # imm = 0x248
+	.cfi_def_cfa_offset 640
 	.cfi_offset %rbx, -56
 	.cfi_offset %r12, -48
 	.cfi_offset %r13, -40
@@ -28273,7 +28273,7 @@
 	movq	$0, 32(%rsp)
 	leaq	72(%rsp), %rdi
 	xorl	%r15d, %r15d
-	movl	$1024, %edx                     # imm = 0x400
+	movl	$512, %edx                      # imm = 0x200
 	xorl	%esi, %esi
 	callq	memset@PLT
 	xorl	%ebx, %ebx
@@ -28820,7 +28820,7 @@
 .LBB70_48:                              # %return.6
 	movq	%rbx, %rax
 	movq	%r15, %rdx
-	addq	$1096, %rsp                     # imm = 0x448
+	addq	$584, %rsp                      # imm = 0x248
 	.cfi_def_cfa_offset 56
 	popq	%rbx
 	.cfi_def_cfa_offset 48
@@ -28955,7 +28955,7 @@
 	jb	.LBB71_11
 # %bb.2:                                # %then.3
                                         #   in Loop: Header=BB71_1 Depth=1
-	cmpq	$768, %r9                       # imm = 0x300
+	cmpq	$256, %r9                       # imm = 0x100
 	ja	.LBB71_11
 # %bb.3:                                # %join.5
                                         #   in Loop: Header=BB71_1 Depth=1
@@ -29359,8 +29359,8 @@
 	.cfi_def_cfa_offset 48
 	pushq	%rbx
 	.cfi_def_cfa_offset 56
-	subq	$1128, %rsp                     # imm = 0x468
-	.cfi_def_cfa_offset 1184
+	subq	$616, %rsp                      # imm = 0x268
+	.cfi_def_cfa_offset 672
 	.cfi_offset %rbx, -56
 	.cfi_offset %r12, -48
 	.cfi_offset %r13, -40
@@ -29381,7 +29381,7 @@
 	movq	$0, 32(%rsp)
 	leaq	104(%rsp), %rdi
 	movq	$0, (%rsp)                      # 8-byte Folded Spill
-	movl	$1024, %edx                     # imm = 0x400
+	movl	$512, %edx                      # imm = 0x200
 	xorl	%esi, %esi
 	callq	memset@PLT
 	xorl	%r12d, %r12d
@@ -29929,7 +29929,7 @@
 .LBB72_48:                              # %return.6
 	movq	%r12, %rax
 	movq	(%rsp), %rdx                    # 8-byte Reload
-	addq	$1128, %rsp                     # imm = 0x468
+	addq	$616, %rsp                      # imm = 0x268
 	.cfi_def_cfa_offset 56
 	popq	%rbx
 	.cfi_def_cfa_offset 48
@@ -30065,7 +30065,7 @@
 	jb	.LBB73_11
 # %bb.2:                                # %then.3
                                         #   in Loop: Header=BB73_1 Depth=1
-	cmpq	$768, %rbx                      # imm = 0x300
+	cmpq	$256, %rbx                      # imm = 0x100
 	ja	.LBB73_11
 # %bb.3:                                # %join.5
                                         #   in Loop: Header=BB73_1 Depth=1
@@ -30457,8 +30457,8 @@
 	.cfi_def_cfa_offset 48
 	pushq	%rbx
 	.cfi_def_cfa_offset 56
-	subq	$1128, %rsp                     # imm = 0x468
-	.cfi_def_cfa_offset 1184
+	subq	$616, %rsp                      # imm = 0x268
+	.cfi_def_cfa_offset 672
 	.cfi_offset %rbx, -56
 	.cfi_offset %r12, -48
 	.cfi_offset %r13, -40
@@ -30479,7 +30479,7 @@
 	movq	$0, 32(%rsp)
 	leaq	104(%rsp), %rdi
 	movq	$0, (%rsp)                      # 8-byte Folded Spill
-	movl	$1024, %edx                     # imm = 0x400
+	movl	$512, %edx                      # imm = 0x200
 	xorl	%esi, %esi
 	callq	memset@PLT
 	xorl	%r12d, %r12d
@@ -31027,7 +31027,7 @@
 .LBB74_48:                              # %return.6
 	movq	%r12, %rax
 	movq	(%rsp), %rdx                    # 8-byte Reload
-	addq	$1128, %rsp                     # imm = 0x468
+	addq	$616, %rsp                      # imm = 0x268
 	.cfi_def_cfa_offset 56
 	popq	%rbx
 	.cfi_def_cfa_offset 48
@@ -31176,7 +31176,7 @@
 	jb	.LBB75_14
 # %bb.2:                                # %then.3
                                         #   in Loop: Header=BB75_1 Depth=1
-	cmpq	$768, %r9                       # imm = 0x300
+	cmpq	$256, %r9                       # imm = 0x100
 	ja	.LBB75_14
 # %bb.3:                                # %join.5
                                         #   in Loop: Header=BB75_1 Depth=1
@@ -34711,8 +34711,8 @@
 	.cfi_def_cfa_offset 48
 	pushq	%rbx
 	.cfi_def_cfa_offset 56
-	subq	$1080, %rsp                     # imm = 0x438
-	.cfi_def_cfa_offset 1136
+	subq	$568, %rsp                      # imm = 0x238
+	.cfi_def_cfa_offset 624
 	.cfi_offset %rbx, -56
 	.cfi_offset %r12, -48
 	.cfi_offset %r13, -40
@@ -34727,7 +34727,7 @@
 	movq	$0, 32(%rsp)
 	leaq	56(%rsp), %rdi
 	xorl	%ebp, %ebp
-	movl	$1024, %edx                     # imm = 0x400
+	movl	$512, %edx                      # imm = 0x200
 	xorl	%esi, %esi
 	callq	memset@PLT
 	movq	%rbx, %r11
@@ -35357,7 +35357,7 @@
 .LBB84_51:                              # %return.15
 	movq	%r13, %rax
 	movq	%rbp, %rdx
-	addq	$1080, %rsp                     # imm = 0x438
+	addq	$568, %rsp                      # imm = 0x238
 	.cfi_def_cfa_offset 56
 	popq	%rbx
 	.cfi_def_cfa_offset 48
@@ -35457,8 +35457,8 @@
 	.cfi_def_cfa_offset 48
 	pushq	%rbx
 	.cfi_def_cfa_offset 56
-	subq	$1080, %rsp                     # imm = 0x438
-	.cfi_def_cfa_offset 1136
+	subq	$568, %rsp                      # imm = 0x238
+	.cfi_def_cfa_offset 624
 	.cfi_offset %rbx, -56
 	.cfi_offset %r12, -48
 	.cfi_offset %r13, -40
@@ -35473,7 +35473,7 @@
 	movq	$0, 32(%rsp)
 	leaq	56(%rsp), %rdi
 	xorl	%ebp, %ebp
-	movl	$1024, %edx                     # imm = 0x400
+	movl	$512, %edx                      # imm = 0x200
 	xorl	%esi, %esi
 	callq	memset@PLT
 	movq	%rbx, %r11
@@ -36103,7 +36103,7 @@
 .LBB85_51:                              # %return.15
 	movq	%r13, %rax
 	movq	%rbp, %rdx
-	addq	$1080, %rsp                     # imm = 0x438
+	addq	$568, %rsp                      # imm = 0x238
 	.cfi_def_cfa_offset 56
 	popq	%rbx
 	.cfi_def_cfa_offset 48
@@ -36201,8 +36201,8 @@
 	.cfi_def_cfa_offset 48
 	pushq	%rbx
 	.cfi_def_cfa_offset 56
-	subq	$1096, %rsp                     # imm = 0x448
-	.cfi_def_cfa_offset 1152
+	subq	$584, %rsp                      # imm = 0x248
+	.cfi_def_cfa_offset 640
 	.cfi_offset %rbx, -56
 	.cfi_offset %r12, -48
 	.cfi_offset %r13, -40
@@ -36223,7 +36223,7 @@
 	movq	$0, 16(%rsp)
 	leaq	72(%rsp), %rdi
 	xorl	%ebp, %ebp
-	movl	$1024, %edx                     # imm = 0x400
+	movl	$512, %edx                      # imm = 0x200
 	xorl	%esi, %esi
 	callq	memset@PLT
 	xorl	%r13d, %r13d
@@ -36783,7 +36783,7 @@
 .LBB86_48:                              # %return.15
 	movq	%r13, %rax
 	movq	%rbp, %rdx
-	addq	$1096, %rsp                     # imm = 0x448
+	addq	$584, %rsp                      # imm = 0x248
 	.cfi_def_cfa_offset 56
 	popq	%rbx
 	.cfi_def_cfa_offset 48
@@ -36881,8 +36881,8 @@
 	.cfi_def_cfa_offset 48
 	pushq	%rbx
 	.cfi_def_cfa_offset 56
-	subq	$1096, %rsp                     # imm = 0x448
-	.cfi_def_cfa_offset 1152
+	subq	$584, %rsp                      # imm = 0x248
+	.cfi_def_cfa_offset 640
 	.cfi_offset %rbx, -56
 	.cfi_offset %r12, -48
 	.cfi_offset %r13, -40
@@ -36903,7 +36903,7 @@
 	movq	$0, 16(%rsp)
 	leaq	72(%rsp), %rdi
 	xorl	%ebp, %ebp
-	movl	$1024, %edx                     # imm = 0x400
+	movl	$512, %edx                      # imm = 0x200
 	xorl	%esi, %esi
 	callq	memset@PLT
 	xorl	%r13d, %r13d
@@ -37463,7 +37463,7 @@
 .LBB87_48:                              # %return.15
 	movq	%r13, %rax
 	movq	%rbp, %rdx
-	addq	$1096, %rsp                     # imm = 0x448
+	addq	$584, %rsp                      # imm = 0x248
 	.cfi_def_cfa_offset 56
 	popq	%rbx
 	.cfi_def_cfa_offset 48
@@ -40212,8 +40212,8 @@
 	.cfi_def_cfa_offset 48
 	pushq	%rbx
 	.cfi_def_cfa_offset 56
-	subq	$1080, %rsp                     # imm = 0x438
-	.cfi_def_cfa_offset 1136
+	subq	$568, %rsp                      # imm = 0x238
+	.cfi_def_cfa_offset 624
 	.cfi_offset %rbx, -56
 	.cfi_offset %r12, -48
 	.cfi_offset %r13, -40
@@ -40228,7 +40228,7 @@
 	movq	$0, 32(%rsp)
 	leaq	56(%rsp), %rdi
 	xorl	%ebp, %ebp
-	movl	$1024, %edx                     # imm = 0x400
+	movl	$512, %edx                      # imm = 0x200
 	xorl	%esi, %esi
 	callq	memset@PLT
 	movq	%rbx, %r11
@@ -40865,7 +40865,7 @@
 .LBB95_51:                              # %return.15
 	movq	%r13, %rax
 	movq	%rbp, %rdx
-	addq	$1080, %rsp                     # imm = 0x438
+	addq	$568, %rsp                      # imm = 0x238
 	.cfi_def_cfa_offset 56
 	popq	%rbx
 	.cfi_def_cfa_offset 48
@@ -40965,8 +40965,8 @@
 	.cfi_def_cfa_offset 48
 	pushq	%rbx
 	.cfi_def_cfa_offset 56
-	subq	$1080, %rsp                     # imm = 0x438
-	.cfi_def_cfa_offset 1136
+	subq	$568, %rsp                      # imm = 0x238
+	.cfi_def_cfa_offset 624
 	.cfi_offset %rbx, -56
 	.cfi_offset %r12, -48
 	.cfi_offset %r13, -40
@@ -40981,7 +40981,7 @@
 	movq	$0, 32(%rsp)
 	leaq	56(%rsp), %rdi
 	xorl	%ebp, %ebp
-	movl	$1024, %edx                     # imm = 0x400
+	movl	$512, %edx                      # imm = 0x200
 	xorl	%esi, %esi
 	callq	memset@PLT
 	movq	%rbx, %r11
@@ -41618,7 +41618,7 @@
 .LBB96_51:                              # %return.15
 	movq	%r13, %rax
 	movq	%rbp, %rdx
-	addq	$1080, %rsp                     # imm = 0x438
+	addq	$568, %rsp                      # imm = 0x238
 	.cfi_def_cfa_offset 56
 	popq	%rbx
 	.cfi_def_cfa_offset 48
@@ -41716,8 +41716,8 @@
 	.cfi_def_cfa_offset 48
 	pushq	%rbx
 	.cfi_def_cfa_offset 56
-	subq	$1096, %rsp                     # imm = 0x448
-	.cfi_def_cfa_offset 1152
+	subq	$584, %rsp                      # imm = 0x248
+	.cfi_def_cfa_offset 640
 	.cfi_offset %rbx, -56
 	.cfi_offset %r12, -48
 	.cfi_offset %r13, -40
@@ -41738,7 +41738,7 @@
 	movq	$0, 16(%rsp)
 	leaq	72(%rsp), %rdi
 	xorl	%ebp, %ebp
-	movl	$1024, %edx                     # imm = 0x400
+	movl	$512, %edx                      # imm = 0x200
 	xorl	%esi, %esi
 	callq	memset@PLT
 	xorl	%r13d, %r13d
@@ -42305,7 +42305,7 @@
 .LBB97_48:                              # %return.15
 	movq	%r13, %rax
 	movq	%rbp, %rdx
-	addq	$1096, %rsp                     # imm = 0x448
+	addq	$584, %rsp                      # imm = 0x248
 	.cfi_def_cfa_offset 56
 	popq	%rbx
 	.cfi_def_cfa_offset 48
@@ -42403,8 +42403,8 @@
 	.cfi_def_cfa_offset 48
 	pushq	%rbx
 	.cfi_def_cfa_offset 56
-	subq	$1096, %rsp                     # imm = 0x448
-	.cfi_def_cfa_offset 1152
+	subq	$584, %rsp                      # imm = 0x248
+	.cfi_def_cfa_offset 640
 	.cfi_offset %rbx, -56
 	.cfi_offset %r12, -48
 	.cfi_offset %r13, -40
@@ -42425,7 +42425,7 @@
 	movq	$0, 16(%rsp)
 	leaq	72(%rsp), %rdi
 	xorl	%ebp, %ebp
-	movl	$1024, %edx                     # imm = 0x400
+	movl	$512, %edx                      # imm = 0x200
 	xorl	%esi, %esi
 	callq	memset@PLT
 	xorl	%r13d, %r13d
@@ -42992,7 +42992,7 @@
 .LBB98_48:                              # %return.15
 	movq	%r13, %rax
 	movq	%rbp, %rdx
-	addq	$1096, %rsp                     # imm = 0x448
+	addq	$584, %rsp                      # imm = 0x248
 	.cfi_def_cfa_offset 56
 	popq	%rbx
 	.cfi_def_cfa_offset 48

@@ -5359,28 +5359,28 @@ recoding_kernels_copy_damaged_47c24e65252a304d_113: # @recoding_kernels_copy_dam
 	.seh_pushreg %rbp
 	pushq	%rbx
 	.seh_pushreg %rbx
-	subq	$1288, %rsp                     # imm = 0x508
-	.seh_stackalloc 1288
-	movdqa	%xmm15, 1264(%rsp)              # 16-byte Spill
-	.seh_savexmm %xmm15, 1264
-	movdqa	%xmm14, 1248(%rsp)              # 16-byte Spill
-	.seh_savexmm %xmm14, 1248
-	movdqa	%xmm13, 1232(%rsp)              # 16-byte Spill
-	.seh_savexmm %xmm13, 1232
-	movdqa	%xmm12, 1216(%rsp)              # 16-byte Spill
-	.seh_savexmm %xmm12, 1216
-	movdqa	%xmm11, 1200(%rsp)              # 16-byte Spill
-	.seh_savexmm %xmm11, 1200
-	movdqa	%xmm10, 1184(%rsp)              # 16-byte Spill
-	.seh_savexmm %xmm10, 1184
-	movdqa	%xmm9, 1168(%rsp)               # 16-byte Spill
-	.seh_savexmm %xmm9, 1168
-	movdqa	%xmm8, 1152(%rsp)               # 16-byte Spill
-	.seh_savexmm %xmm8, 1152
-	movdqa	%xmm7, 1136(%rsp)               # 16-byte Spill
-	.seh_savexmm %xmm7, 1136
-	movdqa	%xmm6, 1120(%rsp)               # 16-byte Spill
-	.seh_savexmm %xmm6, 1120
+	subq	$776, %rsp                      # imm = 0x308
+	.seh_stackalloc 776
+	movdqa	%xmm15, 752(%rsp)               # 16-byte Spill
+	.seh_savexmm %xmm15, 752
+	movdqa	%xmm14, 736(%rsp)               # 16-byte Spill
+	.seh_savexmm %xmm14, 736
+	movdqa	%xmm13, 720(%rsp)               # 16-byte Spill
+	.seh_savexmm %xmm13, 720
+	movdqa	%xmm12, 704(%rsp)               # 16-byte Spill
+	.seh_savexmm %xmm12, 704
+	movdqa	%xmm11, 688(%rsp)               # 16-byte Spill
+	.seh_savexmm %xmm11, 688
+	movdqa	%xmm10, 672(%rsp)               # 16-byte Spill
+	.seh_savexmm %xmm10, 672
+	movdqa	%xmm9, 656(%rsp)                # 16-byte Spill
+	.seh_savexmm %xmm9, 656
+	movdqa	%xmm8, 640(%rsp)                # 16-byte Spill
+	.seh_savexmm %xmm8, 640
+	movdqa	%xmm7, 624(%rsp)                # 16-byte Spill
+	.seh_savexmm %xmm7, 624
+	movdqa	%xmm6, 608(%rsp)                # 16-byte Spill
+	.seh_savexmm %xmm6, 608
 	.seh_endprologue
 	movq	%r8, %rdi
 	movq	%rdx, %r13
@@ -5390,7 +5390,7 @@ recoding_kernels_copy_damaged_47c24e65252a304d_113: # @recoding_kernels_copy_dam
 	movq	$0, 64(%rsp)
 	xorl	%ebp, %ebp
 	leaq	96(%rsp), %rcx
-	movl	$1024, %r8d                     # imm = 0x400
+	movl	$512, %r8d                      # imm = 0x200
 	xorl	%edx, %edx
 	callq	memset
 	xorl	%eax, %eax
@@ -5991,17 +5991,17 @@ recoding_kernels_copy_damaged_47c24e65252a304d_113: # @recoding_kernels_copy_dam
 .LBB18_56:                              # %return.6
 	movq	%r12, %rax
 	movq	%rbp, %rdx
-	movaps	1120(%rsp), %xmm6               # 16-byte Reload
-	movaps	1136(%rsp), %xmm7               # 16-byte Reload
-	movaps	1152(%rsp), %xmm8               # 16-byte Reload
-	movaps	1168(%rsp), %xmm9               # 16-byte Reload
-	movaps	1184(%rsp), %xmm10              # 16-byte Reload
-	movaps	1200(%rsp), %xmm11              # 16-byte Reload
-	movaps	1216(%rsp), %xmm12              # 16-byte Reload
-	movaps	1232(%rsp), %xmm13              # 16-byte Reload
-	movaps	1248(%rsp), %xmm14              # 16-byte Reload
-	movaps	1264(%rsp), %xmm15              # 16-byte Reload
-	addq	$1288, %rsp                     # imm = 0x508
+	movaps	608(%rsp), %xmm6                # 16-byte Reload
+	movaps	624(%rsp), %xmm7                # 16-byte Reload
+	movaps	640(%rsp), %xmm8                # 16-byte Reload
+	movaps	656(%rsp), %xmm9                # 16-byte Reload
+	movaps	672(%rsp), %xmm10               # 16-byte Reload
+	movaps	688(%rsp), %xmm11               # 16-byte Reload
+	movaps	704(%rsp), %xmm12               # 16-byte Reload
+	movaps	720(%rsp), %xmm13               # 16-byte Reload
+	movaps	736(%rsp), %xmm14               # 16-byte Reload
+	movaps	752(%rsp), %xmm15               # 16-byte Reload
+	addq	$776, %rsp                      # imm = 0x308
 	popq	%rbx
 	popq	%rbp
 	popq	%rdi
@@ -6150,7 +6150,7 @@ utf_lanes_mending_mend_0a9db3908d7f4f9c_129: # @utf_lanes_mending_mend_0a9db3908
 	jb	.LBB19_11
 # %bb.2:                                # %then.3
                                         #   in Loop: Header=BB19_1 Depth=1
-	cmpq	$768, %r11                      # imm = 0x300
+	cmpq	$256, %r11                      # imm = 0x100
 	ja	.LBB19_11
 # %bb.3:                                # %join.5
                                         #   in Loop: Header=BB19_1 Depth=1
@@ -9449,28 +9449,28 @@ recoding_kernels_widen_damaged_6d28eb9c51c85cb7_162: # @recoding_kernels_widen_d
 	.seh_pushreg %rbp
 	pushq	%rbx
 	.seh_pushreg %rbx
-	subq	$1528, %rsp                     # imm = 0x5F8
-	.seh_stackalloc 1528
-	movdqa	%xmm15, 1504(%rsp)              # 16-byte Spill
-	.seh_savexmm %xmm15, 1504
-	movdqa	%xmm14, 1488(%rsp)              # 16-byte Spill
-	.seh_savexmm %xmm14, 1488
-	movdqa	%xmm13, 1472(%rsp)              # 16-byte Spill
-	.seh_savexmm %xmm13, 1472
-	movdqa	%xmm12, 1456(%rsp)              # 16-byte Spill
-	.seh_savexmm %xmm12, 1456
-	movdqa	%xmm11, 1440(%rsp)              # 16-byte Spill
-	.seh_savexmm %xmm11, 1440
-	movdqa	%xmm10, 1424(%rsp)              # 16-byte Spill
-	.seh_savexmm %xmm10, 1424
-	movdqa	%xmm9, 1408(%rsp)               # 16-byte Spill
-	.seh_savexmm %xmm9, 1408
-	movdqa	%xmm8, 1392(%rsp)               # 16-byte Spill
-	.seh_savexmm %xmm8, 1392
-	movdqa	%xmm7, 1376(%rsp)               # 16-byte Spill
-	.seh_savexmm %xmm7, 1376
-	movdqa	%xmm6, 1360(%rsp)               # 16-byte Spill
-	.seh_savexmm %xmm6, 1360
+	subq	$1016, %rsp                     # imm = 0x3F8
+	.seh_stackalloc 1016
+	movdqa	%xmm15, 992(%rsp)               # 16-byte Spill
+	.seh_savexmm %xmm15, 992
+	movdqa	%xmm14, 976(%rsp)               # 16-byte Spill
+	.seh_savexmm %xmm14, 976
+	movdqa	%xmm13, 960(%rsp)               # 16-byte Spill
+	.seh_savexmm %xmm13, 960
+	movdqa	%xmm12, 944(%rsp)               # 16-byte Spill
+	.seh_savexmm %xmm12, 944
+	movdqa	%xmm11, 928(%rsp)               # 16-byte Spill
+	.seh_savexmm %xmm11, 928
+	movdqa	%xmm10, 912(%rsp)               # 16-byte Spill
+	.seh_savexmm %xmm10, 912
+	movdqa	%xmm9, 896(%rsp)                # 16-byte Spill
+	.seh_savexmm %xmm9, 896
+	movdqa	%xmm8, 880(%rsp)                # 16-byte Spill
+	.seh_savexmm %xmm8, 880
+	movdqa	%xmm7, 864(%rsp)                # 16-byte Spill
+	.seh_savexmm %xmm7, 864
+	movdqa	%xmm6, 848(%rsp)                # 16-byte Spill
+	.seh_savexmm %xmm6, 848
 	.seh_endprologue
 	movq	%r8, %rdi
 	movq	%rdx, 40(%rsp)                  # 8-byte Spill
@@ -9480,7 +9480,7 @@ recoding_kernels_widen_damaged_6d28eb9c51c85cb7_162: # @recoding_kernels_widen_d
 	movq	$0, 64(%rsp)
 	xorl	%ebx, %ebx
 	leaq	336(%rsp), %rcx
-	movl	$1024, %r8d                     # imm = 0x400
+	movl	$512, %r8d                      # imm = 0x200
 	xorl	%edx, %edx
 	callq	memset
 	xorl	%r15d, %r15d
@@ -10123,17 +10123,17 @@ recoding_kernels_widen_damaged_6d28eb9c51c85cb7_162: # @recoding_kernels_widen_d
 .LBB27_51:                              # %return.15
 	movq	%r15, %rax
 	movq	%rbx, %rdx
-	movaps	1360(%rsp), %xmm6               # 16-byte Reload
-	movaps	1376(%rsp), %xmm7               # 16-byte Reload
-	movaps	1392(%rsp), %xmm8               # 16-byte Reload
-	movaps	1408(%rsp), %xmm9               # 16-byte Reload
-	movaps	1424(%rsp), %xmm10              # 16-byte Reload
-	movaps	1440(%rsp), %xmm11              # 16-byte Reload
-	movaps	1456(%rsp), %xmm12              # 16-byte Reload
-	movaps	1472(%rsp), %xmm13              # 16-byte Reload
-	movaps	1488(%rsp), %xmm14              # 16-byte Reload
-	movaps	1504(%rsp), %xmm15              # 16-byte Reload
-	addq	$1528, %rsp                     # imm = 0x5F8
+	movaps	848(%rsp), %xmm6                # 16-byte Reload
+	movaps	864(%rsp), %xmm7                # 16-byte Reload
+	movaps	880(%rsp), %xmm8                # 16-byte Reload
+	movaps	896(%rsp), %xmm9                # 16-byte Reload
+	movaps	912(%rsp), %xmm10               # 16-byte Reload
+	movaps	928(%rsp), %xmm11               # 16-byte Reload
+	movaps	944(%rsp), %xmm12               # 16-byte Reload
+	movaps	960(%rsp), %xmm13               # 16-byte Reload
+	movaps	976(%rsp), %xmm14               # 16-byte Reload
+	movaps	992(%rsp), %xmm15               # 16-byte Reload
+	addq	$1016, %rsp                     # imm = 0x3F8
 	popq	%rbx
 	popq	%rbp
 	popq	%rdi
@@ -13004,28 +13004,28 @@ recoding_kernels_widen_damaged_14d81c390063096d_221: # @recoding_kernels_widen_d
 	.seh_pushreg %rbp
 	pushq	%rbx
 	.seh_pushreg %rbx
-	subq	$1528, %rsp                     # imm = 0x5F8
-	.seh_stackalloc 1528
-	movdqa	%xmm15, 1504(%rsp)              # 16-byte Spill
-	.seh_savexmm %xmm15, 1504
-	movdqa	%xmm14, 1488(%rsp)              # 16-byte Spill
-	.seh_savexmm %xmm14, 1488
-	movdqa	%xmm13, 1472(%rsp)              # 16-byte Spill
-	.seh_savexmm %xmm13, 1472
-	movdqa	%xmm12, 1456(%rsp)              # 16-byte Spill
-	.seh_savexmm %xmm12, 1456
-	movdqa	%xmm11, 1440(%rsp)              # 16-byte Spill
-	.seh_savexmm %xmm11, 1440
-	movdqa	%xmm10, 1424(%rsp)              # 16-byte Spill
-	.seh_savexmm %xmm10, 1424
-	movdqa	%xmm9, 1408(%rsp)               # 16-byte Spill
-	.seh_savexmm %xmm9, 1408
-	movdqa	%xmm8, 1392(%rsp)               # 16-byte Spill
-	.seh_savexmm %xmm8, 1392
-	movdqa	%xmm7, 1376(%rsp)               # 16-byte Spill
-	.seh_savexmm %xmm7, 1376
-	movdqa	%xmm6, 1360(%rsp)               # 16-byte Spill
-	.seh_savexmm %xmm6, 1360
+	subq	$1016, %rsp                     # imm = 0x3F8
+	.seh_stackalloc 1016
+	movdqa	%xmm15, 992(%rsp)               # 16-byte Spill
+	.seh_savexmm %xmm15, 992
+	movdqa	%xmm14, 976(%rsp)               # 16-byte Spill
+	.seh_savexmm %xmm14, 976
+	movdqa	%xmm13, 960(%rsp)               # 16-byte Spill
+	.seh_savexmm %xmm13, 960
+	movdqa	%xmm12, 944(%rsp)               # 16-byte Spill
+	.seh_savexmm %xmm12, 944
+	movdqa	%xmm11, 928(%rsp)               # 16-byte Spill
+	.seh_savexmm %xmm11, 928
+	movdqa	%xmm10, 912(%rsp)               # 16-byte Spill
+	.seh_savexmm %xmm10, 912
+	movdqa	%xmm9, 896(%rsp)                # 16-byte Spill
+	.seh_savexmm %xmm9, 896
+	movdqa	%xmm8, 880(%rsp)                # 16-byte Spill
+	.seh_savexmm %xmm8, 880
+	movdqa	%xmm7, 864(%rsp)                # 16-byte Spill
+	.seh_savexmm %xmm7, 864
+	movdqa	%xmm6, 848(%rsp)                # 16-byte Spill
+	.seh_savexmm %xmm6, 848
 	.seh_endprologue
 	movq	%r8, %rdi
 	movq	%rdx, 40(%rsp)                  # 8-byte Spill
@@ -13035,7 +13035,7 @@ recoding_kernels_widen_damaged_14d81c390063096d_221: # @recoding_kernels_widen_d
 	movq	$0, 64(%rsp)
 	xorl	%ebx, %ebx
 	leaq	336(%rsp), %rcx
-	movl	$1024, %r8d                     # imm = 0x400
+	movl	$512, %r8d                      # imm = 0x200
 	xorl	%edx, %edx
 	callq	memset
 	xorl	%r15d, %r15d
@@ -13685,17 +13685,17 @@ recoding_kernels_widen_damaged_14d81c390063096d_221: # @recoding_kernels_widen_d
 .LBB34_51:                              # %return.15
 	movq	%r15, %rax
 	movq	%rbx, %rdx
-	movaps	1360(%rsp), %xmm6               # 16-byte Reload
-	movaps	1376(%rsp), %xmm7               # 16-byte Reload
-	movaps	1392(%rsp), %xmm8               # 16-byte Reload
-	movaps	1408(%rsp), %xmm9               # 16-byte Reload
-	movaps	1424(%rsp), %xmm10              # 16-byte Reload
-	movaps	1440(%rsp), %xmm11              # 16-byte Reload
-	movaps	1456(%rsp), %xmm12              # 16-byte Reload
-	movaps	1472(%rsp), %xmm13              # 16-byte Reload
-	movaps	1488(%rsp), %xmm14              # 16-byte Reload
-	movaps	1504(%rsp), %xmm15              # 16-byte Reload
-	addq	$1528, %rsp                     # imm = 0x5F8
+	movaps	848(%rsp), %xmm6                # 16-byte Reload
+	movaps	864(%rsp), %xmm7                # 16-byte Reload
+	movaps	880(%rsp), %xmm8                # 16-byte Reload
+	movaps	896(%rsp), %xmm9                # 16-byte Reload
+	movaps	912(%rsp), %xmm10               # 16-byte Reload
+	movaps	928(%rsp), %xmm11               # 16-byte Reload
+	movaps	944(%rsp), %xmm12               # 16-byte Reload
+	movaps	960(%rsp), %xmm13               # 16-byte Reload
+	movaps	976(%rsp), %xmm14               # 16-byte Reload
+	movaps	992(%rsp), %xmm15               # 16-byte Reload
+	addq	$1016, %rsp                     # imm = 0x3F8
 	popq	%rbx
 	popq	%rbp
 	popq	%rdi

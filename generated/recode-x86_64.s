@@ -5360,8 +5360,8 @@
 	.cfi_def_cfa_offset 48
 	pushq	%rbx
 	.cfi_def_cfa_offset 56
-	subq	$1112, %rsp                     # imm = 0x458
-	.cfi_def_cfa_offset 1168
+	subq	$600, %rsp                      # imm = 0x258
+	.cfi_def_cfa_offset 656
 	.cfi_offset %rbx, -56
 	.cfi_offset %r12, -48
 	.cfi_offset %r13, -40
@@ -5376,7 +5376,7 @@
 	movq	$0, 48(%rsp)
 	leaq	88(%rsp), %rdi
 	xorl	%r13d, %r13d
-	movl	$1024, %edx                     # imm = 0x400
+	movl	$512, %edx                      # imm = 0x200
 	xorl	%esi, %esi
 	callq	memset@PLT
 	leaq	8(%rbx), %rax
@@ -5992,7 +5992,7 @@
 .LBB18_57:                              # %return.6
 	movq	%rbx, %rax
 	movq	%r13, %rdx
-	addq	$1112, %rsp                     # imm = 0x458
+	addq	$600, %rsp                      # imm = 0x258
 	.cfi_def_cfa_offset 56
 	popq	%rbx
 	.cfi_def_cfa_offset 48
@@ -6127,7 +6127,7 @@
 	jb	.LBB19_11
 # %bb.2:                                # %then.3
                                         #   in Loop: Header=BB19_1 Depth=1
-	cmpq	$768, %r9                       # imm = 0x300
+	cmpq	$256, %r9                       # imm = 0x100
 	ja	.LBB19_11
 # %bb.3:                                # %join.5
                                         #   in Loop: Header=BB19_1 Depth=1
@@ -9344,8 +9344,8 @@
 	.cfi_def_cfa_offset 48
 	pushq	%rbx
 	.cfi_def_cfa_offset 56
-	subq	$1160, %rsp                     # imm = 0x488
-	.cfi_def_cfa_offset 1216
+	subq	$648, %rsp                      # imm = 0x288
+	.cfi_def_cfa_offset 704
 	.cfi_offset %rbx, -56
 	.cfi_offset %r12, -48
 	.cfi_offset %r13, -40
@@ -9360,7 +9360,7 @@
 	movq	$0, 112(%rsp)
 	leaq	136(%rsp), %rdi
 	xorl	%r14d, %r14d
-	movl	$1024, %edx                     # imm = 0x400
+	movl	$512, %edx                      # imm = 0x200
 	xorl	%esi, %esi
 	callq	memset@PLT
 	xorl	%r13d, %r13d
@@ -9998,7 +9998,7 @@
 .LBB27_51:                              # %return.15
 	movq	%r13, %rax
 	movq	%r14, %rdx
-	addq	$1160, %rsp                     # imm = 0x488
+	addq	$648, %rsp                      # imm = 0x288
 	.cfi_def_cfa_offset 56
 	popq	%rbx
 	.cfi_def_cfa_offset 48
@@ -12804,8 +12804,8 @@
 	.cfi_def_cfa_offset 48
 	pushq	%rbx
 	.cfi_def_cfa_offset 56
-	subq	$1160, %rsp                     # imm = 0x488
-	.cfi_def_cfa_offset 1216
+	subq	$648, %rsp                      # imm = 0x288
+	.cfi_def_cfa_offset 704
 	.cfi_offset %rbx, -56
 	.cfi_offset %r12, -48
 	.cfi_offset %r13, -40
@@ -12820,7 +12820,7 @@
 	movq	$0, 112(%rsp)
 	leaq	136(%rsp), %rdi
 	xorl	%r14d, %r14d
-	movl	$1024, %edx                     # imm = 0x400
+	movl	$512, %edx                      # imm = 0x200
 	xorl	%esi, %esi
 	callq	memset@PLT
 	xorl	%r13d, %r13d
@@ -13465,7 +13465,7 @@
 .LBB34_51:                              # %return.15
 	movq	%r13, %rax
 	movq	%r14, %rdx
-	addq	$1160, %rsp                     # imm = 0x488
+	addq	$648, %rsp                      # imm = 0x288
 	.cfi_def_cfa_offset 56
 	popq	%rbx
 	.cfi_def_cfa_offset 48

@@ -12,7 +12,7 @@ use crate::replacements::Mending;
 use std::simd::prelude::*;
 
 /// The capacity for the text, in bytes.
-pub const MADE: usize = 1024;
+pub const MADE: usize = 512;
 
 /// The number of bytes that have to be left for a window, since 64 bytes are copied from each of its offsets.
 pub const LEAST: usize = 128;

@@ -5,7 +5,7 @@ use Rattle.recoding.proofs.kernels.copy_damaged.Given as goal
 
 abbrev pub invariant-parts : goal.invariant-parts
 invariant-parts g l = record {
-  room : length l.made ≡ 1024;
+  room : length l.made ≡ 512;
   runs : Recodes g.O.Output.appends (g.F.Windowed.way l.by) form.Utf8 form.Utf8 l.bytes l.fn.out l.out l.read l.replaced;
 }
 

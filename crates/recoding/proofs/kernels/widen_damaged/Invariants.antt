@@ -6,7 +6,7 @@ use Rattle.recoding.proofs.kernels.widen_damaged.Given as goal
 
 abbrev pub invariant-parts : goal.invariant-parts
 invariant-parts g l = record {
-  room : length l.made ≡ 1024;
+  room : length l.made ≡ 512;
   runs : Recodes g.O.Output.appends (g.F.Windowed.way l.by) form.Utf8 (utf16_form g.E.ByteOrder.HIGH_FIRST) l.bytes l.fn.out l.out l.read l.replaced;
 }
 

@@ -4,7 +4,7 @@ use Rattle.utf_lanes.proofs.mending.put_window.Given as goal
 
 abbrev pub invariant-loop-marks : goal.invariant-loop-marks
 invariant-loop-marks g l = record {
-  room : length l.made ≡ 1024;
+  room : length l.made ≡ 512;
   window : InWindow g.M.Mending.subparts (g.M.Mending.shown l.by) l.bytes l.start l.window.len l.fn.done.len l.made l.marks l.done.read l.done.len l.done.replaced;
 }
 
