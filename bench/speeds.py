@@ -288,7 +288,9 @@ def edits():
     return table(["microseconds, median · worst", *sizes.values()], lines)
 
 
-DAMAGED = {"to-utf16": "to UTF-16, one U+FFFD for each maximal subpart", "to-utf8": "to UTF-8, one U+FFFD for each maximal subpart", "faults": "the list of errors"}
+DAMAGED = {"to-utf16": "UTF-8 to UTF-16, one U+FFFD for each maximal subpart", "to-utf8": "UTF-8 to UTF-8, one U+FFFD for each maximal subpart",
+           "faults": "the list of errors of UTF-8", "from-utf16": "UTF-16LE to UTF-8, one U+FFFD for each lone surrogate",
+           "swap-utf16": "UTF-16LE to UTF-16BE, one U+FFFD for each lone surrogate"}
 
 
 def damage():
@@ -302,16 +304,21 @@ def damage():
     return found
 
 
+def how_damaged(call, every):
+    """How much of an input of the call is damaged: of UTF-16 units are, and not bytes."""
+    one = "unit" if call in ("from-utf16", "swap-utf16") else "byte"
+    return f"one {one} in {every:,}" if every > 1 else "none" if every == 0 else "all of it"
+
+
 def damaged():
     """For each call and input the time of a byte for each side, and of an error."""
     found, lines = damage(), []
     for call, told in DAMAGED.items():
-        for (text, every), (errors, sides) in found[call].items():
+        for (text, every), (errors, sides) in found.get(call, {}).items():
             theirs = {side: ns for side, (ns, _) in sides.items() if side != "ours"}
             ns, each = sides["ours"]
             best = min(theirs, key=theirs.get)
-            spoiled = f"one byte in {every:,}" if every > 1 else "none" if every == 0 else "all of it"
-            lines.append([told, f"{text}, {spoiled}", f"{ns:.3f}", f"{theirs[best]:.3f} ({NAMES[best]})", marked_ratio(ns / theirs[best]), "–" if each is None else f"{each:.0f}",
+            lines.append([told, f"{text}, {how_damaged(call, every)}", f"{ns:.3f}", f"{theirs[best]:.3f} ({NAMES[best]})", marked_ratio(ns / theirs[best]), "–" if each is None else f"{each:.0f}",
                           ", ".join(f"{NAMES[it]} {theirs[it]:.2f}" for it in theirs if it != best) or "–"])
     return table(["call", "input, damaged", "ours", "best of theirs", "ratio", "ours, for an error", "others"], lines)
 
@@ -321,19 +328,19 @@ def text_of_damaged():
     found, lines = damage(), []
     for (text, every), (_, sides) in found["text"].items():
         ours = found["to-utf16"][text, every][1]["ours"][0]
-        spoiled = f"one byte in {every:,}" if every > 1 else "none" if every == 0 else "all of it"
-        lines.append([f"{text}, {spoiled}", f"{ours:.2f}", *(f"{sides[it][0]:.2f}" if it in sides else "–" for it in ("CPython", "TextDecoder"))])
+        lines.append([f"{text}, {how_damaged('text', every)}", f"{ours:.2f}", *(f"{sides[it][0]:.2f}" if it in sides else "–" for it in ("CPython", "TextDecoder"))])
     return table(["input, damaged", "ours, to UTF-16", "`bytes.decode`", "`TextDecoder`"], lines)
 
 
 def damaged_in_short():
-    """By call: the ratios of ours to the best of the others over all damaged inputs, and the time of an error where one byte in 100 or more is damaged."""
+    """By call: the ratios of ours to the best of the others over all damaged inputs, and the time of an error where one byte, or unit, in 100 or
+    more is damaged."""
     found, lines = damage(), []
-    for call, told in DAMAGED.items():
+    for call, told in ((it, told) for it, told in DAMAGED.items() if it in found):
         ratios, errors = {}, []
         for (text, every), (_, sides) in found[call].items():
             if every:
-                ratios[f"{text}, one byte in {every:,}" if every > 1 else text] = sides["ours"][0] / min(ns for side, (ns, _) in sides.items() if side != "ours")
+                ratios[f"{text}, {how_damaged(call, every)}" if every > 1 else text] = sides["ours"][0] / min(ns for side, (ns, _) in sides.items() if side != "ours")
                 errors += [] if sides["ours"][1] is None or every > 100 else [sides["ours"][1]]
         worst = max(ratios, key=ratios.get)
         lines.append([told, between(ratios.values()), f"{worst}: {marked_ratio(ratios[worst])}", f"{min(errors):.0f} to {max(errors):.0f}"])

@@ -1,13 +1,15 @@
 /* Calls the library for every input of one to four bytes, and of one or two units, and compares the results with a
- * matcher that is written here by hand: of bytes from the grammar of RFC 3629, section 4, of units from RFC 2781, section
- * 2.2. It shares nothing with the library.
+ * matcher that is written here by hand: of bytes from the grammar of RFC 3629, section 4, and from D93b of the Unicode standard, of
+ * units from RFC 2781, section 2.2. It shares nothing with the library.
  *
  *   exhaustive bytes FIRST LAST    inputs whose first byte is FIRST to LAST
  *   exhaustive units FIRST LAST    inputs whose first unit has FIRST to LAST as its high byte
+ *   exhaustive texts FIRST LAST    four bytes, of which the first is FIRST to LAST, in longer texts, which are decoded in blocks
  *
-  * For each input: the run from the front, the piece at its end, the first kind of a reader of one byte at a time, the first
-  * fault, and the converted input. The other pieces from the end, or for such a reader, are tested with the shorter inputs
-  * that are left then. Prints each input that differs, up to twenty, and then `N inputs, M differ`.
+ * For each input of bytes or units: the run from the front, the piece at its end, the first kind of a reader of one byte at a time, the
+ * first fault, and the converted input. The other pieces from the end, or for such a reader, are tested with the shorter inputs
+ * that are left then. For each text: the first fault, all faults, and the text converted to UTF-8 and UTF-16LE with one
+ * U+FFFD for each maximal subpart. Prints each input that differs, up to twenty, and then `N inputs, M differ`.
  */
 #include "noddychest.h"
 
@@ -15,7 +17,12 @@
 #include <stdlib.h>
 #include <string.h>
 
-enum { MOST = 4, RECODED = 32, SHOWN = 20 };
+enum { MOST = 4, RECODED = 32, SHOWN = 20, AROUND = 160 };
+
+/* Where the four bytes are in a text of AROUND bytes: at the front of a block of 64 bytes, inside one, and over the end of one. */
+static const size_t PLACES[] = {0, 30, 62};
+/* What fills the rest of the text: a character of each length. */
+static const char *const FILLED[] = {"a", "\xD1\x8F", "\xE5\xAD\x97", "\xF0\x9F\x98\x80"};
 
 static unsigned long long inputs, differ;
 
@@ -210,6 +217,75 @@ static int is_units_right(const uint16_t *w, size_t len) {
     return holds && nody_utf16_valid_up_to(w, len) == first_fault(cut, count, len) && recodes(NODY_UTF16BE, NODY_UTF8, bytes, size, cut, count);
 }
 
+/* How many bytes at a fault are a maximal subpart: the longest front of some UTF8-char, and at least one byte. */
+static size_t subpart(const uint8_t *b) {
+    unsigned low = b[0] == 0xE0 ? 0xA0 : b[0] == 0xF0 ? 0x90 : 0x80, high = b[0] == 0xED ? 0x9F : b[0] == 0xF4 ? 0x8F : 0xBF;
+    if (announced(b[0]) < 3 || !in(b[1], low, high)) return 1;
+    return announced(b[0]) == 4 && tail(b[2]) ? 3 : 2;
+}
+
+/* A text without the four bytes, and what is before and after them if it is converted to UTF-8 and to UTF-16LE. */
+typedef struct {
+    uint8_t bytes[AROUND], before[2][2 * AROUND], after[2][2 * AROUND];
+    size_t place, before_len[2], after_len[2];
+} text;
+
+static size_t put(uint32_t scalar, int is_utf16, uint8_t *out) { return is_utf16 ? put_utf16(scalar, 0, out) : put_utf8(scalar, out); }
+
+/* Fills a part of the text with characters. (ASCII is before them where the last one would not fit) */
+static void fill(uint8_t *bytes, size_t len, const char *filled, uint8_t out[2][2 * AROUND], size_t made[2]) {
+    const uint8_t *one = (const uint8_t *)filled;
+    size_t size = strlen(filled);
+    made[0] = made[1] = 0;
+    for (size_t at = 0; at < len; at += at < len % size ? 1 : size) {
+        const uint8_t *taken = at < len % size ? (const uint8_t *)FILLED[0] : one;
+        size_t n = utf8_char(taken, strlen((const char *)taken));
+        memcpy(bytes + at, taken, n);
+        for (int it = 0; it < 2; it++) made[it] += put(utf8_scalar(taken, n), it, out[it] + made[it]);
+    }
+}
+
+static void fill_text(text *t, size_t place, const char *filled) {
+    t->place = place;
+    fill(t->bytes, place, filled, t->before, t->before_len);
+    fill(t->bytes + place + MOST, AROUND - place - MOST, filled, t->after, t->after_len);
+}
+
+/* Whether the text is converted as it should be: what the four bytes become is between what is before and after them. */
+static int is_lossy_right(const text *t, const uint8_t *middle, size_t len, int is_utf16) {
+    uint8_t given[4 * AROUND];
+    size_t written, before = t->before_len[is_utf16], after = t->after_len[is_utf16];
+    nody_encoding_t to = is_utf16 ? NODY_UTF16LE : NODY_UTF8;
+    nody_status_t status = nody_recode_lossy(NODY_UTF8, to, t->bytes, AROUND, given, sizeof given, &written);
+    return status == NODY_STATUS_DONE && written == before + len + after && memcmp(given, t->before[is_utf16], before) == 0 &&
+           memcmp(given + before, middle, len) == 0 && memcmp(given + before + len, t->after[is_utf16], after) == 0;
+}
+
+/* Compares all calls for a text that has the four bytes; a character begins after them, so none of theirs reaches over their end. */
+static int is_text_right(const text *t) {
+    piece cut[2 * MOST];
+    nody_located_t faults[MOST + 1];
+    nody_bytes_t left = nody_bytes(t->bytes, AROUND);
+    uint64_t offset = 0;
+    uint8_t middle[2][RECODED];
+    const uint8_t *four = t->bytes + t->place;
+    size_t count = nody_utf8_faults(&left, &offset, faults, MOST + 1), seen = 0, made[2] = {0, 0}, skipped = 0, first = AROUND;
+    size_t pieces = cut_bytes(four, 2 * MOST, cut);
+    for (size_t i = 0; i < pieces && cut[i].start < MOST; i++) {
+        int is_fault = cut[i].kind != NODY_KIND_OK;
+        if (is_fault) {
+            const nody_located_t *given = &faults[seen];
+            if (seen == 0) first = t->place + cut[i].start;
+            if (seen++ == count || given->offset != t->place + cut[i].start || given->len != 1 || given->kind != cut[i].kind) return 0;
+        }
+        if (cut[i].start < skipped) continue;
+        if (is_fault) skipped = cut[i].start + subpart(four + cut[i].start);
+        for (int it = 0; it < 2; it++) made[it] += put(is_fault ? 0xFFFD : cut[i].scalar, it, middle[it] + made[it]);
+    }
+    return count == seen && left.len == 0 && nody_utf8_valid_up_to(t->bytes, AROUND) == first && is_lossy_right(t, middle[0], made[0], 0) &&
+           is_lossy_right(t, middle[1], made[1], 1);
+}
+
 static void add(int holds, const char *what, uint32_t input, size_t len) {
     inputs++;
     if (!holds && differ++ < SHOWN) printf("differs: %s %0*x\n", what, (int)len, input);
@@ -226,6 +302,28 @@ static void all_bytes(uint32_t first) {
         for (uint32_t i = 0; i < (uint32_t)1 << 8 * (len - 1); i++) add_bytes(first << 8 * (len - 1) | i, len);
 }
 
+/* Whether the four bytes of a text may have this one: every byte from C0 on, of the continuation bytes those that end in 0, 5, A or F,
+ * and four ASCII characters. The others are in the ranges of these in the grammar. */
+static int is_tried(uint32_t byte) {
+    return byte >= 0xC0 || (byte >= 0x80 && byte % 16 % 5 == 0) || byte == 0x00 || byte == 0x0A || byte == 0x41 || byte == 0x7F;
+}
+
+static void all_texts(uint32_t first) {
+    enum { KINDS = sizeof PLACES / sizeof *PLACES * (sizeof FILLED / sizeof *FILLED) };
+    static text texts[KINDS];
+    for (size_t i = 0; i < KINDS; i++) fill_text(&texts[i], PLACES[i % 3], FILLED[i / 3]);
+    for (uint32_t second = 0; second < 256; second++)
+        for (uint32_t third = 0; third < 256; third++)
+            for (uint32_t fourth = 0; fourth < 256; fourth++) {
+                uint8_t four[MOST] = {(uint8_t)first, (uint8_t)second, (uint8_t)third, (uint8_t)fourth};
+                if (!is_tried(first) || !is_tried(second) || !is_tried(third) || !is_tried(fourth)) continue;
+                for (size_t i = 0; i < KINDS; i++) {
+                    memcpy(texts[i].bytes + texts[i].place, four, MOST);
+                    add(is_text_right(&texts[i]), "texts", first << 24 | second << 16 | third << 8 | fourth, 2 * MOST);
+                }
+            }
+}
+
 static void all_units(uint32_t high) {
     for (uint32_t i = 0; i < 1 << 8; i++) {
         uint16_t w[2] = {(uint16_t)(high << 8 | i), 0};
@@ -238,14 +336,18 @@ static void all_units(uint32_t high) {
 }
 
 int main(int count, char **words) {
-    int is_units = count == 4 && strcmp(words[1], "units") == 0;
-    if (count != 4 || !(is_units || strcmp(words[1], "bytes") == 0)) {
-        fprintf(stderr, "usage: exhaustive bytes|units FIRST LAST\n");
+    static const struct {
+        const char *name;
+        void (*all)(uint32_t first);
+    } kinds[] = {{"bytes", all_bytes}, {"units", all_units}, {"texts", all_texts}};
+    size_t kind = 0;
+    while (kind < 3 && (count != 4 || strcmp(words[1], kinds[kind].name) != 0)) kind++;
+    if (kind == 3) {
+        fprintf(stderr, "usage: exhaustive bytes|units|texts FIRST LAST\n");
         return 2;
     }
     uint32_t last = (uint32_t)strtoul(words[3], NULL, 0);
-    for (uint32_t first = (uint32_t)strtoul(words[2], NULL, 0); first <= last && first < 256; first++)
-        is_units ? all_units(first) : all_bytes(first);
+    for (uint32_t first = (uint32_t)strtoul(words[2], NULL, 0); first <= last && first < 256; first++) kinds[kind].all(first);
     printf("%llu inputs, %llu differ\n", inputs, differ);
     return differ != 0;
 }

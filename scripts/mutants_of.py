@@ -12,7 +12,7 @@ import subprocess
 import sys
 import threading
 
-from sources import LIBRARIES, TOP, Function, functions_in, functions_of
+from sources import LIBRARIES, TOP, Function, crates, files_of, functions_in, functions_of, read, used_by
 
 LOCK = f"{TOP}/scripts/mutants.lock"
 LOCK_HEAD = "# Crates whose mutants the prover rejects all: the crate, a sum of what that depends on, and how many. Made by scripts/mutants --write.\n"
@@ -38,21 +38,9 @@ def say(text):
         print(f"mutants: {text}", flush=True)
 
 
-def read(path):
-    with open(path, encoding="utf-8", newline="") as file:
-        return file.read()
-
-
-@functools.cache
-def crates():
-    """The line of each crate in crates.txt, lowest first."""
-    lines = [it.partition("#")[0].strip() for it in read(f"{TOP}/crates.txt").split("\n")]
-    return {re.match(r"\w+", it)[0]: it for it in lines if it}
-
-
 def below(crate):
     """The crates that it uses, those that these use too."""
-    found = [it for it in crates()[crate].partition(":")[2].split() if it in crates()]
+    found = [it for it in used_by(crate) if it in crates()]
     return [*dict.fromkeys([*found, *(low for it in found for low in below(it))])]
 
 
@@ -77,7 +65,7 @@ class Mutant:
         """What it changes: functions, and of other items the names."""
         found = []
         for path, old, _ in self.pairs:
-            before = read(f"{TOP}/crates/{self.crate}/{path}").partition(old)[0]
+            before = read(f"crates/{self.crate}/{path}").partition(old)[0]
             inside = [it for it in functions_in(self.crate, path) if before.count("\n") in it.lines]
             named = re.findall(r"^[ \t]*(?:pub(?:\([^)]*\))? )?(?:static|const|struct|enum) (\w+)", f"{before}{old}", re.M)
             found.append(inside[0] if inside else named[-1] if named else path)
@@ -98,7 +86,7 @@ def has_mutants(crate):
 
 def mutants_of(crate, text=None):
     """The mutants of a crate, in the order of its file."""
-    text, found, file, old = read(f"{TOP}/{path_of(crate)}") if text is None else text, {}, "", None
+    text, found, file, old = read(path_of(crate)) if text is None else text, {}, "", None
     for number, line in enumerate(text.split("\n"), 1):
         key, _, value = line.partition(": ")
         is_fenced, of = re.fullmatch(r"\|.*\|", value), [*found.values()][-1:]
@@ -130,7 +118,7 @@ def write(path, text):
 
 def write_goals(crate, goals):
     """Writes for each of these names where the mutant is rejected, or that it is not."""
-    blocks = read(f"{TOP}/{path_of(crate)}").split("\n\n")
+    blocks = read(path_of(crate)).split("\n\n")
     for at, block in enumerate(blocks):
         name = re.search(r"^mutant: (.*)$", block, re.M)
         if name and name[1] in goals:
@@ -194,20 +182,14 @@ def public(crate, path, text):
     return [*items(bare(path, TACTIC.sub("", "\n".join(lines)))), *sorted("\n".join(bare(path, it)) for it in heads)]
 
 
-def texts_of(crate, parts):
-    for part in parts:
-        for at, folders, names in os.walk(f"{TOP}/crates/{crate}/{part}"):
-            folders.sort()
-            for name in sorted(names):
-                if name.endswith((".rt", ".antt")) and name != "tests.rt":
-                    path = os.path.relpath(f"{at}/{name}", f"{TOP}/crates/{crate}")
-                    yield path, read(f"{at}/{name}")
+def texts_of(crate, *parts):
+    return [(it, read(f"crates/{crate}/{it}")) for part in parts for it in files_of(crate, part, (".rt", ".antt"))]
 
 
 def fingerprint(crate):
     """A sum over all that decides whether the mutants of the crate are rejected."""
-    own = [(path, items(bare(path, text)) if path.endswith(".rt") else [*bare(path, text)]) for path, text in texts_of(crate, ("src", "specs", "proofs"))]
-    low = [(it, path, public(it, path, text) if path.endswith(".rt") else [*bare(path, text)]) for it in sorted(below(crate)) for path, text in texts_of(it, ("src", "specs"))]
+    own = [(path, items(bare(path, text)) if path.endswith(".rt") else [*bare(path, text)]) for path, text in texts_of(crate, "src", "specs", "proofs")]
+    low = [(it, path, public(it, path, text) if path.endswith(".rt") else [*bare(path, text)]) for it in sorted(below(crate)) for path, text in texts_of(it, "src", "specs")]
     listed = [" ".join(crates()[it].split()) for it in sorted([crate, *below(crate)])]
     return hashlib.sha256(repr((logic(), listed, own, low, sorted(repr((it.name, it.pairs)) for it in mutants_of(crate)))).encode()).hexdigest()[:32]
 
@@ -253,7 +235,7 @@ def lint():
     """Names mutants that cannot be applied, and public functions that no mutant changes."""
     every = [it for crate in LIBRARIES for it in functions_of(crate)]
     edits = [it for crate in crates() for it in edits_of(crate)]
-    text_of = lambda crate: lambda path: read(f"{TOP}/crates/{crate}/{path}")
+    text_of = lambda crate: lambda path: read(f"crates/{crate}/{path}")
     problems = [f"{it.crate}/{it.name}: an `old` text is not once in its file" for it in edits if it.applied({}, text_of(it.crate)) is None]
     key = lambda it: (it.crate, it.file, it.lines.start) if isinstance(it, Function) else it
     changed, asked = {key(place) for it in edits for place in it.changed}, [it for it in every if needs_mutant(it)]

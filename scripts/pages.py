@@ -1,11 +1,11 @@
-"""Reads the documents: their fenced blocks, links and words in backticks. scripts/documents uses it."""
+"""Reads the documents: their fenced blocks, links and words in backticks; and writes those, and pictures, that scripts make."""
 import functools
 import os
 import re
 import sys
 from typing import NamedTuple
 
-TOP = os.path.dirname(os.path.dirname(os.path.abspath(__file__)))
+from sources import TOP, read
 
 
 def below(folder):
@@ -23,11 +23,6 @@ def pages():
     """Every document, as a path from the top."""
     of_parts = [f"{it}/README.md" for it in ("bench", "c", "page", "python", "rust", "js", "packaging", "rust/eraser", "generated") if os.path.isfile(f"{TOP}/{it}/README.md")]
     return [*sorted(it for it in os.listdir(TOP) if it.endswith(".md")), *below("docs"), "bench/TABLES.md", *of_parts]
-
-
-def read(page):
-    with open(f"{TOP}/{page}", encoding="utf-8") as file:
-        return file.read()
 
 
 def parser():
@@ -80,3 +75,29 @@ def anchors(path):
     text = read(path)
     headings = re.findall(r"^#+ +(.*?) *$", re.sub(r"^```.*?^```$", "", text, flags=re.M | re.S), re.M)
     return {slug(it) for it in headings} | set(re.findall(r'<a id="([\w-]+)">', text))
+
+
+def made(name, document, words, make):
+    """The command of a script that writes files. `make` returns their texts, None for one that is there no more; what is wrong; and how many
+    things hold. With --stale nothing is written, and what is not up to date is wrong."""
+    if words not in ([], ["--stale"]):
+        is_help = words in (["--help"], ["-h"])
+        print(document, file=sys.stdout if is_help else sys.stderr)
+        return 0 if is_help else 2
+    texts, wrong, passed = make()
+    is_there = lambda it: os.path.isfile(f"{TOP}/{it}")
+    old = [it for it, text in texts.items() if (read(it) if is_there(it) else None) != text]
+    wrong += [f"{it} is not what the sources say: run scripts/{name}" for it in old if words]
+    for it in wrong:
+        print(f"{name}: {it}")
+    if words:
+        print(f"{passed + (not old)} passed, {len(wrong)} failed")
+    elif not wrong:
+        for it in old:
+            if texts[it] is None:
+                os.remove(f"{TOP}/{it}")
+            else:
+                os.makedirs(os.path.dirname(f"{TOP}/{it}"), exist_ok=True)
+                with open(f"{TOP}/{it}", "w", encoding="utf-8", newline="") as file:
+                    file.write(texts[it])
+    return 1 if wrong else 0

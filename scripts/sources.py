@@ -1,4 +1,5 @@
-"""Reads the functions of the crates out of their sources, as `rt fmt` lays them out."""
+"""Reads the crates: their list, their files, and the functions in their sources, as `rt fmt` lays them out."""
+import functools
 import os
 import re
 
@@ -7,6 +8,61 @@ LIBRARIES = ("utf_base", "utf_chars", "utf_lanes", "encode_unicode", "recoding",
 # The crates of callers.
 CALLERS = ("examples", "run_examples")
 HEAD = re.compile(r'^(pub(?:\([^)]*\))? )?(?:(?:const|unsafe|final|extern "C") )*(fn|impl|trait)\b(.*)')
+
+
+def read(path):
+    """A file, by its path from the top of the repository, with its own ends of lines."""
+    with open(os.path.join(TOP, path), encoding="utf-8", newline="") as file:
+        return file.read()
+
+
+@functools.cache
+def crates():
+    """The line of each crate in crates.txt, lowest first."""
+    lines = [it.partition("#")[0].strip() for it in read("crates.txt").split("\n")]
+    return {re.match(r"\w+", it)[0]: it for it in lines if it}
+
+
+def used_by(crate):
+    """The libraries that crates.txt names for it, also those of the toolchain."""
+    return crates()[crate].partition(":")[2].split()
+
+
+def files_of(crate, part, endings=(".rt",)):
+    """The files in a part of a crate, folder by folder, but for its tests."""
+    for at, folders, names in os.walk(f"{TOP}/crates/{crate}/{part}"):
+        folders.sort()
+        yield from (os.path.relpath(f"{at}/{it}", f"{TOP}/crates/{crate}") for it in sorted(names) if it.endswith(endings) and it != "tests.rt")
+
+
+def module_of(file):
+    """The modules that a file is, as the prover's path for what it has names them."""
+    path = file.removeprefix("src/").removesuffix(".rt")
+    return () if path == "lib" else tuple(path.split("/"))
+
+
+@functools.cache
+def passed_on(crate):
+    """What a crate passes on by `pub use`: by its name, pairs of the module that has it and one of the crate's where users find it; and the
+    modules of the crate that are public."""
+    names, modules = {}, {()}
+    # (the items of the crate's root are named there)
+    for file in sorted(files_of(crate, "src"), key=lambda it: it != "src/lib.rt"):
+        above, text = module_of(file), read(f"crates/{crate}/{file}")
+        modules |= {(*above, it) for it in re.findall(r"^pub mod (\w+);", text, re.M)}
+        inner = [(m.start(), m.end() + text[m.end() :].index("\n}"), m[1]) for m in re.finditer(r"^pub mod (\w+) \{", text, re.M)]
+        for found in re.finditer(r"^\s*pub use ([\w:]+)::(\{[^}]*\}|\w+);", text, re.M):
+            at = next((name for first, last, name in inner if first < found.start() < last), None)
+            start = found[1].removeprefix("crate::")
+            start = start if start.split("::")[0] in LIBRARIES else "::".join([crate, *above, start])
+            for name in re.findall(r"\w+", found[2]):
+                names.setdefault(name, []).append((start, (*above, at) if at else above))
+    return names, modules
+
+
+def is_reachable(crate, module):
+    """Whether the module is public, and each that it is in."""
+    return all(tuple(module[:end]) in passed_on(crate)[1] for end in range(len(module) + 1))
 
 
 class Function:
@@ -19,9 +75,7 @@ class Function:
         self.lines = range(0)
 
     def module(self):
-        """Its modules, as the prover's path for it has them."""
-        path = self.file.removeprefix("src/").removesuffix(".rt")
-        return [] if path == "lib" else path.split("/")
+        return [*module_of(self.file)]
 
     def owner_words(self):
         """The trait of its impl, what follows that in brackets, and the type; or of a trait its name alone."""
@@ -98,14 +152,7 @@ def indent_of(line):
 
 def functions_of(crate):
     """The functions of a crate, but for its tests, file by file."""
-    found = []
-    for at, folders, files in os.walk(f"{TOP}/crates/{crate}/src"):
-        folders.sort()
-        for name in sorted(files):
-            path = os.path.relpath(f"{at}/{name}", f"{TOP}/crates/{crate}")
-            if name.endswith(".rt") and name != "tests.rt":
-                found += functions_in(crate, path)
-    return found
+    return [it for path in files_of(crate, "src") for it in functions_in(crate, path)]
 
 
 def function_at(crate, file, line):
@@ -115,8 +162,7 @@ def function_at(crate, file, line):
 
 
 def functions_in(crate, path):
-    with open(f"{TOP}/crates/{crate}/{path}", encoding="utf-8") as file:
-        lines = file.read().split("\n")
+    lines = read(f"crates/{crate}/{path}").split("\n")
     found, owner, document, in_trait, of_owner, ghosts = [], "", [], False, [], []
     for number, line in enumerate(lines):
         head, text = HEAD.match(line.strip()), line.strip()

@@ -1,4 +1,4 @@
-"""Pictures as SVG: shapes, and a panel with a frame. scripts/draw-cut, scripts/draw-map and bench/plots draw by it."""
+"""Pictures as SVG: shapes, and a panel with a frame. scripts/draw and bench/plots draw by it."""
 import html
 
 SANS = "DejaVu Sans, Verdana, sans-serif"
