@@ -157,7 +157,7 @@ struct source {
     struct stat about; /* when it was opened or, if it is followed, last read */
     off_t origin;      /* where the input begins in the file */
     uint64_t at;       /* the offset of the next block */
-    size_t held, mark;
+    size_t held, mark; /* the length of a byte order mark that named the encoding, once it was read */
     uint8_t holds[MOST_HELD];
 };
 

@@ -128,30 +128,42 @@ static int make_unfinished(char *name, bool is_new) {
 
 /* ---- Files that are replaced */
 
-/* Gives a file the owner and group of another one, as far as that is allowed, and returns the mode that it may then have: never setuid or
- * setgid for an owner or a group that is not the other file's. */
-static mode_t take_owner(int file, const struct stat *about) {
+/* Gives a new file the extended attributes of another one: those of users, its label of SELinux, and its access control list, or none. Takes
+ * permissions from the mode if the list cannot be given, or the new file has another group: the bits of the group are the mask of the list,
+ * and others may be those whom it excludes. Returns false if an attribute of users would be lost. */
+static bool take_attributes(int file, const char *name, bool has_group, mode_t *mode) {
+#ifdef __linux__
+    static const char list[] = "system.posix_acl_access";
+    static char names[1 << 16], value[1 << 16]; /* (as long as Linux lets them be) */
+    ssize_t len = listxattr(name, names, sizeof names);
+    fremovexattr(file, list); /* (one that the folder gave it) */
+    for (const char *it = names; it < names + len; it += strlen(it) + 1) {
+        bool is_list = strcmp(it, list) == 0, is_users = strncmp(it, "user.", 5) == 0;
+        if (!is_list && !is_users && strcmp(it, "security.selinux") != 0) continue;
+        ssize_t size = getxattr(name, it, value, sizeof value);
+        bool is_taken = size >= 0 && fsetxattr(file, it, value, (size_t)size, 0) == 0;
+        if (is_users && !is_taken) return false;
+        if (is_list && !(is_taken && has_group)) *mode &= ~(mode_t)077;
+    }
+#else
+    (void)file, (void)name, (void)has_group, (void)mode;
+#endif
+    return true;
+}
+
+/* Gives a new file the owner, the group, the permissions and the attributes of another one, as far as that is allowed. With another owner or
+ * group it is never setuid or setgid. With another group, that group and others may do what both could: each of the two now has users who
+ * belonged to the other. */
+static bool take_permissions(int file, const char *name, const struct stat *about) {
     struct stat now;
+    mode_t mode = about->st_mode & 07777, both = mode & mode >> 3 & 07;
     if (fchown(file, about->st_uid, about->st_gid) != 0 && fchown(file, (uid_t)-1, about->st_gid) != 0) {
         /* (it is then one of who runs this) */
     }
-    bool is_same = fstat(file, &now) == 0 && now.st_uid == about->st_uid && now.st_gid == about->st_gid;
-    return about->st_mode & (is_same ? 07777 : 01777);
-}
-
-/* Gives a new file the access control list that another one has, or none, and returns the mode that it may then have. (the bits of the group
- * are the mask of a list: without the list, the group would get what others were given) */
-static mode_t take_list(int file, const char *name, mode_t mode) {
-#ifdef __linux__
-    static const char list[] = "system.posix_acl_access";
-    static char entries[1 << 16];
-    ssize_t len = getxattr(name, list, entries, sizeof entries);
-    if (len <= 0) fremovexattr(file, list); /* (one that the folder gave it) */
-    else if (fsetxattr(file, list, entries, (size_t)len, 0) != 0) mode &= ~(mode_t)070;
-#else
-    (void)file, (void)name;
-#endif
-    return mode;
+    bool has_group = fstat(file, &now) == 0 && now.st_gid == about->st_gid;
+    if (!has_group) mode = (mode & 01700) | both << 3 | both;
+    if (!has_group || now.st_uid != about->st_uid) mode &= 01777;
+    return take_attributes(file, name, has_group, &mode) && fchmod(file, mode) == 0;
 }
 
 /* Makes a file in the folder of the name, with the mode and where possible the owner that the name has. (its own name is short, since that
@@ -164,7 +176,7 @@ bool make_temporary(struct replacement *it, const struct stat *about) {
     memcpy(it->temporary, it->name, folder);
     memcpy(it->temporary + folder, ending, sizeof ending);
     it->file = make_unfinished(it->temporary, !about);
-    return it->file >= 0 && (!about || fchmod(it->file, take_list(it->file, it->name, take_owner(it->file, about))) == 0);
+    return it->file >= 0 && (!about || take_permissions(it->file, it->name, about));
 }
 
 /* Sees to it that the new name is there after a failure of power. (not all systems can, and the file itself is then safe) */

@@ -53,10 +53,11 @@ static void tell_first(struct run *run, struct worker *worker) {
     flush_output(&err);
 }
 
-/* Returns true if a block became itself. */
-static bool is_same(const struct worker *worker) {
+/* Returns true if a block became itself. (a mark that is left out is put again by --bom, if it is that of the output) */
+static bool is_same(const struct request *request, const struct worker *worker) {
     const struct block *block = &worker->block;
-    return block->mark == 0 && worker->made_len == block->end && memcmp(worker->made, block->bytes, block->end) == 0;
+    bool is_mark_kept = block->mark == 0 || (request->has_mark && block->encoding == request->to);
+    return is_mark_kept && worker->made_len == block->end - block->mark && memcmp(worker->made, block->bytes + block->mark, worker->made_len) == 0;
 }
 
 /* Puts the byte order mark at the front, unless the text begins with one. (the first blocks may become nothing) */
@@ -66,15 +67,15 @@ static void put_mark(struct run *run, const struct worker *worker) {
     size_t len = strlen(mark);
     if (!run->request->has_mark || run->has_output) return;
     run->has_output = true;
-    if (worker && worker->made_len >= len && memcmp(worker->made, mark, len) == 0) return;
-    put(run->out, mark, len);
-    run->is_same = false;
+    bool is_there = worker && worker->made_len >= len && memcmp(worker->made, mark, len) == 0;
+    if (!is_there) put(run->out, mark, len);
+    run->is_same = run->is_same && is_there == (run->source.mark == 0);
 }
 
 static void put_recoded(struct run *run, struct worker *worker) {
     if (worker->made_len > 0) put_mark(run, worker);
     put(run->out, worker->made, worker->made_len);
-    run->is_same = run->is_same && is_same(worker);
+    run->is_same = run->is_same && is_same(run->request, worker);
     run->invalid += run->request->errors == STRICT ? worker->count : worker->replaced;
     if (worker->count) tell_first(run, worker);
 }

@@ -111,7 +111,7 @@ static void fill(struct source *source, struct block *block) {
         block->len += read_some(source, block->bytes + block->len, BLOCK);
         if (source->is_idle) return;
         if (block->len < least && !source->has_ended) continue;
-        if (least == 3) block->mark = nody_encoding_of_bom(block->bytes, block->len, &source->encoding);
+        if (least == 3) block->mark = source->mark = nody_encoding_of_bom(block->bytes, block->len, &source->encoding);
         block->end = block->len - (source->has_ended ? 0 : undecided_len(source->encoding, block->bytes, block->len));
     }
 }

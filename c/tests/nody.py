@@ -515,6 +515,7 @@ def check_replaced(folder, program):
     expect(sorted(os.listdir(place)) == ["link", "new", "out", "text"], f"what is left: {os.listdir(place)}")
     check_owners(place, program)
     check_lists(place, program)
+    check_attributes(place, program)
     check_descriptors(place, program)
     check_limits(place, program)
 
@@ -537,14 +538,16 @@ def check_owners(place, program):
     os.mkdir(shared)
     os.chown(shared, 65534, 12345)
     os.chmod(shared, 0o2755)
-    for owner, group, mode, user in ((0, 0, 0o6755, 0), (7, 8, 0o4640, 0), (0, 12345, 0o4754, 65534), (65534, 0, 0o2754, 65534)):
+    # (what a group that is lost could do, and others could not, neither of the two may do)
+    for owner, group, mode, user, left in ((0, 0, 0o6755, 0, 0o6755), (7, 8, 0o4640, 0, 0o4640), (0, 12345, 0o4754, 65534, 0o754), (65534, 0, 0o2754, 65534, 0o744),
+                                           (65534, 0, 0o660, 65534, 0o600), (65534, 0, 0o606, 65534, 0o600), (0, 0, 0o1777, 65534, 0o1777), (0, 0, 0o664, 65534, 0o644)):
         with open(name, "wb") as file:
             file.write(b"text\xff")
         os.chown(name, owner, group)
         os.chmod(name, mode)
         says([program, "recode", "-q", "--in-place", name], 0, b"", b"", user=user, group=12345 if user else 0, extra_groups=[])
         about = os.stat(name)
-        want = (owner, group, mode) if user == 0 else (65534, 12345, mode & 0o777)
+        want = (owner, group, left) if user == 0 else (65534, 12345, left)
         expect((about.st_uid, about.st_gid, about.st_mode & 0o7777) == want, f"a file of {owner}:{group} {oct(mode)}: {about}, not {want}")
     os.chown(name, 0, 0)
     says([program, "recode", name, "-o", name], 3, b"", f"nody: {name}: Permission denied\n".encode(), user=65534)
@@ -582,10 +585,44 @@ def check_lists(place, program):
             expect((os.listxattr(name), os.stat(name).st_mode) == had and contents(name) == b"more\xef\xbf\xbd", f"{words} of a file with a list: {os.listxattr(name)} {oct(os.stat(name).st_mode)}")
             expect(not has_list or os.getxattr(name, of_file) == list_of(6, 0, 0), f"the list of a file that is replaced by {words}")
         os.remove(f"{name}~")
+    if os.geteuid() == 0: # (a list of a group that is lost says too much of who has it, and of others)
+        put_file(name, b"text\xff")
+        os.setxattr(name, of_file, list_of(6, 0, 4))
+        for it, owner, mode in ((shared, 65534, 0o755), (name, 65534, 0o664)):
+            os.chown(it, owner, 0)
+            os.chmod(it, mode)
+        says([program, "fix", "-q", name], 0, b"", b"", user=65534, group=12345, extra_groups=[])
+        about = os.stat(name)
+        expect((about.st_gid, about.st_mode & 0o7777) == (12345, 0o600), f"a file with a list whose group is lost: {about}")
     with open(f"{shared}/made", "wb"):
         says([program, "recode", "-o", new, name], 0, b"", b"")
     expect(os.stat(new).st_mode == os.stat(f"{shared}/made").st_mode and os.getxattr(new, of_file) == os.getxattr(f"{shared}/made", of_file), "the list of a new file")
     shutil.rmtree(shared)
+
+
+def check_attributes(place, program):
+    """Extended attributes: those of users and the label of SELinux stay; none that says what a program may do."""
+    name, before = f"{place}/text", contents(f"{place}/text")
+    given = {"user.mime_type": b"text/plain", "user.empty": b"", "user.long": b"x" * 900, "user.name\udcff": b"\0\xff"}
+    if os.geteuid() == 0:
+        given["security.selinux"] = b"user_u:object_r:etc_t:s0\0"
+    try:
+        for it, value in given.items():
+            os.setxattr(name, it, value)
+    except OSError:
+        print("nody.py: left out: extended attributes, which this file system has not")
+        return
+    with contextlib.suppress(OSError):
+        os.setxattr(name, "security.capability", struct.pack("<5I", 0x2000000, 1 << 10, 0, 0, 0))
+    for words in (["fix", "-q", name], ["recode", "-q", "--in-place", name], ["recode", "-q", "-o", name, f"{place}/from"]):
+        for it in (name, f"{place}/from"):
+            with open(it, "r+b" if os.path.exists(it) else "wb") as file:
+                file.truncate(file.write(b"more\xff"))
+        says([program, *words], 0, b"", b"")
+        found = {it: os.getxattr(name, it) for it in os.listxattr(name)}
+        expect(found == given and contents(name) == b"more\xef\xbf\xbd", f"{words}: attributes {found}")
+    os.remove(f"{place}/from")
+    put_file(name, before)
 
 
 def check_descriptors(place, program):
@@ -875,8 +912,11 @@ def check_alone(folder, program):
     name, link = f"{place}/text", f"{place}/other"
     text = "naïve €uro \U0001f600 and so on\n" * 40
     palindromes = b"AA\x00\x00\xd8\xd8\xdc\xdc" * 30
+    mark, marked = b"\xef\xbb\xbf", b"\xef\xbb\xbf" + text.encode()
     for data, words in ((text.encode(), []), (text.encode(), ["--errors", "strict"]), (text.encode(), ["--errors", "lossy", "--jobs", "1"]), (b"", ["--to", "utf-16le"]),
-                        (text.encode("utf-16-be"), ["--from", "utf-16be", "--to", "utf-16be"]), (palindromes, ["--from", "utf-16le", "--to", "utf-16be"]), (text.encode(), ["--from", "bom"])):
+                        (text.encode("utf-16-be"), ["--from", "utf-16be", "--to", "utf-16be"]), (palindromes, ["--from", "utf-16le", "--to", "utf-16be"]), (text.encode(), ["--from", "bom"]),
+                        (marked, ["--bom"]), (marked, ["--bom", "--from", "auto"]), (mark, ["--bom"]), (mark, ["--bom", "--from", "auto"]), (mark + b"a" * 600000, ["--bom", "--from", "auto", "--jobs", "3"]),
+                        ((mark + text.encode()).decode().encode("utf-16-be"), ["--bom", "--from", "auto", "--to", "utf-16be"])):
         for target in (["--in-place", name], [name, "-o", name]):
             put_file(name, data)
             os.link(name, link)
@@ -884,7 +924,7 @@ def check_alone(folder, program):
             had = os.stat(name)
             says([program, "recode", *words, *target], 0, b"", b"")
             now = os.stat(name)
-            expect(contents(name) == data and all(getattr(had, it) == getattr(now, it) for it in ("st_ino", "st_mtime_ns", "st_ctime_ns", "st_nlink", "st_mode")), f"{words} of what it is: {had} {now}")
+            expect(contents(name) == data and all(getattr(had, it) == getattr(now, it) for it in ("st_ino", "st_mtime_ns", "st_ctime_ns", "st_nlink", "st_mode")), f"{words} of what it is: {data[:9]} {had} {now}")
             expect(sorted(os.listdir(place)) == ["other", "text"], f"what is left: {os.listdir(place)}")
             os.remove(link)
     for data, words in ((b"\xef\xbb\xbf" + text.encode(), ["--from", "bom"]), (text.encode() + b"\xff", []), (text.encode() + b"\xf0\x9f\x98", ["--errors", "lossy"]),
@@ -896,6 +936,12 @@ def check_alone(folder, program):
         want = recoded(data[3:] if "bom" in words else data, form, form, "lossy" if "lossy" in words else "replace")
         expect(contents(name) == want and contents(link) == data and os.stat(name).st_nlink == 1, f"{words} of what differs at one end: {contents(name)[-20:]}")
         os.remove(link)
+    for data, words, want in ((marked, ["--from", "auto"], text.encode()), (mark + marked, ["--from", "auto", "--bom"], marked), (text.encode(), ["--bom"], marked), (b"", ["--bom"], mark),
+                              (mark, ["--from", "auto"], b""), (mark, ["--from", "auto", "--bom", "--to", "utf-16le"], b"\xff\xfe"), (mark + b"\xff", ["--from", "auto", "--bom", "--errors", "drop"], mark),
+                              (marked[3:] + marked, ["--bom", "--from", "auto"], mark + marked[3:] + marked)):
+        put_file(name, data)
+        says([program, "recode", "-q", *words, "--in-place", name], 0, b"", b"")
+        expect(contents(name) == want, f"{words} of a file with a mark: {data[:9]} {contents(name)[:9]}")
     check_elsewhere(place, program)
 
 

@@ -33,13 +33,17 @@ function onSignals(remove) {
     return undo;
 }
 
-// Gives a file the owner and the group of another one, as far as that is allowed, and its permissions: never set-user-ID or set-group-ID for
-// an owner or a group that is not the other file's.
-function takeOwner(file, about) {
-    const [uid, gid] = [Number(about.uid), Number(about.gid)];
-    [uid, -1].some((owner) => ignoring(() => fs.fchownSync(file, owner, gid) ?? true));
-    const now = fs.fstatSync(file);
-    fs.fchmodSync(file, Number(about.mode) & (now.uid === uid && now.gid === gid ? 0o7777 : 0o1777));
+// Gives a new file the owner, the group and the permissions of another one, as far as that is allowed. With another owner or group it is never
+// set-user-ID or set-group-ID. With another group, that group and others may do what both could: each of the two now has users who belonged
+// to the other. (Node sees no access control lists and no extended attributes)
+function takePermissions(file, { uid, gid, mode }) {
+    [Number(uid), -1].some((owner) => ignoring(() => fs.fchownSync(file, owner, Number(gid)) ?? true));
+    const now = fs.fstatSync(file, { bigint: true });
+    let left = Number(mode) & 0o7777;
+    const both = left & (left >> 3) & 0o7;
+    if (now.gid !== gid) left = (left & 0o1700) | (both << 3) | both;
+    if (now.gid !== gid || now.uid !== uid) left &= 0o1777;
+    fs.fchmodSync(file, left);
 }
 
 function folderOf(path) {
@@ -84,7 +88,7 @@ function exchange(input, target, temporary, suffix) {
 }
 
 async function write(file, input, parts) {
-    takeOwner(file, input.about);
+    takePermissions(file, input.about);
     for (const part of parts) {
         writeAll(file, part);
         await turn();

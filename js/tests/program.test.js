@@ -123,6 +123,18 @@ test("the owner and the permissions stay", when(process.getuid?.() === 0, "only 
     assert.deepEqual([uid, gid, mode & 0o7777], [1234, 4321, 0o4640]);
 }));
 
+test("what a group that is lost could do, and others could not, neither may do afterwards", when(process.getuid?.() === 0, "only root may be another user"), () => withFile((path, folder) => {
+    chmodSync(folder, 0o777);
+    for (const [had, left] of [[0o660, 0o600], [0o606, 0o600], [0o664, 0o644], [0o2754, 0o744]]) {
+        writeFileSync(path, "a\xffb", "latin1");
+        chownSync(path, 65534, 0);
+        chmodSync(path, had);
+        assert.deepEqual(ran(["fix", "-q", path], { uid: 65534, gid: 12345 }), [0, "", ""]);
+        const { uid, gid, mode } = statSync(path);
+        assert.deepEqual([uid, gid, mode & 0o7777], [65534, 12345, left], had.toString(8));
+    }
+}));
+
 test("output that cannot be written", when(existsSync("/dev/full"), "no /dev/full"), () => withFile((path) => {
     const full = openSync("/dev/full", "w");
     try {

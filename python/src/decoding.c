@@ -463,6 +463,44 @@ void clear_codecs(Codecs *codecs) {
     Py_XDECREF(handlers);
 }
 
+/* ---- decode() of the package ---- */
+
+/* Which of some words a string is; their number if it is none. */
+static int word_of(PyObject *string, const char *const *words, int count) {
+    int found = 0;
+    while (found < count && !(PyUnicode_Check(string) && PyUnicode_CompareWithASCIIString(string, words[found]) == 0)) found++;
+    return found;
+}
+
+/* The text of bytes of UTF-8 that are valid, or whose invalid bytes go away or become U+FFFD; of others None. */
+static PyObject *text_at_once(const uint8_t *bytes, size_t len, int way) {
+    Mending it = {NODY_UTF8, (enum Way)way, bytes, len, {NULL, 0, 0}};
+    size_t valid = valid_up_to(NODY_UTF8, bytes, len);
+    if (valid == len) return text_of(NODY_UTF8, bytes, len);
+    if (way > REPLACE) return Py_NewRef(Py_None);
+    return is_own(&it, valid) ? own_text(&it) : mended(&it, valid);
+}
+
+/* quick_decode(data, encoding, errors): the text of short UTF-8 by one call, with the names that are most used; None if recode() has to be
+ * asked. The bytes are copied first, as somebody may change them meanwhile. */
+PyObject *quick_decode(PyObject *module, PyObject *const *args, Py_ssize_t count) {
+    static const char *const names[] = {"utf8", "utf-8"}, *const ways[] = {"ignore", "replace", "strict", "lossy"};
+    uint8_t copy[COPIED];
+    Py_buffer view;
+    size_t len;
+    int way = count == 3 && word_of(args[1], names, 2) < 2 ? word_of(args[2], ways, 4) : 4;
+    (void)module;
+    if (way == 4 || !PyObject_CheckBuffer(args[0])) return Py_NewRef(Py_None);
+    if (PyObject_GetBuffer(args[0], &view, PyBUF_SIMPLE) < 0) {
+        PyErr_Clear();
+        return Py_NewRef(Py_None);
+    }
+    len = (size_t)view.len;
+    if (len > 0 && len <= COPIED) memcpy(copy, view.buf, len);
+    PyBuffer_Release(&view);
+    return len <= COPIED ? text_at_once(copy, len, way) : Py_NewRef(Py_None);
+}
+
 /* ---- handlers that are asked ---- */
 
 /* What the loop over faults has. `source` changes when a handler puts other bytes into the error. */

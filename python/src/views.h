@@ -137,6 +137,7 @@ PyObject *decode_utf8(PyObject *module, PyObject *const *args, Py_ssize_t count,
 PyObject *decode_utf16le(PyObject *module, PyObject *const *args, Py_ssize_t count, PyObject *names);
 PyObject *decode_utf16be(PyObject *module, PyObject *const *args, Py_ssize_t count, PyObject *names);
 PyObject *decode(PyObject *module, PyObject *args);
+PyObject *quick_decode(PyObject *module, PyObject *const *args, Py_ssize_t count);
 PyObject *replaced(PyObject *module, PyObject *args);
 PyObject *handled(PyObject *module, PyObject *args);
 

@@ -5,6 +5,7 @@ import random
 import re
 import shutil
 import signal
+import struct
 import subprocess
 import sys
 import tempfile
@@ -445,6 +446,74 @@ sys.exit(main())
         self.assertEqual(ran("fix", "-q", self.path), (0, b"", ""))
         about = os.stat(self.path)
         self.assertEqual((about.st_uid, about.st_gid, about.st_mode & 0o7777), (1234, 4321, 0o4640))
+
+    def as_other(self, *words):
+        """Runs the program as a user of another group, who may be one that may not read Python itself."""
+        program = f"""
+import os, sys
+import locale, noddychest._fixing, noddychest.parallel
+from noddychest.__main__ import main
+os.setgroups([])
+os.setresgid(12345, 12345, 12345)
+os.setresuid(65534, 65534, 65534)
+sys.argv[1:] = {[*words]!r}
+sys.exit(main())
+"""
+        it = subprocess.run([sys.executable, "-c", program], stdout=subprocess.PIPE, stderr=subprocess.PIPE, timeout=60)
+        return it.returncode, it.stdout, it.stderr.decode()
+
+    def owned(self, mode, *attributes):
+        """The file anew: that user's, of the group 0, in a folder in which the user may write."""
+        os.chmod(self.folder, 0o777)
+        with open(self.path, "wb") as file:
+            file.write(b"a\xffb")
+        for name, value in attributes:
+            os.setxattr(self.path, name, value)
+        os.chown(self.path, 65534, 0)
+        os.chmod(self.path, mode)
+
+    @unittest.skipUnless(os.geteuid() == 0, "only root may be another user")
+    def test_a_group_that_is_lost(self):
+        """What that group could do, and others could not, neither it nor the new group may do afterwards: no mode gives more than it did."""
+        for mode, left in ((0o660, 0o600), (0o606, 0o600), (0o664, 0o644), (0o2754, 0o744)):
+            self.owned(mode)
+            self.assertEqual(self.as_other("fix", "-q", self.path), (0, b"", ""))
+            about = os.stat(self.path)
+            self.assertEqual((about.st_uid, about.st_gid, about.st_mode & 0o7777), (65534, 12345, left))
+
+    # What user 1234 may, the group and others: as Linux keeps it.
+    LIST = b"".join((b"\2\0\0\0", *(struct.pack("<HHi", *it) for it in ((1, 6, -1), (2, 6, 1234), (4, 0, -1), (0x10, 6, -1), (0x20, 4, -1)))))
+
+    def attributes(self):
+        return {it: os.getxattr(self.path, it) for it in os.listxattr(self.path)}
+
+    @unittest.skipUnless(hasattr(os, "setxattr"), "extended attributes are of Linux")
+    def test_attributes(self):
+        given = {"user.mime_type": b"text/plain", "user.empty": b"", "system.posix_acl_access": self.LIST}
+        try:
+            for name, value in given.items():
+                os.setxattr(self.path, name, value)
+        except OSError:
+            self.skipTest("this file system has no such attributes")
+        mode = os.stat(self.path).st_mode
+        self.assertEqual(ran("fix", "-q", self.path), (0, b"", ""))
+        self.assertEqual((self.attributes(), os.stat(self.path).st_mode), (given, mode))
+        os.removexattr(self.path, "system.posix_acl_access")
+        self.assertEqual(ran("recode", "-q", "--to", "utf-16le", self.path, "-o", self.path), (0, b"", ""))
+        self.assertEqual({*self.attributes()}, {"user.mime_type", "user.empty"})
+        if os.geteuid() == 0:
+            self.owned(0o664, ("system.posix_acl_access", self.LIST))
+            self.assertEqual(self.as_other("fix", "-q", self.path), (0, b"", ""))
+            self.assertEqual(os.stat(self.path).st_mode & 0o7777, 0o600)
+
+    @unittest.skipUnless(os.geteuid() == 0, "only root may be another user")
+    def test_a_file_that_may_not_be_written(self):
+        """It is replaced in place, but not by its name, as nody(1) does."""
+        self.owned(0o444)
+        self.assertEqual(self.as_other("recode", self.path, "-o", self.path), (3, b"", f"noddychest: {self.path}: Permission denied\n"))
+        self.assertEqual(self.files(), {"file": b"a\xffb"})
+        self.assertEqual(self.as_other("fix", "-q", self.path), (0, b"", ""))
+        self.assertEqual((self.files(), os.stat(self.path).st_mode & 0o7777), ({"file": "a\ufffdb".encode()}, 0o444))
 
 
 class Command(unittest.TestCase):

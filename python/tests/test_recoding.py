@@ -1,11 +1,12 @@
 """Transcoding whole inputs and parts, with replacement and strict."""
+import array
 import codecs
 import pickle
 import random
 import threading
 import unittest
 
-from noddychest import FaultKind, FaultError, Recoder, recode
+from noddychest import FaultKind, FaultError, Recoder, decode, recode
 
 import outside
 
@@ -37,6 +38,33 @@ class AtOnce(unittest.TestCase):
         for data in outside.inputs(2000, 40, seed=6):
             for source, to in PAIRS:
                 self.assertEqual(recode(data, source, to), outside.shown(data, FORMS[source]).encode(FORMS[to]), (data, source, to))
+
+    def test_decode(self):
+        """Short UTF-8 is decoded by one call, and all else by `recode`: the text is the same, whatever the length, the type and the names."""
+        lines = [b"a" * 20, "\u00e9\u20ac\U0001f600".encode() * 4, b"a\xffb", b"\xe2\x82", b"\xed\xa0\x80 \xf0\x9f\x98", b"", b"\0"]
+        lines += [line * (size // max(len(line), 1) + 1) for line in lines for size in (1000, 1020, 1024, 1025, 3000)]
+        lines += [line[:size] for line in lines[7:] for size in (1023, 1024, 1025, 1026)]
+        for data in (*outside.inputs(1500, 60, seed=11), *lines):
+            want = {"replace": outside.shown(data), "lossy": data.decode("utf-8", "replace"), "ignore": data.decode("utf-8", "ignore")}
+            for name in ("utf8", "UTF-8", "utf-8"):
+                for errors, text in want.items():
+                    self.assertEqual(decode(data, name, errors), text, (data[:40], name, errors))
+            for it in (bytearray(data), memoryview(data), array.array("B", data), memoryview(bytes(it for byte in data for it in (byte, 0)))[::2]):
+                if isinstance(it, memoryview) and not it.contiguous:
+                    self.assertRaises(BufferError, decode, it)
+                else:
+                    self.assertEqual(decode(it), want["replace"])
+            try:
+                self.assertEqual(decode(data, errors="strict"), data.decode())
+            except FaultError as fault:
+                self.assertEqual((fault.offset, fault.object), (faults(data, "utf8")[0], data))
+
+    def test_decode_takes_no_other_names(self):
+        for words in (("latin-1",), ("utf8", "Replace"), ("utf8", "surrogateescape"), ("utf8x", "strict")):
+            self.assertRaises(LookupError, decode, b"a", *words)
+        for wrong in ("text", None, 1, [1]):
+            self.assertRaises(TypeError, decode, wrong)
+        self.assertRaises(TypeError, decode, b"a", "utf8", 3)
 
     def test_every_character(self):
         text = "".join(chr(scalar) for scalar in range(0x110000) if not 0xD800 <= scalar < 0xE000)

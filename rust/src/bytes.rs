@@ -5,7 +5,7 @@ use crate::proved::cuts;
 use crate::proved::encode_unicode::error::Utf8Error;
 use crate::proved::encode_unicode::iterator::{Utf8CharDecoder, Utf8CharMerger};
 use crate::proved::encode_unicode::{CharExt, Utf8Char};
-use crate::{Encoding, Piece};
+use crate::{Encoding, Fault, Piece};
 
 /// All pieces of the bytes: characters, and single bytes that are invalid.
 ///
@@ -201,6 +201,10 @@ impl Element for u8 {
 
     fn boundary_before(left: &[u8], at: usize) -> usize {
         boundary_before(left, at)
+    }
+
+    fn faults_into(left: &[u8], offset: usize, found: &mut [Fault]) -> cuts::Fed {
+        cuts::faults_into(left, offset as u64, found)
     }
 }
 

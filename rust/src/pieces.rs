@@ -1,6 +1,8 @@
 //! The pieces of a slice, and only the invalid ones: with the same types for bytes and for units.
 
-use crate::{Fault, Piece};
+use crate::proved::cuts;
+use crate::{Fault, FaultKind, Piece};
+use core::fmt;
 use core::iter::FusedIterator;
 use core::ops::Range;
 
@@ -20,6 +22,9 @@ pub trait Element: Copy {
 
     /// The last boundary between two pieces that is at most `at`.
     fn boundary_before(left: &[Self], at: usize) -> usize;
+
+    /// Writes the faults of what begins at that offset to the front of an array, until it is full.
+    fn faults_into(left: &[Self], offset: usize, found: &mut [Fault]) -> cuts::Fed;
 }
 
 /// The pieces of some bytes, or of some units, from the front and from the end. [`pieces`](crate::pieces) and
@@ -77,11 +82,6 @@ impl<'a, T: Element> Pieces<'a, T> {
         self.left = &self.left[len..];
         self.offset += len;
     }
-
-    /// The offset of the end of what is left.
-    fn end(&self) -> usize {
-        self.offset + self.left.len()
-    }
 }
 
 impl<'a, T: Element> From<&'a [T]> for Pieces<'a, T> {
@@ -118,10 +118,13 @@ impl<T: Element> DoubleEndedIterator for Pieces<'_, T> {
 
 impl<T: Element> FusedIterator for Pieces<'_, T> {}
 
-/// How many pieces are looked at one by one before text is passed, which has a cost of its own: the more, the more of them were
-/// invalid.
-const FEW: usize = 8;
-const MANY: usize = 64;
+/// How many faults are found at once, and how many bytes or units are looked at after the first of them: the more, the more faults were there.
+const AHEAD: usize = 64;
+const NEAR: usize = 128;
+const FAR: usize = 4096;
+
+/// What fills the place of a fault that was not found yet.
+const NOT_FOUND: Fault = Fault::new(0, 1, FaultKind::Incomplete);
 
 /// How many bytes or units are validated in one block from the end: the more, the more of them were text. What is in a short block that is no
 /// text is looked at piece by piece.
@@ -140,13 +143,21 @@ const LONG: usize = 4096;
 /// assert_eq!(faults.as_slice(), b" noir");
 /// assert_eq!(faults.next(), None);
 /// ```
-#[derive(Clone, Debug)]
+#[derive(Clone)]
 #[must_use = "iterators do nothing unless consumed"]
 pub struct Faults<'a, T = u8> {
     /// All that was given: what follows a fault says why it is one.
     all: &'a [T],
-    pieces: Pieces<'a, T>,
-    number: usize,
+    /// The part of which no fault was given yet.
+    left: Range<usize>,
+    /// From the front: `found[next..count]` were found and not given. They are all of what is left up to `seen`, which is in a block that
+    /// ends at `until`; and how long the next block is.
+    found: [Fault; AHEAD],
+    next: usize,
+    count: usize,
+    seen: usize,
+    until: usize,
+    reach: usize,
     /// From the back: how many are validated next, and text that was validated. Between that and the end of what is left, pieces are looked at
     /// one by one.
     block: usize,
@@ -163,7 +174,7 @@ impl<'a, T: Element> Faults<'a, T> {
     /// ```
     #[must_use]
     pub fn as_slice(&self) -> &'a [T] {
-        self.pieces.as_slice()
+        &self.all[self.left.clone()]
     }
 
     /// The offset of what [`as_slice`](Faults::as_slice) gives, in bytes or units.
@@ -179,12 +190,53 @@ impl<'a, T: Element> Faults<'a, T> {
     /// ```
     #[must_use]
     pub fn offset(&self) -> usize {
-        self.pieces.offset()
+        self.left.start
+    }
+
+    /// Finds the next faults. Returns false if none is left.
+    #[inline(never)]
+    fn look_ahead(&mut self) -> bool {
+        let end = self.left.end;
+        (self.next, self.count) = (0, 0);
+        if self.seen >= self.until && self.seen < end {
+            self.seen += T::valid_up_to(&self.all[self.seen..end]);
+            self.until = if end - self.seen <= self.reach { end } else { T::boundary_before(self.all, self.seen + self.reach) };
+        }
+        if self.seen < end {
+            let did = T::faults_into(&self.all[self.seen..self.until], self.seen, &mut self.found);
+            (self.seen, self.count) = (self.seen + did.read, did.written);
+            self.reach = if did.written > 1 { FAR.min(2 * self.reach) } else { NEAR.max(self.reach / 2) };
+            self.judge_last();
+            self.drop_given();
+        }
+        if self.count == 0 {
+            self.left.start = end;
+        }
+        self.count > 0
+    }
+
+    /// Judges faults near the end of a block by all that follows.
+    fn judge_last(&mut self) {
+        for found in self.found[..self.count].iter_mut().rev() {
+            if found.offset() + T::MOST <= self.until {
+                break;
+            }
+            if let Some(fault) = fault_at(self.all, found.offset()) {
+                *found = fault;
+            }
+        }
+    }
+
+    /// Drops those that were given from the back.
+    fn drop_given(&mut self) {
+        while self.count > self.next && self.found[self.count - 1].offset() >= self.left.end {
+            self.count -= 1;
+        }
     }
 
     /// Validates a block at the end of what is left: one that is text, or a short one.
     fn validate_last(&mut self) {
-        let (left, offset) = (self.pieces.left, self.pieces.offset);
+        let left = self.as_slice();
         loop {
             let begin = T::boundary_before(left, left.len().saturating_sub(self.block));
             let end = begin + T::valid_up_to(&left[begin..]);
@@ -194,21 +246,21 @@ impl<'a, T: Element> Faults<'a, T> {
                 self.block = SHORT.max(self.block / 4);
                 continue;
             }
-            self.text = offset + begin..offset + end;
+            self.text = self.left.start + begin..self.left.start + end;
             return;
         }
     }
 
     /// Passes the text that was validated, at the end of what is left.
     fn pass_text(&mut self) {
-        let len = self.text.start.saturating_sub(self.pieces.offset);
-        self.pieces.left = &self.pieces.left[..len];
+        self.left.end = self.text.start.max(self.left.start);
     }
 }
 
 impl<'a, T: Element> From<&'a [T]> for Faults<'a, T> {
     fn from(all: &'a [T]) -> Faults<'a, T> {
-        Faults { all, pieces: Pieces::from(all), number: FEW, block: SHORT, text: all.len()..all.len() }
+        let (found, left, text) = ([NOT_FOUND; AHEAD], 0..all.len(), all.len()..all.len());
+        Faults { all, left, found, next: 0, count: 0, seen: 0, until: 0, reach: NEAR, block: SHORT, text }
     }
 }
 
@@ -217,31 +269,28 @@ impl<T: Element> Iterator for Faults<'_, T> {
 
     #[inline]
     fn next(&mut self) -> Option<Fault> {
-        loop {
-            if let Some(fault) = self.pieces.by_ref().take(self.number).find_map(|piece| piece.fault()) {
-                self.number = MANY.min(2 * self.number);
-                // (of fewer that are left the kind may depend on those that were taken from the end)
-                return if self.pieces.left.len() < T::MOST { fault_at(self.all, fault.offset()) } else { Some(fault) };
-            }
-            self.number = FEW;
-            self.pieces.pass(T::valid_up_to(self.pieces.left));
-            if self.pieces.left.is_empty() {
-                return None;
-            }
+        if self.next == self.count && !self.look_ahead() {
+            return None;
         }
+        let fault = self.found[self.next];
+        self.next += 1;
+        self.left.start = fault.range().end;
+        Some(fault)
     }
 
     fn size_hint(&self) -> (usize, Option<usize>) {
-        (0, Some(self.pieces.left.len()))
+        (0, Some(self.left.len()))
     }
 }
 
 impl<T: Element> DoubleEndedIterator for Faults<'_, T> {
     fn next_back(&mut self) -> Option<Fault> {
-        while !self.pieces.left.is_empty() {
-            if self.pieces.end() > self.text.end {
-                let piece = self.pieces.next_back()?;
+        while !self.left.is_empty() {
+            if self.left.end > self.text.end {
+                let piece = T::last_of(self.as_slice(), self.left.start)?;
+                self.left.end -= piece.len;
                 if piece.result.is_err() {
+                    self.drop_given();
                     return fault_at(self.all, piece.offset);
                 }
             } else {
@@ -254,6 +303,12 @@ impl<T: Element> DoubleEndedIterator for Faults<'_, T> {
 }
 
 impl<T: Element> FusedIterator for Faults<'_, T> {}
+
+impl<T: Element + fmt::Debug> fmt::Debug for Faults<'_, T> {
+    fn fmt(&self, f: &mut fmt::Formatter<'_>) -> fmt::Result {
+        f.debug_struct("Faults").field("left", &self.as_slice()).field("offset", &self.offset()).finish()
+    }
+}
 
 /// The fault at an offset, as it is from the front. (Called with the iterator, it would have that kept in memory.)
 #[inline(never)]

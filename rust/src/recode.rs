@@ -107,7 +107,7 @@ fn refused(did: Progress) -> Result<(), Fault> {
 #[doc(alias = "decode_utf8")]
 #[must_use]
 pub fn decode(encoding: Encoding, bytes: &[u8]) -> String {
-    text(recode(encoding, Encoding::Utf8, bytes))
+    memory::text_of(recode(encoding, Encoding::Utf8, bytes))
 }
 
 /// The text of the bytes; each maximal subpart becomes one U+FFFD. Of UTF-8 it is what [`String::from_utf8_lossy`] gives.
@@ -120,7 +120,7 @@ pub fn decode(encoding: Encoding, bytes: &[u8]) -> String {
 #[doc(alias = "from_utf8_lossy")]
 #[must_use]
 pub fn decode_lossy(encoding: Encoding, bytes: &[u8]) -> String {
-    text(recode_lossy(encoding, Encoding::Utf8, bytes))
+    memory::text_of(recode_lossy(encoding, Encoding::Utf8, bytes))
 }
 
 /// The text of the bytes; each invalid byte becomes what a table has for it, as [`Recoder::repair`] says it.
@@ -133,7 +133,7 @@ pub fn decode_lossy(encoding: Encoding, bytes: &[u8]) -> String {
 #[doc(alias = "windows-1252")]
 #[must_use]
 pub fn decode_repaired(encoding: Encoding, bytes: &[u8], repair: Repair) -> String {
-    text(recode_repaired(encoding, Encoding::Utf8, bytes, repair))
+    memory::text_of(recode_repaired(encoding, Encoding::Utf8, bytes, repair))
 }
 
 /// The text of the bytes, or the first of them that is invalid.
@@ -145,11 +145,7 @@ pub fn decode_repaired(encoding: Encoding, bytes: &[u8], repair: Repair) -> Stri
 /// ```
 #[doc(alias = "decode_utf8")]
 pub fn decode_strict(encoding: Encoding, bytes: &[u8]) -> Result<String, Fault> {
-    recode_strict(encoding, Encoding::Utf8, bytes).map(text)
-}
-
-fn text(bytes: Vec<u8>) -> String {
-    String::from_utf8(bytes).expect("what is recoded to UTF-8 is UTF-8")
+    recode_strict(encoding, Encoding::Utf8, bytes).map(memory::text_of)
 }
 
 /// Into a buffer that grows.

@@ -12,7 +12,7 @@
 use crate::pieces::Element;
 use crate::proved::cuts;
 use crate::proved::encode_unicode::iterator::Utf16CharDecoder;
-use crate::Piece;
+use crate::{Fault, Piece};
 
 /// All pieces of the units: characters, and single units that are invalid. Offsets and lengths count units.
 ///
@@ -164,5 +164,9 @@ impl Element for u16 {
 
     fn boundary_before(left: &[u16], at: usize) -> usize {
         cuts::unit_boundary_before(left, at)
+    }
+
+    fn faults_into(left: &[u16], offset: usize, found: &mut [Fault]) -> cuts::Fed {
+        cuts::unit_faults_into(left, offset as u64, found)
     }
 }

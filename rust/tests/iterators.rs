@@ -125,6 +125,45 @@ fn faults_in_each_order() {
     }
 }
 
+/// Faults are found ahead, in blocks that begin at a fault: one that lies across the end of a block is what it is by all that follows.
+#[test]
+fn faults_at_the_ends_of_blocks() {
+    const CUT: [&[u8]; 9] = [
+        b"\xC3A",
+        b"\xE2\x82A",
+        b"\xE2\x82\xACA",
+        b"\xE0\x80\x80A",
+        b"\xED\xA0\x80A",
+        b"\xF0\x9F\x98A",
+        b"\xF0\x9F\x98\x80A",
+        b"\xF0\x80\x80\x80A",
+        b"\xF4\x90\x80\x80A",
+    ];
+    for cut in CUT {
+        for len in [128, 256, 512, 4096] {
+            for before in len - 5..len + 2 {
+                // (a second fault near the first makes the next block longer)
+                let block = [&b"\xFFa\xFF"[..], &b"a".repeat(before - 3), cut].concat();
+                let bytes = [b"\xFF", &b"a".repeat(before - 1)[..], cut, &block, &block, &block, &block, &block, &block].concat();
+                let kinds = of_utf8(&bytes, End::OfSlice)
+                    .into_iter()
+                    .filter_map(|(at, _, it)| it.err().map(|kind| Fault::new(at, 1, kind)));
+                assert!(faults(&bytes).eq(kinds), "{cut:x?} after {before}");
+            }
+        }
+    }
+}
+
+/// The first fault costs nothing of what follows it, however much that is.
+#[test]
+fn faults_are_found_little_ahead() {
+    let mut bytes = b"a".repeat(20_000_000);
+    bytes[3] = 0xFF;
+    for _ in 0..10_000 {
+        assert_eq!(faults(&bytes).next().map(|it| it.offset()), Some(3));
+    }
+}
+
 /// What is text at the end is passed in blocks: no call goes over all of it again.
 #[test]
 fn faults_from_the_back_are_not_quadratic() {

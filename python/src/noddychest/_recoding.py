@@ -79,7 +79,8 @@ def decode(data: Union[ReadableBuffer, Shard], encoding: str = "utf8", errors: E
     >>> decode(b"caf\\xe9", errors="windows-1252"), decode(b"caf\\xe9"), decode(b"caf\\xe9", errors=lambda byte: bytes([byte]).decode("cp1251", "replace"))
     ('café', 'caf�', 'cafй')
     """
-    return recode(data, encoding, "utf8", errors).decode()
+    text = _noddychest.quick_decode(data, encoding, errors)
+    return recode(data, encoding, "utf8", errors).decode() if text is None else text
 
 
 def recoded_len(data: Union[ReadableBuffer, Shard], from_: str, to: str) -> int:

@@ -26,6 +26,7 @@ from collections.abc import Callable, Iterator, Sequence
 from typing import TYPE_CHECKING, Any, Literal, NamedTuple, Optional, TypeVar, Union, overload
 
 from ._names import form_of, form_or_auto
+from ._permissions import take_permissions
 from ._pieces import FaultError
 from ._recoding import checked
 from ._shards import (
@@ -133,10 +134,10 @@ def _planned(source: str, size: int, encoding: str, divided: _Divided) -> _Plann
         return _Planned(it.stamp(), [])
 
 
-def _begin(path: str, size: int) -> None:
-    """Makes a file of this size, so that a full disk is found early."""
+def _begin(path: str, size: int, target: str) -> None:
+    """Makes a file of this size, so that a full disk is found early. Until it replaces another one, only its owner may read it."""
     os.makedirs(os.path.dirname(path) or ".", exist_ok=True)
-    file = os.open(path, os.O_WRONLY | os.O_CREAT | os.O_CLOEXEC, 0o666)
+    file = os.open(path, os.O_WRONLY | os.O_CREAT | os.O_CLOEXEC, 0o600 if os.path.exists(target) else 0o666)
     try:
         if size > 0:
             os.posix_fallocate(file, 0, size)
@@ -188,11 +189,19 @@ def _end(path: str, target: str, size: int, last_look: Callable[[], None] = lamb
             raise ChangedError(f"{path} has another length than it should have")
         last_look()
         if os.path.exists(target):
-            os.chmod(path, os.stat(target).st_mode & 0o7777)
+            _take_permissions(path, target)
         os.replace(path, target)
         sync_folder(os.path.dirname(target) or ".")
     elif not os.path.exists(target) or os.path.getsize(target) != size:
         raise FileNotFoundError(errno.ENOENT, os.strerror(errno.ENOENT), path)
+
+
+def _take_permissions(path: str, target: str) -> None:
+    file = os.open(path, os.O_RDONLY | os.O_CLOEXEC)
+    try:
+        take_permissions(file, target, os.stat(target))
+    finally:
+        os.close(file)
 
 
 def _end_file(path: str, target: str, size: int, source: str, stamp: _Stamp) -> None:
@@ -330,7 +339,7 @@ def _write_part(shard: Shard, to: str, errors: Union[str, Table], folder: str, p
     if resume and _stands(target, recoded_size(shard, to, errors)):
         return Recoded(shard.end - shard.start, os.path.getsize(target), 0)
     path = f"{target}.{secrets.token_hex(4)}.{name}"
-    _begin(path, 0)
+    _begin(path, 0, target)
     made = _write(shard, to, errors, path, 0)
     _end(path, target, made.written, lambda: _check_parts(folder, run))
     return made
@@ -667,7 +676,7 @@ class _Job(NamedTuple):
         if not targets:
             return []
         try:
-            self.each(_begin, [(it.partial, it.size()) for it in targets])
+            self.each(_begin, [(it.partial, it.size(), os.path.join(folder, it.name)) for it in targets])
             whole = self._written(plan, targets, bar)
             self.each(_forget, [(folder, [it.name for it, _ in whole])])
             ends = [(it.partial, os.path.join(folder, it.name), it.size(), it.file.input.source, it.file.stamp) for it, _ in whole]

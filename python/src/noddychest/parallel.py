@@ -26,6 +26,7 @@ from concurrent.futures import ThreadPoolExecutor
 from typing import TYPE_CHECKING, Literal, NamedTuple, Optional, TypeVar, Union, overload
 
 from ._names import form_of, form_or_auto
+from ._permissions import refuse_unwritable, take_permissions
 from ._pieces import boundary_before
 from ._recoding import checked
 from ._shards import BLOCK, ChangedError, Counts, Faults, LocatedFaults, Recoded, Shard, counted_on, no_faults, opened, path_of, place_of, shards, shards_to_recode
@@ -297,7 +298,8 @@ def recode(source: Source, out: Path, from_: str, to: str, jobs: Optional[int] =
     part of it. If anything fails, `out` is as it was; what was written goes away, but with `resume`. Right before that the source is looked
     at once more: so if it is the output too, nothing is lost that another process wrote to it meanwhile.
     Errors: as for `check`. With `strict` FaultError, with the offset of the first invalid byte of all. OSError if the disk is full.
-    BlockingIOError if another run with `resume` writes the same. Cost: each job has 1 MB, and the output of three times as many.
+    PermissionError if `out` is there and may not be written. BlockingIOError if another run with `resume` writes the same. Cost: each job has
+    1 MB, and the output of three times as many.
     """
     errors = checked(from_, to, errors)  # (before anything is written)
     jobs = _some_jobs(jobs)
@@ -307,6 +309,7 @@ def recode(source: Source, out: Path, from_: str, to: str, jobs: Optional[int] =
     target = os.path.realpath(path_of(out))
     if os.path.exists(target) and not os.path.isfile(target):
         raise OSError(f"{target} is no file that can be replaced")
+    refuse_unwritable(target)
     with partial(target, _run_name(them, from_, to, errors) if resume else None, lambda: look_again(place_of(source), stamp_of(them))) as file:
         first, place = _standing(file, them, to, errors, jobs) if resume else (0, 0)
         os.ftruncate(file, place)
@@ -361,7 +364,7 @@ def partial(target: str, name: Optional[str], last_look: Callable[[], None]) -> 
         if name is not None:
             _lock(file, path)
         if about is not None:
-            os.fchmod(file, _take_owner(file, about))
+            take_permissions(file, target, about)
         yield file
         os.fsync(file)  # (this takes long, so the look comes after it)
         last_look()
@@ -374,18 +377,6 @@ def partial(target: str, name: Optional[str], last_look: Callable[[], None]) -> 
         if path and name is None:
             with contextlib.suppress(FileNotFoundError):
                 os.remove(path)
-
-
-def _take_owner(file: int, about: os.stat_result) -> int:
-    """Gives a file the owner and the group of another one, as far as that is allowed, and returns the permissions that it may then have:
-    never set-user-ID or set-group-ID for an owner or a group that is not the other file's."""
-    for owner in (about.st_uid, -1):
-        with contextlib.suppress(OSError):
-            os.fchown(file, owner, about.st_gid)
-            break
-    now = os.fstat(file)
-    is_same = (now.st_uid, now.st_gid) == (about.st_uid, about.st_gid)
-    return about.st_mode & (0o7777 if is_same else 0o1777)
 
 
 def _lock(file: int, path: str) -> None:
