@@ -21,7 +21,7 @@ unfolding rare_with
 saw s t part nul control le be later = rw (counted_on is_nul s.nul t.nul part later nul, counted_on is_control s.control t.control part later control, le later, be later) refl
 
 -- a part of which no byte is counted
-none_on : (p : ℕ → Bool) (part later : List ℕ) → count_by p part ≡ 0 → count_by p (part ++ later) ≡ count_by p later
+pub none_on : (p : ℕ → Bool) (part later : List ℕ) → count_by p part ≡ 0 → count_by p (part ++ later) ≡ count_by p later
 none_on p part later e = counted_append p part later ∙ rw e (zero-add (count_by p later))
 
 pub passed : (s t : RareCounts) (part : List ℕ) → All part → t.nul ≡ s.nul → t.control ≡ s.control → FeedsUnits false s.utf16le part t.utf16le → FeedsUnits true s.utf16be part t.utf16be → FeedsRare s part t

@@ -5,7 +5,7 @@ ghost use Rattle.surveys.specs.SurveyOrdinary.{AreOrdinary};
 ghost use Rattle.surveys.specs.SurveyRare.{FeedsRare};
 
 use crate::ends::{control_count, nul_count};
-use crate::ordinary::ordinary_end;
+use crate::ordinary::{Ordinary, class_end};
 use crate::sums::sum;
 use crate::unit_counts::UnitParts;
 use utf_lanes::byte_order::{BigEndian, LittleEndian};
@@ -30,7 +30,7 @@ impl RareCounts {
     {
         let mut place = 0;
         while place < part.len() {
-            let end = ordinary_end(part, place);
+            let end = class_end::<Ordinary>(part, place);
             if place < end {
                 self.pass(&part[place..end]);
                 place = end;

@@ -8,10 +8,10 @@ loop-place-preserved-then-place-end c =
     let old = c.args.self.now in
     let part = c.args.part.now in
     let place = c.loop-place.place in
-    let end = c.ordinary_end-end.result in
-    let to : place + (end - place) ≡ end = omega (arith, c.ordinary_end-end.ensures.least) in
+    let end = c.class_end-end.result in
+    let to : place + (end - place) ≡ end = omega (arith, c.class_end-end.ensures.least) in
     record {
-      within = c.ordinary_end-end.ensures.within;
+      within = c.class_end-end.ensures.within;
       feeds = subst (λ k. FeedsRare old (take k part) c.pass.new.self) to (fed_on old c.loop-place.self c.pass.new.self part place (end - place) c.loop-place.invariant.feeds c.pass.ensures);
     }
 
