@@ -9,11 +9,12 @@ use Rattle.utf_lanes.specs.BytePairs.{unit_of, units_of}
 use Rattle.surveys.specs.declared.unit_counts.UnitCounts.{UnitCounts}
 use Rattle.surveys.specs.declared.unit_counts.UnitParts.{UnitParts}
 use Rattle.surveys.specs.SurveyEnds.{is_control, is_nul}
-use Rattle.surveys.specs.SurveyOrdinary.{AreAll, AreOrdinary, is_after_ordinary, is_odd_ordinary, is_ordinary, is_ordinary_ascii}
+use Rattle.surveys.specs.SurveyOrdinary.{AreAll, AreOrdinary, is_after_ordinary, is_odd_ordinary, is_ordinary, is_ordinary_ascii, is_uncontrolled}
 use Rattle.surveys.specs.SurveyUnits.{is_plain, is_stray, is_unpaired, unpaired_after, units_from, units_with}
 use Rattle.std.proofs.lemmas.List.{get_or-drop, get_or-take, take-append-drop}
 use Rattle.surveys.proofs.ClassCounts.{counted_cons}
 use Rattle.surveys.proofs.FedUnits.{last_at}
+use Rattle.surveys.proofs.UncontrolledBytes.{AllUncontrolled}
 
 -- What is ordinary.
 
@@ -66,24 +67,18 @@ all_rest x xs all k ge lt = all (suc k) (omega arith) (omega arith)
 first_is : (x : ℕ) (xs : List ℕ) → All (x ∷ xs) → IsOrdinary x
 first_is x xs all = ordinary x (all 0 (omega arith) (omega arith))
 
-no_nul : (b : ℕ) → IsOrdinary b → is_nul b ≡ false
-no_nul b o = let least = o.least in grind (arith, nat_tests)
-
-no_control : (b : ℕ) → IsOrdinary b → is_control b ≡ false
+no_control : (b : ℕ) → IsOrdinary b → is_uncontrolled b ≡ true
+unfolding is_uncontrolled
 no_control b o =
     let least = o.least in
+    let most = o.most in
     elim (cases_lt b 14) [
       | inl few ↦ grind (arith, nat_tests)
       | inr more ↦ (let past = o.no_control more in grind (arith, nat_tests))
     ]
 
-pub no_nuls : (xs : List ℕ) → All xs → count_by is_nul xs ≡ 0
-no_nuls [] all = refl
-no_nuls (x ∷ xs) all = counted_cons is_nul x xs ∙ rw (no_nul x (first_is x xs all)) (zero-add (count_by is_nul xs) ∙ no_nuls xs (all_rest x xs all))
-
-pub no_controls : (xs : List ℕ) → All xs → count_by is_control xs ≡ 0
-no_controls [] all = refl
-no_controls (x ∷ xs) all = counted_cons is_control x xs ∙ rw (no_control x (first_is x xs all)) (zero-add (count_by is_control xs) ∙ no_controls xs (all_rest x xs all))
+pub ordinary_uncontrolled : (xs : List ℕ) → All xs → AllUncontrolled xs
+ordinary_uncontrolled xs all k ge lt = no_control (get_or xs k 0) (ordinary (get_or xs k 0) (all k ge lt))
 
 -- Units of ordinary bytes.
 

@@ -11,6 +11,10 @@ is_ordinary b = nat_le 7 b && nat_lt b 14 || nat_le 32 b && nat_lt b 0xD8 || nat
 abbrev pub is_ordinary_ascii : ℕ → Bool
 is_ordinary_ascii b = is_ordinary b && nat_lt b 0x80
 
+-- no control but some of those in text, and no FF: an ordinary byte, or the high byte of a surrogate
+unfoldable pub is_uncontrolled : ℕ → Bool
+is_uncontrolled b = nat_le 7 b && nat_lt b 14 || nat_le 32 b && nat_lt b 0xFF
+
 -- the bytes from the offset i on and before j are of a class
 abbrev pub AreAll : (ℕ → Bool) → List ℕ → ℕ → ℕ → Type 0
 AreAll p xs i j = (k : ℕ) → i ≤ k → k < j → p (slice_index xs k) ≡ true

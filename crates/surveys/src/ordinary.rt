@@ -58,6 +58,26 @@ impl BlockClass for Ordinary {
     }
 }
 
+/// Bytes that are ordinary, or high bytes of surrogates: besides counts of UTF-8 only that of unpaired units takes them.
+pub(crate) struct Uncontrolled;
+
+impl BlockClass for Uncontrolled {
+    ghost use Rattle.surveys.specs.SurveyOrdinary.{is_uncontrolled};
+
+    ghost class = { is_uncontrolled };
+
+    #[inline(always)]
+    fn has_all(bytes: &[u8]) -> bool {
+        let mut least = 0xff;
+        let mut most = 0;
+        for byte in bytes {
+            least = least.min(*byte ^ 0x17);
+            most = most.max(*byte);
+        }
+        0x1a <= least && most < 0xff
+    }
+}
+
 /// Ordinary ASCII, which no count takes.
 pub(crate) struct OrdinaryAscii;
 

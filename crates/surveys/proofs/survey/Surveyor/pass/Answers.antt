@@ -3,8 +3,9 @@ use Rattle.surveys.specs.SurveyCounts.{wrapped}
 use Rattle.surveys.specs.SurveyEnds.{is_control, is_nul}
 use Rattle.surveys.proofs.FedRare.{none_on}
 use Rattle.surveys.proofs.Fronts.{length-last}
-use Rattle.surveys.proofs.OrdinaryBytes.{ascii_ordinary, no_controls, no_nuls, ordinary_ascii}
+use Rattle.surveys.proofs.OrdinaryBytes.{ascii_ordinary, ordinary_ascii, ordinary_uncontrolled}
 use Rattle.surveys.proofs.Surveying.{fed}
+use Rattle.surveys.proofs.UncontrolledBytes.{no_controls, no_nuls}
 use Rattle.surveys.proofs.survey.Surveyor.pass.Goals as goal
 
 pub pass-requires-clause-ascii : goal.pass-requires-clause-ascii
@@ -24,7 +25,7 @@ pub returns : goal.returns
 returns c =
     let s = c.args.self.now in
     let part = c.args.part.now in
-    let all = ascii_ordinary part 0 (length part) c.requires.class in
+    let all = ordinary_uncontrolled part (ascii_ordinary part 0 (length part) c.requires.class) in
     fed s _ part
     (record {
       len = c.sum-self.ensures;
