@@ -71,9 +71,5 @@ fn add_row(lanes: &mut [u8; 32], row: &[u8])
 fn are_unpaired(before: u8, high: u8) -> bool
     ensures { result ≡ are_highs_unpaired before high }
 {
-    if 0xd8 <= before && before < 0xdc {
-        !(0xdc <= high && high < 0xe0)
-    } else {
-        0xdc <= high && high < 0xe0
-    }
+    (0xd8 <= before && before < 0xdc) != (0xdc <= high && high < 0xe0)
 }
