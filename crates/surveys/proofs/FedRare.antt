@@ -9,7 +9,7 @@ use Rattle.surveys.specs.SurveyRare.{FeedsRare, rare_with}
 use Rattle.surveys.specs.SurveyUnits.{FeedsUnits}
 use Rattle.surveys.proofs.ClassCounts.{counted_append}
 use Rattle.surveys.proofs.Counting.{wrapped-add}
-use Rattle.surveys.proofs.OrdinaryBytes.{All, no_controls, no_nuls}
+use Rattle.surveys.proofs.UncontrolledBytes.{AllUncontrolled, no_controls, no_nuls}
 
 -- a count of a part, added to the count so far
 pub counted_on : (p : ℕ → Bool) (count new : ℕ) (part later : List ℕ) → new ≡ wrapped (count + count_by p part) → wrapped (new + count_by p later) ≡ wrapped (count + count_by p (part ++ later))
@@ -21,10 +21,10 @@ unfolding rare_with
 saw s t part nul control le be later = rw (counted_on is_nul s.nul t.nul part later nul, counted_on is_control s.control t.control part later control, le later, be later) refl
 
 -- a part of which no byte is counted
-none_on : (p : ℕ → Bool) (part later : List ℕ) → count_by p part ≡ 0 → count_by p (part ++ later) ≡ count_by p later
+pub none_on : (p : ℕ → Bool) (part later : List ℕ) → count_by p part ≡ 0 → count_by p (part ++ later) ≡ count_by p later
 none_on p part later e = counted_append p part later ∙ rw e (zero-add (count_by p later))
 
-pub passed : (s t : RareCounts) (part : List ℕ) → All part → t.nul ≡ s.nul → t.control ≡ s.control → FeedsUnits false s.utf16le part t.utf16le → FeedsUnits true s.utf16be part t.utf16be → FeedsRare s part t
+pub passed : (s t : RareCounts) (part : List ℕ) → AllUncontrolled part → t.nul ≡ s.nul → t.control ≡ s.control → FeedsUnits false s.utf16le part t.utf16le → FeedsUnits true s.utf16be part t.utf16be → FeedsRare s part t
 unfolding rare_with
 passed s t part all nul control le be later =
     rw (nul, control, none_on is_nul part later (no_nuls part all), none_on is_control part later (no_controls part all), le later, be later) refl

@@ -62,7 +62,7 @@ unfolding units_from
 units_from-all c d before last n us later plain stray unpaired adds = rw (plain, stray, unpaired, adds later) (simp (wrapped-add, sum_by-append, add_assoc))
 
 -- the units of an even number of bytes, followed by more
-units_joined : (high_first : Bool) (n : ℕ) (xs rest : List ℕ) → length xs ≡ 2 * n → units_of high_first (xs ++ rest) ≡ units_of high_first xs ++ units_of high_first rest
+pub units_joined : (high_first : Bool) (n : ℕ) (xs rest : List ℕ) → length xs ≡ 2 * n → units_of high_first (xs ++ rest) ≡ units_of high_first xs ++ units_of high_first rest
 units_joined high_first zero [] rest e = refl
 units_joined high_first zero (a ∷ xs) rest e = absurd (omega arith)
 units_joined high_first (suc n) [] rest e = absurd (omega arith)

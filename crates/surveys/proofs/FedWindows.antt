@@ -4,11 +4,12 @@ use Rattle.std.proofs.lemmas.Bool.{cases_lt}
 use Rattle.std.proofs.lemmas.Grind.{common_steps}
 use Rattle.std.proofs.lemmas.List.{take-append-drop}
 use Rattle.std.proofs.Math.Seq.{drop-append-add}
+use Rattle.utf_lanes.specs.AsciiTexts.{AreAscii}
 use Rattle.surveys.specs.declared.utf8_counts.Utf8Counts.{Utf8Counts}
 use Rattle.surveys.specs.declared.utf8_parts.Utf8Parts.{Utf8Parts}
 use Rattle.surveys.specs.SurveyCounts.{counted, nothing, plus}
 use Rattle.surveys.specs.SurveyParts.{counts_with, last_of, zeros_after}
-use Rattle.surveys.proofs.Counting.{counted-short, counted-split, plus-counted}
+use Rattle.surveys.proofs.Counting.{Fit, counted-few, counted-skip, counted-short, counted-split, plus-counted}
 
 pub last_of-few : (n : ℕ) (bytes : List ℕ) → length bytes ≤ n → last_of n bytes ≡ bytes
 unfolding last_of
@@ -46,6 +47,17 @@ counted-both c held part later many =
     let width : length (take 16 part) ≡ 16 = grind (arith, common_steps) in
     let whole : take 16 part ++ (drop 16 part ++ later) ≡ part ++ later = sym (append_assoc (take 16 part) (drop 16 part) later) ∙ ap (λ z. z ++ later) (take-append-drop 16 part) in
     sym (ap (λ z. counted c (held ++ z)) (sym whole) ∙ counted-split c held (take 16 part) (drop 16 part ++ later) width ∙ ap (counted (counted c (held ++ take 16 part))) whole)
+
+-- no window of ASCII adds to the counts
+pub ascii_counted : (c : Utf8Counts) (bytes : List ℕ) → Fit c → AreAscii bytes 0 (length bytes) → counted c bytes ≡ c
+ascii_counted c bytes fit ascii =
+    ⊎_elim
+    (λ (few : length bytes < 17). counted-few c bytes fit few)
+    (λ (many : 17 ≤ length bytes).
+    let n = length bytes - 16 in
+    let width : length (drop n bytes) < 17 = omega (arith, length-drop n bytes) in
+    sym (counted-skip c bytes 0 n (omega arith) (omega arith) (λ k ge lt. ascii k (omega arith) (omega arith))) ∙ counted-few c (drop n bytes) fit width)
+    (cases_lt (length bytes) 17)
 
 pub fed_few : (old new : Utf8Parts) (part later : List ℕ) → new.counts ≡ counted old.counts (old.held ++ part) → new.held ≡ last_of 16 (old.held ++ part) → counts_with new later ≡ counts_with old (part ++ later)
 unfolding counts_with

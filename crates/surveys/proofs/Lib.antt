@@ -9,6 +9,9 @@ pub mod FedUnits
 pub mod Fronts
 pub mod TwiceWindows
 pub mod TextWindows
+pub mod UnpairedRows
+pub mod UncontrolledBytes
+pub mod UnpairedUnits
 pub mod OrdinaryBytes
 pub mod FedRare
 pub mod Surveying

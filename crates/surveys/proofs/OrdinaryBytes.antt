@@ -1,36 +1,50 @@
 -- Ordinary bytes add nothing to the counts of 00, of other controls and of units.
-use Rattle.std.proofs.Common.{◌≡◌, ℕ, zero, suc, ◌+◌, ◌-◌, ◌*◌, ◌%◌, ◌^◌, ◌<◌, ◌≤◌, Bool, true, false, not, List, [], ◌∷◌, ◌++◌, Some, None, count_by, length, take, drop, get_or, refl, sym, ap, ◌∙◌, arith, append_assoc, inl, inr, zero-add, true≢false, length-take, length-drop}
+use Rattle.std.proofs.Common.{◌≡◌, ℕ, zero, suc, ◌+◌, ◌-◌, ◌*◌, ◌<◌, ◌≤◌, Bool, true, false, not, ◌||◌, leb, ltb, bit_xor, bit_or, List, [], ◌∷◌, ◌++◌, Some, None, count_by, length, take, drop, get_or, refl, sym, ap, ◌∙◌, arith, append_assoc, inl, inr, ltb-true, zero-add, true≢false, length-take, length-drop}
 use Rattle.std.proofs.lemmas.Bool.{and_parts, cases_lt}
 use Rattle.std.proofs.lemmas.Bool.Decides.{nat_tests}
 use Rattle.utf_base.specs.Units.{is_leading_surrogate, is_trailing_surrogate}
+use Rattle.utf_lanes.proofs.PairTables.{at_each}
+use Rattle.utf_lanes.specs.AsciiTexts.{AreAscii}
 use Rattle.utf_lanes.specs.BytePairs.{unit_of, units_of}
 use Rattle.surveys.specs.declared.unit_counts.UnitCounts.{UnitCounts}
 use Rattle.surveys.specs.declared.unit_counts.UnitParts.{UnitParts}
 use Rattle.surveys.specs.SurveyEnds.{is_control, is_nul}
-use Rattle.surveys.specs.SurveyOrdinary.{AreOrdinary, is_after_ordinary, is_odd_ordinary, is_ordinary}
+use Rattle.surveys.specs.SurveyOrdinary.{AreAll, AreOrdinary, is_after_ordinary, is_odd_ordinary, is_ordinary, is_ordinary_ascii, is_uncontrolled}
 use Rattle.surveys.specs.SurveyUnits.{is_plain, is_stray, is_unpaired, unpaired_after, units_from, units_with}
 use Rattle.std.proofs.lemmas.List.{get_or-drop, get_or-take, take-append-drop}
 use Rattle.surveys.proofs.ClassCounts.{counted_cons}
 use Rattle.surveys.proofs.FedUnits.{last_at}
+use Rattle.surveys.proofs.UncontrolledBytes.{AllUncontrolled}
 
 -- What is ordinary.
 
-abbrev up : ℕ → ℕ → ℕ
-up a b = (a + b) % 2 ^ 8
+shown : ℕ → Bool
+shown b = ltb (bit_xor b 0x17) 0x1A || (leb 0xF8 (bit_or b 0x20) || is_ordinary b)
 
-pub ordinary_sums : (b ends controls : ℕ) → b < 256 → up b 0xF9 ≤ ends → up b 0x20 ≤ ends → up b 0xE0 ≤ controls → ends < 0xF8 → controls < 0xEE → is_ordinary b ≡ true
-unfolding is_ordinary
-ordinary_sums b ends controls fits low high middle e c =
-    let least : 7 ≤ b = omega arith in
-    let most : b < 0xFF = omega arith in
-    elim (cases_lt b 14) [
-      | inl few ↦ grind (arith, nat_tests)
-      | inr more ↦ (let past : 32 ≤ b = omega arith in
-          elim (cases_lt b 0xD8) [
-            | inl less ↦ grind (arith, nat_tests)
-            | inr many ↦ (let beyond : 0xE0 ≤ b = omega arith in grind (arith, nat_tests))
-          ])
-    ]
+pub ordinary_shown : (b least most : ℕ) → b < 256 → least ≤ bit_xor b 0x17 → bit_or b 0x20 ≤ most → 0x1A ≤ least → most < 0xF8 → is_ordinary b ≡ true
+unfolding shown is_ordinary
+ordinary_shown b least most fits low high l m =
+    third (ltb (bit_xor b 0x17) 0x1A) (leb 0xF8 (bit_or b 0x20)) (is_ordinary b) (at_each shown 256 refl b fits) (grind (arith, nat_tests)) (grind (arith, nat_tests))
+  where
+    third : (p q r : Bool) → (p || (q || r)) ≡ true → p ≡ false → q ≡ false → r ≡ true
+    third p q r e f g = rw (f, g) at e
+
+shown_ascii : ℕ → Bool
+shown_ascii b = ltb (bit_xor b 0x97) 0x9A || is_ordinary_ascii b
+
+pub ordinary_ascii_shown : (b least : ℕ) → b < 256 → least ≤ bit_xor b 0x97 → 0x9A ≤ least → is_ordinary_ascii b ≡ true
+unfolding shown_ascii is_ordinary
+ordinary_ascii_shown b least fits low l = second (ltb (bit_xor b 0x97) 0x9A) (is_ordinary_ascii b) (at_each shown_ascii 256 refl b fits) (grind (arith, nat_tests))
+  where
+    second : (p q : Bool) → (p || q) ≡ true → p ≡ false → q ≡ true
+    second p q e f = rw f at e
+
+-- ordinary ASCII is ordinary, and ASCII
+pub ascii_ordinary : (xs : List ℕ) (i j : ℕ) → AreAll is_ordinary_ascii xs i j → AreAll is_ordinary xs i j
+ascii_ordinary xs i j all k ge lt = let b = get_or xs k 0 in (and_parts (is_ordinary b) (ltb b 0x80) (all k ge lt)).0
+
+pub ordinary_ascii : (xs : List ℕ) (i j : ℕ) → AreAll is_ordinary_ascii xs i j → AreAscii xs i j
+ordinary_ascii xs i j all k ge lt = let b = get_or xs k 0 in ltb-true b 0x80 (and_parts (is_ordinary b) (ltb b 0x80) (all k ge lt)).1
 
 -- What an ordinary byte is not.
 pub record IsOrdinary (b : ℕ) : Type 0 where
@@ -53,24 +67,18 @@ all_rest x xs all k ge lt = all (suc k) (omega arith) (omega arith)
 first_is : (x : ℕ) (xs : List ℕ) → All (x ∷ xs) → IsOrdinary x
 first_is x xs all = ordinary x (all 0 (omega arith) (omega arith))
 
-no_nul : (b : ℕ) → IsOrdinary b → is_nul b ≡ false
-no_nul b o = let least = o.least in grind (arith, nat_tests)
-
-no_control : (b : ℕ) → IsOrdinary b → is_control b ≡ false
+no_control : (b : ℕ) → IsOrdinary b → is_uncontrolled b ≡ true
+unfolding is_uncontrolled
 no_control b o =
     let least = o.least in
+    let most = o.most in
     elim (cases_lt b 14) [
       | inl few ↦ grind (arith, nat_tests)
       | inr more ↦ (let past = o.no_control more in grind (arith, nat_tests))
     ]
 
-pub no_nuls : (xs : List ℕ) → All xs → count_by is_nul xs ≡ 0
-no_nuls [] all = refl
-no_nuls (x ∷ xs) all = counted_cons is_nul x xs ∙ rw (no_nul x (first_is x xs all)) (zero-add (count_by is_nul xs) ∙ no_nuls xs (all_rest x xs all))
-
-pub no_controls : (xs : List ℕ) → All xs → count_by is_control xs ≡ 0
-no_controls [] all = refl
-no_controls (x ∷ xs) all = counted_cons is_control x xs ∙ rw (no_control x (first_is x xs all)) (zero-add (count_by is_control xs) ∙ no_controls xs (all_rest x xs all))
+pub ordinary_uncontrolled : (xs : List ℕ) → All xs → AllUncontrolled xs
+ordinary_uncontrolled xs all k ge lt = no_control (get_or xs k 0) (ordinary (get_or xs k 0) (all k ge lt))
 
 -- Units of ordinary bytes.
 
@@ -172,9 +180,9 @@ skips-odd high_first s t a n xs later even some all after odd odd' counts before
 pub ordinary_drop : (i : ℕ) (xs : List ℕ) → All xs → All (drop i xs)
 ordinary_drop i xs all k ge lt = rw (get_or-drop i xs k 0) (all (i + k) (omega arith) (omega (arith, length-drop i xs)))
 
--- the ordinary bytes after others
-pub ordinary_on : (xs : List ℕ) (i j n : ℕ) → AreOrdinary xs i j → All (take n (drop j xs)) → j + n ≤ length xs → AreOrdinary xs i (j + n)
-ordinary_on xs i j n before block within k ge lt = elim (cases_lt k j) [
+-- the bytes of a class after others
+pub all_on : (p : ℕ → Bool) (xs : List ℕ) (i j n : ℕ) → AreAll p xs i j → AreAll p (take n (drop j xs)) 0 (length (take n (drop j xs))) → j + n ≤ length xs → AreAll p xs i (j + n)
+all_on p xs i j n before block within k ge lt = elim (cases_lt k j) [
   | inl less ↦ before k ge less
   | inr more ↦ (let at : j + (k - j) ≡ k = omega arith in
       let width : length (take n (drop j xs)) ≡ n = omega (arith, length-take n (drop j xs), length-drop j xs) in

@@ -1,5 +1,6 @@
 -- The survey of input that comes in parts.
-use Rattle.std.proofs.Common.{◌≡◌, ℕ, ◌+◌, Bool, false, true, List, [], ◌++◌, Option, None, Some, length, take, count_by, refl, sym, ap, ◌∙◌, arith, append-nil, append_assoc, add_assoc, add-zero, zero-add, length-append}
+use Rattle.std.proofs.Common.{◌≡◌, ℕ, ◌+◌, Bool, false, true, List, [], ◌++◌, Option, None, Some, length, take, drop, count_by, refl, sym, ap, ◌∙◌, arith, append-nil, append_assoc, add_assoc, add-zero, zero-add, length-append}
+use Rattle.std.proofs.Math.Seq.{take-add}
 use Rattle.utf_lanes.specs.BytePairs.{units_of}
 use Rattle.surveys.specs.declared.survey.Survey.{Survey}
 use Rattle.surveys.specs.declared.survey.Surveyor.{Surveyor}
@@ -53,6 +54,12 @@ fed old new part feeds =
       last_on old new part later feeds.held,
     )
     refl
+
+-- a part after others
+pub surveyed_on : (old s t : Surveyor) (part : List ℕ) (i n : ℕ) → Surveys old (take i part) s → Surveys s (take n (drop i part)) t → Surveys old (take (i + n) part) t
+surveyed_on old s t part i n before here later =
+    here later ∙ before (take n (drop i part) ++ later)
+    ∙ ap (foreseen old) (sym (append_assoc (take i part) (take n (drop i part)) later) ∙ ap (λ z. z ++ later) (sym (take-add i n part)))
 
 no_unit_left : (high_first : Bool) (odd : Option ℕ) → units_of high_first (odd_byte odd ++ []) ≡ []
 no_unit_left high_first None = refl

@@ -58,6 +58,30 @@ none_may bytes i within none k lt =
     let y : get_or next k 0 ≡ get_or (drop (i + k) bytes) 5 0 = get_or-chunk (i + 5) 32 bytes k 0 lt ∙ ap (λ j. get_or bytes j 0) five ∙ sym (get_or-drop (i + k) bytes 5 0) in
     rw (x, y) at (none_of (eqb (get_or first k 0) 0xC3) (eqb (get_or next k 0) 0xC2) (leb 0xC5 (get_or next k 0)) (rw (p, q, r) at bits))
 
+low_next : (b : ℕ) → b < 0xC2 → (eqb b 0xC2 || leb 0xC5 b) ≡ false
+low_next b lt = grind (arith, nat_tests)
+
+-- no lead byte comes two bytes after C3
+pub none_after : (bytes : List ℕ) (i most : ℕ) → i + 272 ≤ length bytes
+    → ((k : ℕ) → k < 256 → get_or (take 258 (drop (i + 3) bytes)) k 0 ≡ 0xC3 → get_or (take 258 (drop (i + 3) bytes)) (k + 2) 0 ≤ most) → most < 0xC2 → (k : ℕ) → k < 256
+    → may_be_twice (drop (i + k) bytes) ≡ false
+unfolding may_be_twice
+none_after bytes i most within all low k lt =
+    let three : i + 3 + k ≡ i + k + 3 = omega arith in
+    let five : i + 3 + (k + 2) ≡ i + k + 5 = omega arith in
+    let x : get_or (take 258 (drop (i + 3) bytes)) k 0 ≡ get_or (drop (i + k) bytes) 3 0
+    = get_or-take 258 (drop (i + 3) bytes) k 0 (omega arith) ∙ get_or-drop (i + 3) bytes k 0 ∙ ap (λ j. get_or bytes j 0) three ∙ sym (get_or-drop (i + k) bytes 3 0) in
+    let y : get_or (take 258 (drop (i + 3) bytes)) (k + 2) 0 ≡ get_or (drop (i + k) bytes) 5 0
+    = get_or-take 258 (drop (i + 3) bytes) (k + 2) 0 (omega arith) ∙ get_or-drop (i + 3) bytes (k + 2) 0 ∙ ap (λ j. get_or bytes j 0) five ∙ sym (get_or-drop (i + k) bytes 5 0) in
+    by_first (eqb (get_or (drop (i + k) bytes) 3 0) 0xC3) refl (λ is. rw y at (all k lt (x ∙ is)))
+  where
+    by_first : (b : Bool) → eqb (get_or (drop (i + k) bytes) 3 0) 0xC3 ≡ b → (get_or (drop (i + k) bytes) 3 0 ≡ 0xC3 → get_or (drop (i + k) bytes) 5 0 ≤ most)
+        → (eqb (get_or (drop (i + k) bytes) 3 0) 0xC3 && (eqb (get_or (drop (i + k) bytes) 5 0) 0xC2 || leb 0xC5 (get_or (drop (i + k) bytes) 5 0))) ≡ false
+    by_first false e few = rw e refl
+    by_first true e few =
+        let next : get_or (drop (i + k) bytes) 5 0 ≤ most = few (eqb-true (get_or (drop (i + k) bytes) 3 0) 0xC3 e) in
+        rw (e, low_next (get_or (drop (i + k) bytes) 5 0) (omega arith)) refl
+
 -- The first byte of a character that a continuation byte becomes.
 
 at_least : List ℕ → Bool

@@ -1,5 +1,5 @@
 -- Counts of bytes as units of UTF-16.
-use Rattle.std.specs.Prelude.{◌≡◌, ℕ, ◌+◌, Bool, not, ◌&&◌, ◌||◌, nat_lt, nat_le, ◌==◌, if◌then◌else◌, List, [], ◌∷◌, ◌++◌, count_by, Option, Some, None}
+use Rattle.std.specs.Prelude.{◌≡◌, ℕ, zero, suc, ◌+◌, ◌*◌, Bool, not, ◌&&◌, ◌||◌, nat_lt, nat_le, ◌==◌, if◌then◌else◌, List, [], ◌∷◌, ◌++◌, count_by, slice_index, Option, Some, None}
 use Rattle.utf_base.specs.Units.{is_leading_surrogate, is_trailing_surrogate}
 use Rattle.utf_lanes.specs.BytePairs.{units_of}
 use Rattle.surveys.specs.declared.unit_counts.UnitCounts.{UnitCounts}
@@ -22,6 +22,24 @@ is_unpaired before u = if is_leading_surrogate before then not (is_trailing_surr
 unfoldable pub unpaired_after : ℕ → List ℕ → ℕ
 unpaired_after before [] = 0
 unpaired_after before (u ∷ us) = number (is_unpaired before u) + unpaired_after u us
+
+-- the same of two units, as their high bytes show
+unfoldable pub are_highs_unpaired : ℕ → ℕ → Bool
+are_highs_unpaired a b =
+    if nat_le 0xD8 a && nat_lt a 0xDC then not (nat_le 0xDC b && nat_lt b 0xE0)
+    else nat_le 0xDC b && nat_lt b 0xE0
+
+-- the number of units that do not go together with the one before, as their high bytes show: every second byte from the first on
+unfoldable pub unpaired_highs : List ℕ → ℕ
+unpaired_highs [] = 0
+unpaired_highs (a ∷ []) = 0
+unpaired_highs (a ∷ b ∷ []) = 0
+unpaired_highs (a ∷ b ∷ c ∷ bytes) = number (are_highs_unpaired a c) + unpaired_highs (c ∷ bytes)
+
+-- in how many of the first n rows of 32 bytes the byte at the offset k and the second one after it do not go together
+unfoldable pub lane_count : List ℕ → ℕ → ℕ → ℕ
+lane_count bytes k zero = 0
+lane_count bytes k (suc n) = lane_count bytes k n + number (are_highs_unpaired (slice_index bytes (32 * n + k)) (slice_index bytes (32 * n + k + 2)))
 
 -- counts of nothing
 abbrev pub no_units : UnitCounts

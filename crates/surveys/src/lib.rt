@@ -15,6 +15,7 @@ mod sums;
 pub mod survey;
 mod twice_counts;
 pub mod unit_counts;
+mod unpaired_counts;
 pub mod utf8_counts;
 mod utf8_parts;
 pub mod whole;

@@ -3,11 +3,17 @@ ghost use Rattle.std.specs.Prelude.{◌≤◌, length};
 
 use crate::ends::{first_four, head_len, tail_len};
 use crate::few_bytes::FewBytes;
+use crate::ordinary::{OrdinaryAscii, class_end};
 use crate::rare_counts::RareCounts;
 use crate::sums::{sum, whole};
 use crate::unit_counts::{UnitCounts, UnitParts};
 use crate::utf8_counts::Utf8Counts;
 use crate::utf8_parts::Utf8Parts;
+use utf_lanes::byte_order::{BigEndian, LittleEndian};
+
+// The greatest number of bytes that are counted in one way before they are counted in the next: a CPU has them in a near
+// cache.
+const PART: usize = 65536;
 
 /// What was counted in an input. Counts are modulo 2^64.
 #[repr(C)]
@@ -49,7 +55,8 @@ pub struct Surveyor {
 }
 
 impl Surveyor {
-    ghost use Rattle.std.specs.Prelude.{◌≡◌, ℕ, List, []};
+    ghost use Rattle.std.specs.Prelude.{◌≡◌, ◌%◌, ◌++◌, ℕ, List, [], take};
+    ghost use Rattle.surveys.specs.SurveyOrdinary.{AreAll, is_ordinary_ascii};
     ghost use Rattle.surveys.specs.Surveys.{Surveys, foreseen, surveyed};
 
     /// A surveyor of an input of which nothing was fed.
@@ -73,9 +80,40 @@ impl Surveyor {
     pub fn feed(&mut self, part: &[u8])
         ensures { Surveys self.old part.now self.new }
     {
+        let mut place = 0;
+        while place < part.len() {
+            let end = class_end::<OrdinaryAscii>(part, place);
+            if place < end {
+                self.pass(&part[place..end]);
+                place = end;
+            } else {
+                let len = PART.min(part.len() - place);
+                self.see(&part[place..place + len]);
+                place += len;
+            }
+        }
+    }
+
+    // Takes the next part, of ordinary ASCII.
+    fn pass(&mut self, part: &[u8])
+        requires some { 16 ≤ length part.now }
+        requires even { length part.now % 2 ≡ 0 }
+        requires class { AreAll is_ordinary_ascii part.now 0 (length part.now) }
+        ensures { Surveys self.old part.now self.new }
+    {
         self.len = sum(self.len, part.len() as u64);
-        let front = FewBytes::joined(self.front.bytes(), &part[..part.len().min(4)]);
-        self.front = FewBytes::first(front.bytes());
+        self.front = self.front_with(part);
+        self.utf8.pass(part);
+        self.utf16le.pass::<LittleEndian>(part);
+        self.utf16be.pass::<BigEndian>(part);
+    }
+
+    // Takes the next part, of any bytes.
+    fn see(&mut self, part: &[u8])
+        ensures { Surveys self.old part.now self.new }
+    {
+        self.len = sum(self.len, part.len() as u64);
+        self.front = self.front_with(part);
         self.utf8.feed(part);
         let mut rare = RareCounts {
             nul: self.nul,
@@ -88,6 +126,14 @@ impl Surveyor {
         self.control = rare.control;
         self.utf16le = rare.utf16le;
         self.utf16be = rare.utf16be;
+    }
+
+    // The first four bytes of the input with the next part.
+    fn front_with(&self, part: &[u8]) -> FewBytes
+        ensures { result ≡ take 4 (self.now.front ++ part.now) }
+    {
+        let front = FewBytes::joined(self.front.bytes(), &part[..part.len().min(4)]);
+        FewBytes::first(front.bytes())
     }
 
     /// The survey of what was fed so far. More may be fed afterwards.

@@ -1,5 +1,5 @@
 //! Sequences that were encoded twice. Few windows of a text have one, and two bytes of a window show that it has none.
-ghost use Rattle.std.specs.Prelude.{◌≡◌, ℕ, ◌+◌, ◌<◌, ◌≤◌, IsTrue, drop, false, length, nat_lt};
+ghost use Rattle.std.specs.Prelude.{◌≡◌, ℕ, ◌+◌, ◌<◌, ◌≤◌, IsTrue, drop, false, length, nat_lt, slice_index};
 ghost use Rattle.surveys.specs.SurveyCounts.{number, window_sum, wrapped};
 ghost use Rattle.surveys.specs.SurveyTwice.{may_be_twice};
 ghost use Rattle.surveys.specs.SurveyWindows.{twice_len};
@@ -7,6 +7,9 @@ ghost use Rattle.surveys.specs.SurveyWindows.{twice_len};
 use crate::sums::{number, sum, whole};
 use crate::windows::{WINDOW, twice_len};
 use std::simd::prelude::*;
+
+// The number of windows of which a coarse test is made in one step.
+const WIDE: usize = 256;
 
 // The number of windows that are tested in one step.
 const BLOCK: usize = 64;
@@ -27,7 +30,9 @@ pub(crate) fn twice_counts(bytes: &[u8]) -> TwiceCounts
     let mut chars = 0;
     let mut place = 0;
     while WINDOW <= bytes.len() - place {
-        if place % BLOCK == 0 && has_none(bytes, place) {
+        if place % WIDE == 0 && has_none_surely(bytes, place) {
+            place += WIDE;
+        } else if place % BLOCK == 0 && has_none(bytes, place) {
             place += BLOCK;
         } else {
             let len = twice_len(&bytes[place..place + WINDOW]);
@@ -40,6 +45,40 @@ pub(crate) fn twice_counts(bytes: &[u8]) -> TwiceCounts
         sequences: whole(sequences),
         chars: whole(chars),
     }
+}
+
+// Returns true if in none of the 256 windows from the offset on C3 and a lead byte show that there may be a sequence.
+#[inline(always)]
+fn has_none_surely(bytes: &[u8], place: usize) -> bool
+    requires { place ≤ length bytes.now }
+    ensures within { IsTrue result → place + 272 ≤ length bytes.now }
+    ensures none { IsTrue result → (k : ℕ) → k < 256 → may_be_twice (drop (place + k) bytes.now) ≡ false }
+{
+    if bytes.len() - place < WIDE + WINDOW - 1 {
+        return false;
+    }
+    most_after_lead(&bytes[place + 3..place + WIDE + 5]) < 0xc2
+}
+
+// The greatest of the bytes at 256 offsets that have C3 two bytes before, or 0.
+#[inline(always)]
+fn most_after_lead(bytes: &[u8]) -> u8
+    requires { length bytes.now ≡ 258 }
+    ensures { (k : ℕ) → k < 256 → slice_index bytes.now k ≡ 0xC3 → slice_index bytes.now (k + 2) ≤ result }
+{
+    let mut most = 0;
+    for k in 0..WIDE {
+        most = most.max(after_lead(bytes[k], bytes[k + 2]));
+    }
+    most
+}
+
+// The second byte if the first is C3, otherwise 0.
+#[inline(always)]
+fn after_lead(first: u8, second: u8) -> u8
+    ensures { first ≡ 0xC3 → result ≡ second }
+{
+    if first == 0xc3 { second } else { 0 }
 }
 
 // Returns true if none of the 64 windows from the offset on has a sequence, as far as two bytes of each show.

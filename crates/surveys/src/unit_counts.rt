@@ -1,9 +1,9 @@
 //! What is counted in bytes that may be units of UTF-16.
-ghost use Rattle.std.specs.Prelude.{◌≡◌, ◌+◌, ◌%◌, ◌≤◌, true, [], ◌∷◌, ◌++◌, List, ℕ, None, count_by, length, take};
+ghost use Rattle.std.specs.Prelude.{◌≡◌, ◌+◌, ◌%◌, ◌≤◌, true, [], ◌∷◌, ◌++◌, List, ℕ, None, count_by, drop, length, take};
 ghost use Rattle.surveys.specs.SurveyCounts.{number, wrapped};
-ghost use Rattle.surveys.specs.SurveyOrdinary.{AreOrdinary, is_after_ordinary};
-ghost use Rattle.surveys.specs.SurveyUnits.{AddsUnpaired, FeedsUnits, SeesUnit, SeesUnits, is_plain, is_stray, is_unpaired, no_units, units_from};
-ghost use Rattle.utf_lanes.specs.BytePairs.{units_of};
+ghost use Rattle.surveys.specs.SurveyOrdinary.{AreAll, AreOrdinary, is_after_ordinary, is_uncontrolled};
+ghost use Rattle.surveys.specs.SurveyUnits.{AddsUnpaired, FeedsUnits, SeesUnit, SeesUnits, is_plain, is_stray, is_unpaired, no_units, units_from, unpaired_highs};
+ghost use Rattle.utf_lanes.specs.BytePairs.{high_place, units_of};
 
 use crate::ordinary::is_ordinary;
 use crate::sums::{number, sum, whole};
@@ -90,6 +90,21 @@ impl UnitParts {
         } else {
             self.feed::<E>(&part[4..]);
         }
+    }
+
+    /// Takes the next part, which begins with a unit, of bytes of which only unpaired units are counted: after the first
+    /// unit so many.
+    pub(crate) fn pass_unpaired<E: ByteOrder>(&mut self, part: &[u8], unpaired: u64)
+        requires begins { self.old.odd ≡ None }
+        requires some { 2 ≤ length part.now }
+        requires even { length part.now % 2 ≡ 0 }
+        requires class { AreAll is_uncontrolled part.now 0 (length part.now) }
+        requires unpaired { unpaired ≡ unpaired_highs (drop (high_place E.HIGH_FIRST) part.now) }
+        ensures { FeedsUnits E.HIGH_FIRST self.old part.now self.new }
+    {
+        self.see(unit::<E>(part[0], part[1]));
+        self.counts.unpaired = sum(self.counts.unpaired, unpaired);
+        self.before = unit::<E>(part[part.len() - 2], part[part.len() - 1]);
     }
 
     /// The counts if no more follows.
@@ -179,6 +194,7 @@ impl UnitParts {
     #[inline(always)]
     fn see(&mut self, unit: u16)
         ensures counts { SeesUnit self.old unit self.new }
+        ensures before { self.new.before ≡ unit }
         ensures odd { self.new.odd ≡ self.old.odd }
     {
         self.counts.plain = sum(self.counts.plain, number(is_plain(unit)));

@@ -1,5 +1,6 @@
 //! The counts of windows of input that comes in parts.
 ghost use Rattle.std.specs.Prelude.{◌≡◌, ◌+◌, ◌≤◌, [], ◌∷◌, ◌++◌, List, ℕ, length};
+ghost use Rattle.utf_lanes.specs.AsciiTexts.{AreAscii};
 ghost use Rattle.surveys.specs.SurveyCounts.{nothing};
 ghost use Rattle.surveys.specs.SurveyParts.{FeedsWindows, counts_with, last_of, three_zeros};
 
@@ -38,6 +39,19 @@ impl Utf8Parts {
             self.counts.add(count(part));
             self.held = FewBytes::last(part);
         }
+    }
+
+    /// Takes the next part, of only ASCII: no window inside it adds to the counts.
+    pub(crate) fn pass(&mut self, part: &[u8])
+        requires few { length self.old.held ≤ 16 }
+        requires some { 16 ≤ length part.now }
+        requires ascii { AreAscii part.now 0 (length part.now) }
+        ensures counts { FeedsWindows self.old part.now self.new }
+        ensures held { self.new.held ≡ last_of 16 (self.old.held ++ part.now) }
+    {
+        let joined = FewBytes::joined(self.held.bytes(), &part[..16]);
+        self.counts.add(count(joined.bytes()));
+        self.held = FewBytes::last(part);
     }
 
     /// The counts if no more follows.

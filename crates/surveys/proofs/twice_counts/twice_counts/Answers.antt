@@ -4,6 +4,19 @@ use Rattle.surveys.specs.SurveyWindows.{twice_len}
 use Rattle.surveys.proofs.TwiceWindows.{none_twice-at, sum_ended, sum_one, sum_skip}
 use Rattle.surveys.proofs.twice_counts.twice_counts.Goals as goal
 
+pub loop-place-preserved-then-has_none_surely : goal.loop-place-preserved-then-has_none_surely
+loop-place-preserved-then-has_none_surely c =
+    let l = c.loop-place in
+    let bytes = c.args.bytes.now in
+    let within = c.if-has_none_surely.ensures.within in
+    let none : (k : ℕ) → k < 256 → twice_len (take 17 (drop (l.place + k) bytes)) ≡ 0 = λ k lt. none_twice-at bytes (l.place + k) (c.has_none_surely.ensures.none c.if-has_none_surely.true k lt) in
+    record {
+      within = omega (arith, c.has_none_surely.ensures.within c.if-has_none_surely.true);
+      sequences = ap (λ n. wrapped (l.sequences + n)) (sum_skip (λ w. number (nat_lt 0 (twice_len w))) bytes l.place 256 (omega (arith, c.has_none_surely.ensures.within c.if-has_none_surely.true)) (λ k lt. ap (λ n. number (nat_lt 0 n)) (none k lt)))
+          ∙ l.invariant.sequences;
+      chars = ap (λ n. wrapped (l.chars + n)) (sum_skip twice_len bytes l.place 256 (omega (arith, c.has_none_surely.ensures.within c.if-has_none_surely.true)) none) ∙ l.invariant.chars;
+    }
+
 pub loop-place-preserved-then-has_none : goal.loop-place-preserved-then-has_none
 loop-place-preserved-then-has_none c =
     let l = c.loop-place in
