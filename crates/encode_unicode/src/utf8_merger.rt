@@ -222,7 +222,12 @@ fn second<I: Iterator<Item = u8>>(
         Some(byte) => {
             let next = step(state, class_of(byte));
             if is_running(next) {
-                return third(first, byte, next, held, source);
+                let front = FirstTwo {
+                    first,
+                    second: byte,
+                    state: next,
+                };
+                return third(front, held, source);
             }
             if next != State::Done {
                 *held = HeldBytes::one(byte);
@@ -233,23 +238,45 @@ fn second<I: Iterator<Item = u8>>(
     }
 }
 
-// Reads the third byte, and the one after it.
-#[inline(always)]
-fn third<I: Iterator<Item = u8>>(
+// The first two bytes of a code, and the state that they lead to: it asks for a third one.
+#[derive(Drop)]
+struct FirstTwo {
     first: u8,
     second: u8,
     state: State,
+    ghost walked: { state ≡ state_after (first ∷ second ∷ []) 2 },
+    ghost asks: { running state ≡ true },
+}
+
+// The first three bytes of a code, and the state that they lead to: it asks for a fourth one.
+#[derive(Drop)]
+struct FirstThree {
+    first: u8,
+    second: u8,
+    third: u8,
+    state: State,
+    ghost walked: { state ≡ state_after (first ∷ second ∷ third ∷ []) 3 },
+    ghost asks: { running state ≡ true },
+}
+
+// Reads the third byte, and the one after it.
+#[inline(always)]
+fn third<I: Iterator<Item = u8>>(
+    front: FirstTwo,
     held: &mut HeldBytes,
     source: &mut I,
 ) -> Result<CodeBytes, Utf8Error>
-    requires walked { state ≡ state_after (first ∷ second ∷ []) 2 }
-    requires asks { running state ≡ true }
     requires can { I.can_next source.old }
     requires none { held.old.held ≡ [] }
     requires going { held.old.ended ≡ false }
-    ensures { CompletesAfter I.can_next I.remaining I.next_gives first (second ∷ [])
+    ensures { CompletesAfter I.can_next I.remaining I.next_gives front.first (front.second ∷ [])
         source.old result held.new source.new }
 {
+    let FirstTwo {
+        first,
+        second,
+        state,
+    } = front;
     match read(source) {
         None => {
             *held = HeldBytes::one(second).ended();
@@ -258,7 +285,13 @@ fn third<I: Iterator<Item = u8>>(
         Some(byte) => {
             let next = step(state, class_of(byte));
             if is_running(next) {
-                return fourth(first, second, byte, next, held, source);
+                let front = FirstThree {
+                    first,
+                    second,
+                    third: byte,
+                    state: next,
+                };
+                return fourth(front, held, source);
             }
             if next != State::Done {
                 *held = HeldBytes::two(second, byte);
@@ -272,21 +305,22 @@ fn third<I: Iterator<Item = u8>>(
 // Reads the fourth byte.
 #[inline(always)]
 fn fourth<I: Iterator<Item = u8>>(
-    first: u8,
-    second: u8,
-    third: u8,
-    state: State,
+    front: FirstThree,
     held: &mut HeldBytes,
     source: &mut I,
 ) -> Result<CodeBytes, Utf8Error>
-    requires walked { state ≡ state_after (first ∷ second ∷ third ∷ []) 3 }
-    requires asks { running state ≡ true }
     requires can { I.can_next source.old }
     requires none { held.old.held ≡ [] }
     requires going { held.old.ended ≡ false }
-    ensures { CompletesAfter I.can_next I.remaining I.next_gives first (second ∷ third ∷ [])
-        source.old result held.new source.new }
+    ensures { CompletesAfter I.can_next I.remaining I.next_gives front.first
+        (front.second ∷ front.third ∷ []) source.old result held.new source.new }
 {
+    let FirstThree {
+        first,
+        second,
+        third,
+        state,
+    } = front;
     match read(source) {
         None => {
             *held = HeldBytes::two(second, third).ended();

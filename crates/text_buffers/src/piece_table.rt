@@ -13,6 +13,7 @@ use crate::lists::splice_in;
 use encode_unicode::{Steps, Utf8Char};
 use std::alloc::{AllocError, Allocator};
 use std::marker::Model;
+use std::ops::Range;
 use text_runs::runs::items::Item;
 
 /// Bytes and their pieces, which are kept up to date while the bytes are edited. Contracts see
@@ -47,7 +48,7 @@ impl<A: Allocator + Copy> PieceTable<A> {
         let mut held = Vec::with_capacity(alloc, bytes.len())?;
         held.extend_from_slice(bytes)?;
         let mut pieces = Vec::new(alloc);
-        decode_pieces(bytes, 0, bytes.len(), &mut pieces, &mut Steps::new())?;
+        decode_pieces(bytes, 0..bytes.len(), &mut pieces, &mut Steps::new())?;
         Ok(PieceTable {
             bytes: held,
             pieces,
@@ -112,40 +113,43 @@ impl<A: Allocator + Copy> PieceTable<A> {
         let mut fresh = Vec::with_capacity(*self.bytes.allocator(), most)?;
         self.pieces.reserve(most)?;
         splice_in(&mut self.bytes, start, end, new)?;
-        redecode(
-            &self.bytes,
+        let edited = Edited {
+            bytes: &self.bytes,
             start,
             end,
-            start + new.len(),
-            &mut self.pieces,
-            &mut fresh,
-            steps,
-        )
+            after: start + new.len(),
+        };
+        redecode(edited, &mut self.pieces, &mut fresh, steps)
     }
 }
 
-// Updates the pieces to those of `bytes`, after the bytes from `start` to `end` were replaced by others that
-// end at `after`. There is capacity for what is decoded, so it never fails.
-fn redecode<A: Allocator>(
-    bytes: &[u8],
+// Bytes of which those from `start` to `end` were replaced by others, which end at `after`.
+#[derive(Clone, Copy, Drop)]
+struct Edited<'a> {
+    bytes: &'a [u8],
     start: usize,
     end: usize,
     after: usize,
+}
+
+// Updates the pieces to those of the edited bytes. There is capacity for what is decoded, so it never fails.
+fn redecode<A: Allocator>(
+    edited: Edited<'_>,
     pieces: &mut Vec<Item, A>,
     fresh: &mut Vec<Item, A>,
     steps: &mut Steps,
 ) -> Result<(), AllocError>
-    requires replaced { WereReplaced bytes.now start end after pieces.old.items }
+    requires replaced { WereReplaced edited.bytes.now edited.start edited.end edited.after pieces.old.items }
     requires empty { fresh.old.items ≡ [] }
-    requires fresh_room { after - start + 6 ≤ vec_capacity fresh.old }
-    requires room { vec_len pieces.old + (after - start + 6) ≤ vec_capacity pieces.old }
+    requires fresh_room { edited.after - edited.start + 6 ≤ vec_capacity fresh.old }
+    requires room { vec_len pieces.old + (edited.after - edited.start + 6) ≤ vec_capacity pieces.old }
     ensures done { IsOk result }
-    ensures renewed { IsRenewed bytes.now start end after
+    ensures renewed { IsRenewed edited.entry.bytes.now edited.entry.start edited.entry.end edited.entry.after
         pieces.old.items pieces.new.items steps.old steps.new }
 {
-    let spot = find_splice(bytes, start, end, after, pieces.as_slice());
-    decode_pieces(bytes, spot.from, after + 3, fresh, steps)?;
-    put_pieces(pieces, spot.keep, spot.resume, fresh.as_slice(), end, after)
+    let spot = find_splice(edited, pieces.as_slice());
+    decode_pieces(edited.bytes, spot.from..edited.after + 3, fresh, steps)?;
+    put_pieces(pieces, spot, fresh.as_slice(), edited)
 }
 
 // Decodes the pieces that a change at the offset would affect, each in one step, and keeps none: if nothing
@@ -155,7 +159,13 @@ fn decode_near(bytes: &[u8], place: usize, pieces: &[Item], steps: &mut Steps)
     ensures least { StepForEach bytes.now (place - 3) (place + 3) steps.old steps.new }
     ensures most { steps.new ≤ steps.old + 6 }
 {
-    let spot = find_splice(bytes, place, place, place, pieces);
+    let edited = Edited {
+        bytes,
+        start: place,
+        end: place,
+        after: place,
+    };
+    let spot = find_splice(edited, pieces);
     let end = bytes.len().min(place + 3);
     let mut next = spot.from;
     while next < end {
@@ -175,38 +185,38 @@ struct Splice {
 
 // The range of the pieces to replace. A piece that ends near enough to a change to be affected by it is not
 // kept.
-fn find_splice(bytes: &[u8], start: usize, end: usize, after: usize, pieces: &[Item]) -> Splice
-    requires replaced { WereReplaced bytes.now start end after pieces.now }
-    ensures { IsSplice bytes.now start end after pieces.now result.keep result.resume result.from }
+fn find_splice(edited: Edited<'_>, pieces: &[Item]) -> Splice
+    requires replaced { WereReplaced edited.bytes.now edited.start edited.end edited.after pieces.now }
+    ensures { IsSplice edited.entry.bytes.now edited.entry.start edited.entry.end edited.entry.after
+        pieces.now result.keep result.resume result.from }
 {
-    let keep = count_before(pieces, start.saturating_sub(3));
+    let keep = count_before(pieces, edited.start.saturating_sub(3));
     Splice {
         keep,
-        resume: count_before(pieces, end + 3),
+        resume: count_before(pieces, edited.end + 3),
         from: end_of(pieces, keep),
     }
 }
 
-// Replaces the items from `keep` to `resume` by `fresh`, and moves the offsets of those after them from
-// `from` to `to`. It fails only if capacity is missing.
+// Replaces the pieces of the splice by `fresh`, and moves the offsets of those after them by as much as the bytes
+// were moved. It fails only if capacity is missing.
 fn put_pieces<A: Allocator>(
     pieces: &mut Vec<Item, A>,
-    keep: usize,
-    resume: usize,
+    spot: Splice,
     fresh: &[Item],
-    from: usize,
-    to: usize,
+    edited: Edited<'_>,
 ) -> Result<(), AllocError>
-    requires ordered { keep ≤ resume }
-    requires within { resume ≤ vec_len pieces.old }
-    requires counted { All (λ (x : AnItem). from ≤ x.0) (drop resume pieces.old.items) }
-    requires fits { All (λ (x : AnItem). to + (x.0 - from) < 2 ^ 64) (drop resume pieces.old.items) }
-    ensures ok { OnOk result (pieces.new.items ≡ take keep pieces.old.items ++
-        (fresh.now ++ map (moved_item from to) (drop resume pieces.old.items))) }
+    requires ordered { spot.keep ≤ spot.resume }
+    requires within { spot.resume ≤ vec_len pieces.old }
+    requires counted { All (λ (x : AnItem). edited.end ≤ x.0) (drop spot.resume pieces.old.items) }
+    requires fits { All (λ (x : AnItem). edited.after + (x.0 - edited.end) < 2 ^ 64)
+        (drop spot.resume pieces.old.items) }
+    ensures ok { OnOk result (pieces.new.items ≡ take spot.keep pieces.old.items ++ (fresh.now ++
+        map (moved_item edited.entry.end edited.entry.after) (drop spot.resume pieces.old.items))) }
     ensures room { vec_len pieces.old + length fresh.now ≤ vec_capacity pieces.old → IsOk result }
 {
-    move_places(&mut pieces[resume..], from, to);
-    splice_in(pieces, keep, resume, fresh)
+    move_places(&mut pieces[spot.resume..], edited.end, edited.after);
+    splice_in(pieces, spot.keep, spot.resume, fresh)
 }
 
 // The number of items that begin before the offset.
@@ -236,42 +246,32 @@ fn move_places(items: &mut [Item], from: usize, to: usize)
     requires fits { All (λ (x : AnItem). to + (x.0 - from) < 2 ^ 64) items.old }
     ensures { items.new ≡ map (moved_item from to) items.old }
 {
-    if from != to {
-        move_each(items, from, to);
+    if from == to {
+        return;
     }
-}
-
-// Moves the offsets of the items from `from` to `to`, one by one.
-fn move_each(items: &mut [Item], from: usize, to: usize)
-    requires counted { All (λ (x : AnItem). from ≤ x.0) items.old }
-    requires fits { All (λ (x : AnItem). to + (x.0 - from) < 2 ^ 64) items.old }
-    ensures { items.new ≡ map (moved_item from to) items.old }
-{
     for i in 0..items.len() {
         let item = items[i];
         items[i] = (to + (item.0 - from), item.1, item.2);
     }
 }
 
-// Collects the pieces of the bytes that begin from `place` on and before `until`, if no code covers `place`.
-// Each takes one step.
+// Collects the pieces of the bytes that begin in the range, if no code covers its start. Each takes one step.
 fn decode_pieces<A: Allocator>(
     bytes: &[u8],
-    place: usize,
-    until: usize,
+    range: Range<usize>,
     pieces: &mut Vec<Item, A>,
     steps: &mut Steps,
 ) -> Result<(), AllocError>
-    requires within { place ≤ length bytes.now }
-    requires outside { Inside utf8 bytes.now place → ⊥ }
+    requires within { range.start ≤ length bytes.now }
+    requires outside { Inside utf8 bytes.now range.start → ⊥ }
     requires empty { pieces.old.items ≡ [] }
-    ensures run { OnOk result (IsForwardRunBetween bytes.now place until pieces.new.items) }
+    ensures run { OnOk result (IsForwardRunBetween bytes.now range.start range.end pieces.new.items) }
     ensures steps { OnOk result (steps.new ≡ steps.old + length pieces.new.items) }
-    ensures few { steps.new ≤ steps.old + (until - place) }
-    ensures room { until - place ≤ vec_capacity pieces.old → IsOk result }
+    ensures few { steps.new ≤ steps.old + (range.end - range.start) }
+    ensures room { range.end - range.start ≤ vec_capacity pieces.old → IsOk result }
 {
-    let end = until.min(bytes.len());
-    let mut next = place;
+    let end = range.end.min(bytes.len());
+    let mut next = range.start;
     while next < end {
         let item = piece_at(bytes, next, steps);
         next += item.2;

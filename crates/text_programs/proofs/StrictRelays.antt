@@ -16,6 +16,20 @@ use Rattle.text_programs.specs.StrictRelayed.{BeginsTranscoded, StopsFaulty, Wri
 use Rattle.text_programs.specs.declared.programs.strict.FaultAt.{FaultAt}
 use Rattle.text_runs.proofs.Fronts.{AppendsFront-all, AppendsFront-then}
 
+-- what is carried over after a part was read
+pub held_within : (r s : Recoding) (part room new : List ℕ) (p : StrictProgress) → FeedsStrictly r part room new p s → (before read : ℕ) → length r.held ≤ before
+    → read ≡ min (before + length part) (2 ^ 64 - 1) → length s.held ≤ read
+held_within r s part room new p f before read held sum =
+    omega (
+      arith,
+      ap length f.parts,
+      length-append r.held part,
+      length-append f.text (f.fault ++ (s.held ++ drop p.read part)),
+      length-append f.fault (s.held ++ drop p.read part),
+      length-append s.held (drop p.read part),
+      f.few,
+    )
+
 -- A call of the recoder that ended at a fault.
 module _ (r s : Recoding) (part room new : List ℕ) (p : StrictProgress) (x : Fault) (f : FeedsStrictly r part room new p s) (e : p.outcome ≡ Faulty x) where
   ends_faulty : EndsFeed r.from r.to (Faulty x) f.fault s.held (drop p.read part) (length room - p.written)
@@ -64,7 +78,6 @@ pub record IsTextRelayed (from to : Form) (in_old in_now out_old out_now : Optio
   pub few : length r.held ≤ 3
   pub paced : (failures_old < failures_now) ⊎ (turns ≤ length (text ++ r.held))
   pub counted : length (text ++ r.held) < 2 ^ 64 → offset ≡ length (text ++ r.held)
-  pub before : length r.held ≤ offset
 
 pub IsTextRelayed-none : {from to : Form} {input out : Option (List ℕ)} {failures : ℕ} {r : Recoding} → r ≡ fresh from to
     → IsTextRelayed from to input input out out failures failures 0 r 0
@@ -80,7 +93,6 @@ IsTextRelayed-none {from} {to} {input} {out} e =
       few = omega arith;
       paced = inr (omega arith);
       counted = λ fits. refl;
-      before = omega arith;
     })
 
 module _ {from to : Form} {in_old in_mid out_old out_mid : Option (List ℕ)} {f g n o : ℕ} {r : Recoding} (now : IsTextRelayed from to in_old in_mid out_old out_mid f g n r o) where
@@ -101,8 +113,6 @@ module _ {from to : Form} {in_old in_mid out_old out_mid : Option (List ℕ)} {f
   IsTextRelayed-part {in_new} {out_new} {s} {part} taken some same p sum =
       let all = ap length (read_more part p.text s.held p.parts) in
       let both = length-append (now.text ++ r.held) part in
-      let before = now.before in
-      let few = p.few in
       record {
         text = now.text ++ p.text;
         grown = now.grown ++ p.grown;
@@ -118,7 +128,6 @@ module _ {from to : Form} {in_old in_mid out_old out_mid : Option (List ℕ)} {f
             (λ (each : n ≤ length (now.text ++ r.held)). inr (omega arith))
             now.paced;
         counted = λ fits. let exact = now.counted (omega arith) in omega arith;
-        before = omega (arith, ap length p.parts, length-append r.held part, length-append p.text s.held);
       }
 
   -- a read failed
@@ -134,7 +143,6 @@ module _ {from to : Form} {in_old in_mid out_old out_mid : Option (List ℕ)} {f
     few = now.few;
     paced = inl (omega arith);
     counted = now.counted;
-    before = now.before;
   }
 
   -- the reader is at its end, and the carried-over bytes are text

@@ -5,7 +5,7 @@ use Rattle.std.proofs.lemmas.List.{drop-drop, drop-take, get_or-drop, get_or-tak
 use Rattle.utf_base.specs.Code.{utf8}
 use Rattle.utf_base.specs.Kinds.{asked, asked_by, fault_kind, value}
 use Rattle.utf_base.specs.declared.errors.Utf8ErrorKind.{Utf8ErrorKind}
-use Rattle.utf_base.proofs.FrontLemmas.{asked-0, asked_le, code_where_no_fault, decodes_from_none, no_fault_where_code}
+use Rattle.utf_base.proofs.FrontLemmas.{asked-0, code_where_no_fault, decodes_from_none, no_fault_where_code}
 use Rattle.utf_base.specs.Piece.{Stands}
 use Rattle.utf_base.proofs.Standing.{same_char}
 use Rattle.utf_base.proofs.Utf8Code.{utf8_is_code}

@@ -71,14 +71,6 @@ impl Lines {
         }
     }
 
-    /// The bytes of the lines.
-    #[inline(always)]
-    fn as_bytes(&self) -> &[u8]
-        ensures { result.now ≡ self.now }
-    {
-        &self.bytes[..self.len]
-    }
-
     /// Returns true if one more line fits.
     #[inline(always)]
     pub(crate) fn has_room(&self) -> bool
@@ -97,7 +89,7 @@ impl Lines {
         ensures front { Known W.contents AppendsFront out.old out.new self.old }
         ensures writes { CountsWrites result out.old out.new }
     {
-        write_whole(self.as_bytes(), out)?;
+        write_whole(&self.bytes[..self.len], out)?;
         self.len = 0;
         Ok(())
     }

@@ -1,11 +1,11 @@
 //! Strict transcoding from a reader to a writer: up to the first invalid byte.
-ghost use Rattle.std.specs.Prelude.{◌≡◌, ◌≢◌, ◌+◌, ◌-◌, ◌*◌, ◌^◌, ◌<◌, ◌≤◌, [], length, IfSome, IfErr, OnOk};
+ghost use Rattle.std.specs.Prelude.{◌≡◌, ◌≢◌, ◌+◌, ◌-◌, ◌*◌, ◌^◌, ◌<◌, ◌≤◌, [], length, min, IfSome, IfErr, OnOk};
 ghost use Rattle.text_runs.specs.Failures.{IsDrained, Known, Pipes, NoFailedRead, NoReadAfterEnd};
 ghost use Rattle.text_programs.specs.StrictRelayed.{BeginsTranscoded, EndsText, HoldsText, IfFaulty, IsFollowed, PassesText, PassesTextFront, PassesTextLast, StopsFaulty, StopsText, WritesText, strict_error_text};
 ghost use Rattle.text_programs.specs.Writes.{FailsIf};
 
+use crate::programs::recode_stream::Forms;
 use recoding::faults::{Fault, FaultKind, Outcome};
-use recoding::form::Form;
 use recoding::recoder::Recoder;
 use std::error::Error;
 use std::fmt;
@@ -78,17 +78,16 @@ const ROOM: usize = 2 * (PART + 3);
 pub fn recode_strict<R: Read, W: Write>(
     input: &mut Counted<R>,
     out: &mut Counted<W>,
-    from: Form,
-    to: Form,
+    forms: Forms,
 ) -> Result<(), StrictError>
     ensures text { OnOk result
-        (Known W.contents (WritesText from to (R.remaining input.old.inner)) out.old out.new) }
+        (Known W.contents (WritesText forms.from forms.to (R.remaining input.old.inner)) out.old out.new) }
     ensures faulty { IfErr result (λ e. IfFaulty e
-        (Pipes R.remaining W.contents (StopsFaulty from to) input.old input.new out.old out.new)) }
-    ensures front { Pipes R.remaining W.contents (BeginsTranscoded from to)
+        (Pipes R.remaining W.contents (StopsFaulty forms.from forms.to) input.old input.new out.old out.new)) }
+    ensures front { Pipes R.remaining W.contents (BeginsTranscoded forms.from forms.to)
         input.old input.new out.old out.new }
     ensures held_back { result ≡ Err StrictError.Read →
-        Pipes R.remaining W.contents (HoldsText from to) input.old input.new out.old out.new }
+        Pipes R.remaining W.contents (HoldsText forms.from forms.to) input.old input.new out.old out.new }
     ensures drained { OnOk result (Known R.remaining IsDrained input.old input.new) }
     ensures unbroken { result ≢ Err StrictError.Read → NoFailedRead input.old.reads input.new.reads }
     ensures in_time { NoReadAfterEnd input.old.reads input.new.reads }
@@ -97,17 +96,16 @@ pub fn recode_strict<R: Read, W: Write>(
         input.old.failures < input.new.failures) }
     ensures writes { FailsIf (result ≡ Err StrictError.Write) out.old out.new }
 {
-    let mut recoder = Recoder::new(from, to);
+    let mut reading = Reading {
+        recoder: Recoder::new(forms.from, forms.to),
+        count: 0,
+    };
     let mut part = [0; PART];
     let mut room = [0; ROOM];
-    let mut offset: u64 = 0;
     for _ in 0..u64::MAX {
         match input.take(&mut part) {
-            Ok(0) => return pass_end(&mut recoder, offset, &mut room, out),
-            Ok(count) => {
-                pass_part(&mut recoder, &part[..count], offset, &mut room, out)?;
-                offset = offset.saturating_add(count as u64);
-            }
+            Ok(0) => return pass_end(reading, &mut room, out),
+            Ok(count) => pass_part(&mut reading, &part[..count], &mut room, out)?,
             Err(error) if error.kind() == ErrorKind::Interrupted => {}
             Err(_) => return Err(StrictError::Read),
         }
@@ -115,58 +113,65 @@ pub fn recode_strict<R: Read, W: Write>(
     Err(StrictError::Read)
 }
 
-// Transcodes a part by way of the buffer, and writes the output. `read` bytes were read before the part.
+// A recoder, and the number of bytes that were read: at most `u64::MAX`. It carries the last of them over.
+#[derive(Drop)]
+struct Reading {
+    recoder: Recoder,
+    count: u64,
+    ghost before: { length recoder.held ≤ count },
+}
+
+// Transcodes a part by way of the buffer, and writes the output.
 fn pass_part<W: Write>(
-    recoder: &mut Recoder,
+    reading: &mut Reading,
     part: &[u8],
-    offset: u64,
     room: &mut [u8],
     out: &mut Counted<W>,
 ) -> Result<(), StrictError>
-    requires room { 2 * (length recoder.old.held + length part.now) ≤ length room.old }
-    requires before { length recoder.old.held ≤ offset }
+    requires { 2 * (length reading.old.recoder.held + length part.now) ≤ length room.old }
     ensures passes { OnOk result
-        (Known W.contents (PassesText recoder.old part.now) out.old out.new recoder.new) }
+        (Known W.contents (PassesText reading.old.recoder part.now) out.old out.new reading.new.recoder) }
     ensures faulty { IfErr result (λ e. IfFaulty e
-        (Known W.contents (StopsText recoder.old part.now IsFollowed offset) out.old out.new)) }
-    ensures front { Known W.contents (PassesTextFront recoder.old part.now) out.old out.new }
+        (Known W.contents (StopsText reading.old.recoder part.now IsFollowed reading.old.count) out.old out.new)) }
+    ensures front { Known W.contents (PassesTextFront reading.old.recoder part.now) out.old out.new }
+    ensures counted { reading.new.count ≡ min (reading.old.count + length part.now) (2 ^ 64 - 1) }
     ensures can_read { result ≢ Err StrictError.Read }
     ensures writes { FailsIf (result ≡ Err StrictError.Write) out.old out.new }
 {
-    let progress = recoder.feed_strict_into(part, room);
+    let before = reading.count;
+    let progress = reading.recoder.feed_strict_into(part, room);
+    reading.count = before.saturating_add(part.len() as u64);
     if write_whole(&room[..progress.written], out).is_err() {
         return Err(StrictError::Write);
     }
     match progress.outcome {
         Outcome::AllRead | Outcome::Full => Ok(()),
-        Outcome::Faulty(fault) => Err(fault_at(fault, offset.saturating_add(progress.read as u64))),
+        Outcome::Faulty(fault) => Err(fault_at(fault, before.saturating_add(progress.read as u64))),
     }
 }
 
-// Transcodes the carried-over bytes at the end by way of the buffer, and writes the output. `read` bytes were
-// read.
+// Transcodes the carried-over bytes at the end by way of the buffer, and writes the output.
 fn pass_end<W: Write>(
-    recoder: &mut Recoder,
-    offset: u64,
+    reading: Reading,
     room: &mut [u8],
     out: &mut Counted<W>,
 ) -> Result<(), StrictError>
-    requires room { 2 * length recoder.old.held ≤ length room.old }
-    requires before { length recoder.old.held ≤ offset }
-    ensures passes { OnOk result (Known W.contents (PassesTextLast recoder.old) out.old out.new) }
-    ensures faulty { IfErr result
-        (λ e. IfFaulty e (Known W.contents (StopsText recoder.old [] EndsText offset) out.old out.new)) }
-    ensures front { Known W.contents (PassesTextFront recoder.old []) out.old out.new }
+    requires { 2 * length reading.recoder.held ≤ length room.old }
+    ensures passes { OnOk result (Known W.contents (PassesTextLast reading.recoder) out.old out.new) }
+    ensures faulty { IfErr result (λ e. IfFaulty e
+        (Known W.contents (StopsText reading.recoder [] EndsText reading.count) out.old out.new)) }
+    ensures front { Known W.contents (PassesTextFront reading.recoder []) out.old out.new }
     ensures can_read { result ≢ Err StrictError.Read }
     ensures writes { FailsIf (result ≡ Err StrictError.Write) out.old out.new }
 {
+    let Reading { mut recoder, count } = reading;
     let progress = recoder.finish_strict_into(room);
     if write_whole(&room[..progress.written], out).is_err() {
         return Err(StrictError::Write);
     }
     match progress.outcome {
         Outcome::AllRead | Outcome::Full => Ok(()),
-        Outcome::Faulty(fault) => Err(fault_at(fault, offset)),
+        Outcome::Faulty(fault) => Err(fault_at(fault, count)),
     }
 }
 

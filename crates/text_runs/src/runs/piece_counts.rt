@@ -1,7 +1,7 @@
 //! Pieces counted without stepping from one to the next: so no branch depends on the length of a piece.
 ghost use Rattle.std.specs.Prelude.{◌≡◌, ◌+◌, ◌≤◌, ◌<◌, drop, length};
 ghost use Rattle.encode_unicode.specs.Pieces.{pieces};
-ghost use Rattle.text_runs.specs.InnerBytes.{inner_after, inner_before, is_begun, is_longer};
+ghost use Rattle.text_runs.specs.InnerBytes.{inner_after, inner_before, is_longer};
 
 use encode_unicode::CharExt;
 use utf_base::elements::is_continuation;
@@ -107,16 +107,6 @@ fn inner_at(bytes: &[u8], place: usize) -> u8
 fn is_longer(first: u8, second: u8, third: u8, fourth: u8) -> bool
     ensures { result ≡ is_longer first second third fourth }
 {
-    is_begun(first, second)
-        && (first < 0xe0 || is_continuation(third))
-        && (first < 0xf0 || is_continuation(fourth))
-}
-
-// Returns true if a character of two bytes or more may begin with these two.
-#[inline(always)]
-fn is_begun(first: u8, second: u8) -> bool
-    ensures { result ≡ is_begun first second }
-{
     0xc2 <= first
         && first < 0xf5
         && is_continuation(second)
@@ -124,4 +114,6 @@ fn is_begun(first: u8, second: u8) -> bool
         && (first != 0xed || second < 0xa0)
         && (first != 0xf0 || 0x90 <= second)
         && (first != 0xf4 || second < 0x90)
+        && (first < 0xe0 || is_continuation(third))
+        && (first < 0xf0 || is_continuation(fourth))
 }

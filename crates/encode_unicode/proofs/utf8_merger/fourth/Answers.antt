@@ -12,26 +12,26 @@ use Rattle.encode_unicode.proofs.utf8_merger.fourth.Goals as goal
 
 pub returns-in-None : goal.returns-in-None
 returns-in-None g c =
-    let few = lacks (c.args.first ∷ c.args.second ∷ c.args.third ∷ []) 3 c.args.state refl (lit< tt) c.requires.walked c.requires.asks in
-    rw c.new.ensures (end_after c.args.first (c.args.second ∷ c.args.third ∷ []) c.in-None.ensures few (held_two c.args.second c.args.third (before (c.args.first ∷ c.args.second ∷ c.args.third ∷ []) 3 1 c.args.state c.requires.walked (lit< tt) c.requires.asks (lit< tt) (lit< tt))) (c.ended.ensures.held ∙ c.two.ensures.held) c.ended.ensures.ended)
+    let few = lacks (c.args.front.first ∷ c.args.front.second ∷ c.args.front.third ∷ []) 3 c.args.front.state refl (lit< tt) c.args.front.walked c.args.front.asks in
+    rw c.new.ensures (end_after c.args.front.first (c.args.front.second ∷ c.args.front.third ∷ []) c.in-None.ensures few (held_two c.args.front.second c.args.front.third (before (c.args.front.first ∷ c.args.front.second ∷ c.args.front.third ∷ []) 3 1 c.args.front.state c.args.front.walked (lit< tt) c.args.front.asks (lit< tt) (lit< tt))) (c.ended.ensures.held ∙ c.two.ensures.held) c.ended.ensures.ended)
 
 pub error_after-requires : goal.error_after-requires
-error_after-requires g c = later_found (c.args.first ∷ c.args.second ∷ c.args.third ∷ []) 3 c.class_of.result c.args.state c.step-next.result (lit< tt) (lit< tt) c.requires.walked c.requires.asks c.step-next.ensures (ap is_running c.step-next.ensures ∙ last_ends c.args.state c.class_of.result (last_of_four (c.args.first ∷ c.args.second ∷ c.args.third ∷ []) c.args.state (lit< tt) c.requires.walked c.requires.asks)) (differs_true the_type c.step-next.result Done (sym c.ne.ensures ∙ c.if-ne.true))
+error_after-requires g c = later_found (c.args.front.first ∷ c.args.front.second ∷ c.args.front.third ∷ []) 3 c.class_of.result c.args.front.state c.step-next.result (lit< tt) (lit< tt) c.args.front.walked c.args.front.asks c.step-next.ensures (ap is_running c.step-next.ensures ∙ last_ends c.args.front.state c.class_of.result (last_of_four (c.args.front.first ∷ c.args.front.second ∷ c.args.front.third ∷ []) c.args.front.state (lit< tt) c.args.front.walked c.args.front.asks)) (differs_true the_type c.step-next.result Done (sym c.ne.ensures ∙ c.if-ne.true))
 
 pub returns-then-ne : goal.returns-then-ne
 returns-then-ne g c =
-    let at = sym (stepped (c.args.first ∷ c.args.second ∷ c.args.third ∷ c.in-Some.byte ∷ []) 3 _ _ _ c.step-next.ensures c.class_of.ensures.class c.requires.walked) in
-    let stops = ap is_running c.step-next.ensures ∙ last_ends c.args.state c.class_of.result (last_of_four (c.args.first ∷ c.args.second ∷ c.args.third ∷ []) c.args.state (lit< tt) c.requires.walked c.requires.asks) in
-    fault_after c.args.first (c.args.second ∷ c.args.third ∷ []) c.in-Some.byte c.in-Some.ensures (λ later. kind_of_end (c.args.first ∷ c.args.second ∷ c.args.third ∷ c.in-Some.byte ∷ later) 4 c.step-next.result _ (omega arith) at stops c.error_after.ensures) (held_three c.args.second c.args.third c.in-Some.byte (before (c.args.first ∷ c.args.second ∷ c.args.third ∷ []) 3 1 c.args.state c.requires.walked (lit< tt) c.requires.asks (lit< tt) (lit< tt)) (before (c.args.first ∷ c.args.second ∷ c.args.third ∷ []) 3 2 c.args.state c.requires.walked (lit< tt) c.requires.asks (lit< tt) (lit< tt))) c.three.ensures.held c.three.ensures.going
+    let at = sym (stepped (c.args.front.first ∷ c.args.front.second ∷ c.args.front.third ∷ c.in-Some.byte ∷ []) 3 _ _ _ c.step-next.ensures c.class_of.ensures.class c.args.front.walked) in
+    let stops = ap is_running c.step-next.ensures ∙ last_ends c.args.front.state c.class_of.result (last_of_four (c.args.front.first ∷ c.args.front.second ∷ c.args.front.third ∷ []) c.args.front.state (lit< tt) c.args.front.walked c.args.front.asks) in
+    fault_after c.args.front.first (c.args.front.second ∷ c.args.front.third ∷ []) c.in-Some.byte c.in-Some.ensures (λ later. kind_of_end (c.args.front.first ∷ c.args.front.second ∷ c.args.front.third ∷ c.in-Some.byte ∷ later) 4 c.step-next.result _ (omega arith) at stops c.error_after.ensures) (held_three c.args.front.second c.args.front.third c.in-Some.byte (before (c.args.front.first ∷ c.args.front.second ∷ c.args.front.third ∷ []) 3 1 c.args.front.state c.args.front.walked (lit< tt) c.args.front.asks (lit< tt) (lit< tt)) (before (c.args.front.first ∷ c.args.front.second ∷ c.args.front.third ∷ []) 3 2 c.args.front.state c.args.front.walked (lit< tt) c.args.front.asks (lit< tt) (lit< tt))) c.three.ensures.held c.three.ensures.going
 
 pub four-requires : goal.four-requires
 four-requires g c =
     let done = differs_false the_type (search rules) c.step-next.result Done (sym c.ne.ensures ∙ c.if-ne.false) in
-    let code = code_after_walk (c.args.first ∷ c.args.second ∷ c.args.third ∷ c.in-Some.byte ∷ []) 3 refl (lit< tt) (sym (ap is_running c.requires.walked) ∙ c.requires.asks) (sym (stepped (c.args.first ∷ c.args.second ∷ c.args.third ∷ c.in-Some.byte ∷ []) 3 _ _ _ c.step-next.ensures c.class_of.ensures.class c.requires.walked) ∙ done) in
-    first_of_four c.args.first code.2
+    let code = code_after_walk (c.args.front.first ∷ c.args.front.second ∷ c.args.front.third ∷ c.in-Some.byte ∷ []) 3 refl (lit< tt) (sym (ap is_running c.args.front.walked) ∙ c.args.front.asks) (sym (stepped (c.args.front.first ∷ c.args.front.second ∷ c.args.front.third ∷ c.in-Some.byte ∷ []) 3 _ _ _ c.step-next.ensures c.class_of.ensures.class c.args.front.walked) ∙ done) in
+    first_of_four c.args.front.first code.2
 
 pub returns-else-ne : goal.returns-else-ne
 returns-else-ne g c =
     let done = differs_false the_type (search rules) c.step-next.result Done (sym c.ne.ensures ∙ c.if-ne.false) in
-    let code = code_after_walk (c.args.first ∷ c.args.second ∷ c.args.third ∷ c.in-Some.byte ∷ []) 3 refl (lit< tt) (sym (ap is_running c.requires.walked) ∙ c.requires.asks) (sym (stepped (c.args.first ∷ c.args.second ∷ c.args.third ∷ c.in-Some.byte ∷ []) 3 _ _ _ c.step-next.ensures c.class_of.ensures.class c.requires.walked) ∙ done) in
-    rw c.four.ensures (code_after c.args.first (c.args.second ∷ c.args.third ∷ []) c.in-Some.byte (value (c.args.first ∷ c.args.second ∷ c.args.third ∷ c.in-Some.byte ∷ [])) c.in-Some.ensures code.0 code.1 (four_padded c.args.first c.args.second c.args.third c.in-Some.byte _ code.1) c.requires.none c.requires.going)
+    let code = code_after_walk (c.args.front.first ∷ c.args.front.second ∷ c.args.front.third ∷ c.in-Some.byte ∷ []) 3 refl (lit< tt) (sym (ap is_running c.args.front.walked) ∙ c.args.front.asks) (sym (stepped (c.args.front.first ∷ c.args.front.second ∷ c.args.front.third ∷ c.in-Some.byte ∷ []) 3 _ _ _ c.step-next.ensures c.class_of.ensures.class c.args.front.walked) ∙ done) in
+    rw c.four.ensures (code_after c.args.front.first (c.args.front.second ∷ c.args.front.third ∷ []) c.in-Some.byte (value (c.args.front.first ∷ c.args.front.second ∷ c.args.front.third ∷ c.in-Some.byte ∷ [])) c.in-Some.ensures code.0 code.1 (four_padded c.args.front.first c.args.front.second c.args.front.third c.in-Some.byte _ code.1) c.requires.none c.requires.going)

@@ -16,14 +16,14 @@ returns-in-None g c =
     let few = lacks (c.args.first ∷ []) 1 c.args.state refl (lit< tt) c.requires.walked c.requires.asks in
     rw c.new.ensures (end_after c.args.first ([]) c.in-None.ensures few held_none (c.ended.ensures.held ∙ c.none.ensures.held) c.ended.ensures.ended)
 
-pub third-requires : goal.third-requires
-third-requires g c = record {
+pub invariant_of-front : goal.invariant_of-front
+invariant_of-front g c = record {
   walked = stepped (c.args.first ∷ c.in-Some.byte ∷ []) 1 _ _ _ c.step-next.ensures c.class_of.ensures.class c.requires.walked;
   asks = sym c.is_running.ensures ∙ c.if-is_running.true;
-  can = c.in-Some.ensures.can refl;
-  none = c.requires.none;
-  going = c.requires.going;
 }
+
+pub third-requires : goal.third-requires
+third-requires g c = record { can = c.in-Some.ensures.can refl; none = c.requires.none; going = c.requires.going }
 
 pub returns-then-is_running : goal.returns-then-is_running
 returns-then-is_running g c s so_far = c.third.ensures s (reads_more so_far c.in-Some.ensures)

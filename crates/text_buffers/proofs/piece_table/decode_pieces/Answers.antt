@@ -11,7 +11,7 @@ loop-next-smaller g c =
 pub loop-next-preserved : goal.loop-next-preserved
 loop-next-preserved g c =
     let short : c.loop-next.next < length c.args.bytes.now = omega (arith, c.min-end.ensures) in
-    let lt : c.loop-next.next < c.args.until = omega (arith, c.min-end.ensures) in
+    let lt : c.loop-next.next < c.args.range.end = omega (arith, c.min-end.ensures) in
     record {
       decoded =
           rw c.in_ok-push.ensures.items

@@ -5,7 +5,7 @@ use Rattle.text_buffers.proofs.piece_table.decode_pieces.Given as goal
 
 abbrev pub invariant-loop-next : goal.invariant-loop-next
 invariant-loop-next g l = record {
-  decoded : IsDecodedTo l.bytes l.place l.until l.next l.pieces.items;
+  decoded : IsDecodedTo l.bytes l.fn.range.start l.fn.range.end l.next l.pieces.items;
   counted : l.steps ≡ l.fn.steps + length l.pieces.items;
   room : vec_capacity l.fn.pieces ≤ vec_capacity l.pieces;
 }

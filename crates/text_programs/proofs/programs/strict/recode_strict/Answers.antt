@@ -36,7 +36,7 @@ ended (Some xs) h = h
 
 pub loop-init : goal.loop-init
 loop-init g c = record {
-  relayed = IsTextRelayed-none c.new-recoder.ensures.nothing;
+  relayed = IsTextRelayed-none c.new.ensures.nothing;
   part = search rules;
   room = search rules;
   never_fewer = search rules;
@@ -57,8 +57,8 @@ loop-preserved g c =
           let other_calls = c.loop.invariant.other_calls in
           let never_fewer = c.loop.invariant.never_fewer in
           let same = taken.failures in
-          rw (w.out-is, w.recoder-is, w.offset-is) (record {
-            relayed = IsTextRelayed-part c.loop.invariant.relayed taken.consumes.0 (omega arith) same passed.passes (search rules);
+          rw (w.out-is, w.reading-is) (record {
+            relayed = IsTextRelayed-part c.loop.invariant.relayed taken.consumes.0 (omega arith) same passed.passes passed.counted;
             part = search rules;
             room = search rules;
             never_fewer = omega arith;
@@ -72,7 +72,7 @@ loop-preserved g c =
           let failed = w.in-Err.ensures in
           let never_fewer = c.loop.invariant.never_fewer in
           let more = failed.failures in
-          rw (w.out-is, w.recoder-is, w.offset-is) (record {
+          rw (w.out-is, w.reading-is) (record {
             relayed = IsTextRelayed-idle c.loop.invariant.relayed _ _ failed.consumes never_fewer more;
             part = search rules;
             room = search rules;
