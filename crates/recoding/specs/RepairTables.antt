@@ -28,9 +28,9 @@ abbrev pub unit_for : List ℕ → Option ℕ
 unit_for [] = None
 unit_for (n ∷ table) = Some 0xFFFD
 
--- the codes of the characters of a table
+-- the codes of the characters that a table has, by the byte
 abbrev pub AreCodes : List ℕ → List (List ℕ) → Type 0
-AreCodes table codes = (k : ℕ) → k < 128 → IsCodeShown (char_of_entry (slice_get table k)) (get_or codes k [])
+AreCodes table codes = (byte : ℕ) → byte < 256 → IsCodeShown (char_for table byte) (get_or codes byte [])
 
 -- the characters of ISO-8859-1 for the bytes from 80 on
 abbrev pub latin_1 : List ℕ

@@ -24,6 +24,9 @@ pub(crate) const STRIDE: usize = 16;
 // The number of bytes that are transcoded by the careful path from a fault on.
 pub(crate) const AFTER_FAULT: usize = 4;
 
+// The number of bytes that one run by the careful path transcodes, even if all are invalid: windows take less time.
+const MOST: usize = 32;
+
 // The number of bytes of text that are transcoded character by character before a run tries blocks again.
 const STRETCH: usize = 128;
 
@@ -289,7 +292,7 @@ fn recode_faults<'a, S: Text, T: Text, F: Replacing<'a>, O: Output>(
                 read += len;
             }
             ShownPiece::Fault(len) => {
-                stop = read + AFTER_FAULT;
+                stop = MOST.min(read + AFTER_FAULT);
                 T::put_any(S::replacement(by.way(), &bytes[read..]), out);
                 read += len;
                 replaced += S::count_parts(len);

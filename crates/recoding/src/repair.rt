@@ -17,7 +17,7 @@ pub struct Repair<'a> {
     /// for nothing. A lone surrogate of UTF-16, and an odd last byte, become U+FFFD, or nothing if the table is empty.
     pub chars: &'a [u32],
     // The codes of these characters, if they were computed before.
-    codes: Option<&'a [[u8; 4]; 128]>,
+    codes: Option<&'a [[u8; 4]; 256]>,
     ghost coded: { IfSome codes (λ codes. AreCodes chars.now codes.now) } by { Prim.hlevel props },
 }
 
@@ -25,7 +25,7 @@ pub struct Repair<'a> {
 #[derive(Clone, Copy, Drop)]
 pub(crate) struct Coded<'a> {
     pub(crate) repair: Repair<'a>,
-    codes: &'a [[u8; 4]; 128],
+    codes: &'a [[u8; 4]; 256],
     ghost coded: { AreCodes repair.chars.now codes.now },
 }
 
@@ -34,16 +34,21 @@ macro_rules! chars {
     ($($number:literal),* $(,)?) => { [$($number),*] };
 }
 
-// The codes of characters from U+0080 to U+FFFF, each in three bytes, and its length (RFC 3629, section 3).
-macro_rules! codes {
-    ($($number:literal),* $(,)?) => {
-        [$([
+// The code of a character from U+0080 to U+FFFF, in three bytes, and its length (RFC 3629, section 3).
+macro_rules! code {
+    ($number:literal) => {
+        [
             if $number < 0x800 { 0xc0 | ($number >> 6) as u8 } else { 0xe0 | ($number >> 12) as u8 },
             if $number < 0x800 { 0x80 | ($number % 64) as u8 } else { 0x80 | ($number >> 6 & 63) as u8 },
             if $number < 0x800 { 0 } else { 0x80 | ($number % 64) as u8 },
             if $number < 0x800 { 2 } else { 3 },
-        ]),*]
+        ]
     };
+}
+
+// The codes, twice: a byte is its index without a remainder.
+macro_rules! codes {
+    ($($number:literal),* $(,)?) => { [$(code!($number)),*, $(code!($number)),*] };
 }
 
 // The characters of ISO-8859-1 for the bytes from 80 on.
@@ -94,11 +99,14 @@ macro_rules! windows_1252 {
 
 static LATIN_1: [u32; 128] = latin_1!(chars);
 
-static LATIN_1_CODES: [[u8; 4]; 128] = latin_1!(codes);
+static LATIN_1_CODES: [[u8; 4]; 256] = latin_1!(codes);
 
 static WINDOWS_1252: [u32; 128] = windows_1252!(chars);
 
-static WINDOWS_1252_CODES: [[u8; 4]; 128] = windows_1252!(codes);
+static WINDOWS_1252_CODES: [[u8; 4]; 256] = windows_1252!(codes);
+
+// No character has a code.
+static NO_CODES: [[u8; 4]; 256] = [[0; 4]; 256];
 
 impl<'a> Repair<'a> {
     /// Each invalid byte becomes what it is in Windows-1252 (the WHATWG Encoding Standard, "index windows-1252").
@@ -125,7 +133,10 @@ impl<'a> Repair<'a> {
     pub fn nothing() -> Repair<'static>
         ensures { result.chars.now ≡ [] }
     {
-        Repair::of(&[])
+        Repair {
+            chars: &[],
+            codes: Some(&NO_CODES),
+        }
     }
 
     /// Each invalid byte becomes what a table of your own has for it.
@@ -232,7 +243,7 @@ impl Mending for Coded<'_> {
     fn code(self, byte: u8) -> [u8; 4]
         ensures { IsCodeShown (char_for self.entry.repair.chars.now byte) result }
     {
-        self.codes[(byte % 0x80) as usize]
+        self.codes[byte as usize]
     }
 }
 

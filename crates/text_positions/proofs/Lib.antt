@@ -1,3 +1,4 @@
 pub mod LineLemmas
 pub mod EvenFronts
 pub mod PositionLemmas
+pub mod SinglePieces

@@ -1,7 +1,8 @@
 //! The line and the column at which input has arrived that comes in parts.
-ghost use Rattle.std.specs.Prelude.{◌≡◌, ◌+◌, ◌-◌, ◌≤◌, [], ◌++◌, length, take, drop, get_or, min};
+ghost use Rattle.std.specs.Prelude.{◌≡◌, ◌+◌, ◌-◌, ◌≤◌, [], ◌++◌, length, take, drop, get_or, min, IsTrue};
 ghost use Rattle.recoding.specs.declared.form.Form.{Form as AForm};
-ghost use Rattle.text_positions.specs.Positions.{IsAfter, IsEnd, Passes, PassesAgain, PassesLine, StepsBack};
+ghost use Rattle.text_positions.specs.Positions.{IsAfter, IsEnd, Passes, PassesAgain, PassesLine, StepsBack, piece_count};
+ghost use Rattle.text_stream.specs.UndecidedEnds.{IsUndecidedEnd};
 
 use crate::line_feeds::{last_line, line_feed_count};
 use recoding::form::Form;
@@ -9,6 +10,7 @@ use recoding::held::Held;
 use std::marker::Model;
 use text_stream::runs::forms::char_count;
 use text_stream::undecided::undecided_len;
+use utf_lanes::ascii_texts::is_ascii;
 
 /// A position in input that comes in parts, which may be cut anywhere, also inside a character: the line, the column
 /// in pieces and the column in bytes, each from 1 on and modulo 2^64.
@@ -149,8 +151,13 @@ impl Position {
     fn pass_in_line(&mut self, form: Form, bytes: &[u8])
         ensures { PassesLine form bytes.now self.old self.new }
     {
-        self.column = self.column.wrapping_add(char_count(form, bytes) as u64);
         self.byte_column = self.byte_column.wrapping_add(bytes.len() as u64);
+        if are_single(form, bytes) {
+            self.column = self.column.wrapping_add(bytes.len() as u64);
+            self.held.hold(&[]);
+            return;
+        }
+        self.column = self.column.wrapping_add(char_count(form, bytes) as u64);
         self.held
             .hold(&bytes[bytes.len() - undecided_len(form, bytes)..]);
     }
@@ -166,5 +173,18 @@ impl Position {
         self.column = self.column.wrapping_sub(pieces as u64);
         self.byte_column = self.byte_column.wrapping_sub(len as u64);
         self.held.hold(&[]);
+    }
+}
+
+// Returns true if each byte is a piece, whatever follows: all are ASCII, but perhaps the first. Most text between two
+// faults is so, with the first of them in front of it.
+#[inline(always)]
+fn are_single(form: Form, bytes: &[u8]) -> bool
+    ensures pieces { IsTrue result → piece_count form bytes.now ≡ length bytes.now }
+    ensures end { IsTrue result → IsUndecidedEnd form bytes.now 0 }
+{
+    match form {
+        Form::Utf8 => 2 <= bytes.len() && is_ascii(&bytes[1..]),
+        Form::Utf16Le | Form::Utf16Be => false,
     }
 }
