@@ -129,8 +129,9 @@ impl Recoder {
         ensures succeeds { HasRoomFor out.old (length part.now) → IsOk result }
     {
         out.reserve(part.len().saturating_mul(WIDEST))?;
-        let replaced = self.append(part, out);
-        self.count_faults(replaced);
+        let run = recode_whole(self.from, self.to, part, out);
+        self.held.hold(&part[run.read..]);
+        self.count_faults(run.replaced);
         Ok(())
     }
 
@@ -150,21 +151,6 @@ impl Recoder {
         let replaced = self.append_joined(part, out);
         self.count_faults(replaced);
         Ok(())
-    }
-
-    // Takes a part if nothing is carried over and the output fits. Returns the number of faults that were replaced,
-    // which are not counted yet.
-    #[inline(always)]
-    fn append<A: Allocator>(&mut self, part: &[u8], out: &mut Vec<u8, A>) -> usize
-        requires none { length self.old.held ≡ 0 }
-        requires room { HasRoomFor out.old (length part.now) }
-        ensures takes { Takes Extends Way.Faults self.old part.now out.old out.new
-            (length part.now) result self.new }
-        ensures waits { Lacks self.old.from self.new.held }
-    {
-        let run = recode_whole(self.from, self.to, part, out);
-        self.held.hold(&part[run.read..]);
-        run.replaced
     }
 
     // Takes a part if bytes are carried over and the output fits. They go first, with up to three bytes of the part. A
