@@ -1,6 +1,8 @@
 -- Transcoding to the end of an output, step by step, and the results for its callers.
-use Rattle.std.proofs.Common.{◌≡◌, ℕ, ◌+◌, ◌-◌, ◌*◌, ◌<◌, ◌≤◌, Bool, true, false, Option, Some, List, [], ◌++◌, length, take, drop, arith, rules, ap, ap₂, sym, subst, ◌∙◌, length-append, length-drop, length-take, take-append-drop}
-use Rattle.std.proofs.lemmas.List.{take_rest, drop-drop, drop_all}
+use Rattle.std.proofs.Common.{◌≡◌, ℕ, ◌+◌, ◌-◌, ◌*◌, ◌<◌, ◌≤◌, ⊎_elim, Bool, true, false, Option, Some, List, [], ◌++◌, length, min, take, drop, arith, rules, ap, ap₂, sym, subst, ◌∙◌, length-append, length-drop, length-take, take-append-drop}
+use Rattle.std.proofs.Math.Seq.{take-append-add}
+use Rattle.std.proofs.lemmas.Bool.{cases_lt}
+use Rattle.std.proofs.lemmas.List.{append-nil, drop_all, drop-append-le, drop-drop, take_all, take-append-le, take_rest}
 use Rattle.std.specs.Prelude.{IsTrue, IsFalse, Vec, vec_len, vec_capacity}
 use Rattle.recoding.specs.declared.form.Form.{Form}
 use Rattle.recoding.specs.declared.room.Room.{Room}
@@ -12,10 +14,32 @@ use Rattle.recoding.specs.Outputs.{Extends}
 use Rattle.recoding.specs.FilledRooms.{FillsRoom}
 use Rattle.recoding.specs.Rooms.{HasRoomFor}
 use Rattle.recoding.specs.Strict.{PutsText}
-use Rattle.recoding.proofs.Becoming.{Becomes-none, NextIsLonger-of, begins_short, begins_within, next_piece, next_text, run_after}
+use Rattle.recoding.proofs.Becoming.{Becomes-more, Becomes-none, Becomes-where, NextIsLonger-of, begins_short, begins_within, next_piece, next_text, run_after}
 use Rattle.recoding.proofs.FrontBytes.{lacks_all}
 use Rattle.recoding.proofs.Growing.{length_written}
 use Rattle.recoding.proofs.TextRuns.{text_room}
+
+take_both : (m : ℕ) (xs ys : List ℕ) → take m xs ++ take (m - length xs) ys ≡ take m (xs ++ ys)
+take_both m xs ys =
+    ⊎_elim
+    (λ (lt : m < length xs). let none : m - length xs ≡ 0 = omega arith in rw none (append-nil (take m xs) ∙ sym (take-append-le m xs ys (omega arith))))
+    (λ (ge : length xs ≤ m).
+    let whole : length xs + (m - length xs) ≡ m = omega arith in
+    ap (λ zs. zs ++ take (m - length xs) ys) (take_all m xs ge) ∙ sym (take-append-add xs ys (m - length xs)) ∙ ap (λ k. take k (xs ++ ys)) whole)
+    (cases_lt m (length xs))
+
+-- the first m elements, of which some are among the first n
+front_more : (n m : ℕ) (xs : List ℕ) → take m (take n xs) ++ take (m - length (take n xs)) (drop n xs) ≡ take m xs
+front_more n m xs = take_both m (take n xs) (drop n xs) ∙ ap (take m) (take-append-drop n xs)
+
+-- three elements after others
+left_more : (n read : ℕ) (xs : List ℕ) → read ≤ length (take n xs) → take 3 (drop read (take n xs)) ++ take (read + 3 - length (take n xs)) (drop n xs) ≡ take 3 (drop read xs)
+left_more n read xs inside =
+    let front : List ℕ = take n xs in
+    let rest : List ℕ = drop read front in
+    let len : 3 - length rest ≡ read + 3 - length front = omega (arith, length-drop read front) in
+    let whole : rest ++ drop n xs ≡ drop read xs = sym (drop-append-le read front (drop n xs) inside) ∙ ap (drop read) (take-append-drop n xs) in
+    ap (λ k. take 3 rest ++ take k (drop n xs)) (sym len) ∙ take_both 3 rest (drop n xs) ∙ ap (take 3) whole
 
 module _ {O : Type 0} {appends : O → List ℕ → O → Type 0} {way : Way} {from to : Form} {bytes : List ℕ} where
   -- nothing is transcoded yet
@@ -79,6 +103,22 @@ module _ {O : Type 0} {appends : O → List ℕ → O → Type 0} {way : Way} {f
   Recodes-char more {old} {mid} {new} {p} {s} {n} {j} f begins put =
       let same : j + 0 ≡ j = omega arith in
       subst (λ m. Recodes appends way from to bytes old new (p + n) m) same (Recodes-code more (Some s) f begins put)
+
+  -- a run over the front of the bytes is a run over the bytes
+  pub Recodes-front : {old new : O} (n : ℕ) {read k : ℕ} → Recodes appends way from to (take n bytes) old new read k → Recodes appends way from to bytes old new read k
+  Recodes-front {old} {new} n {read} {k} f =
+      let xs : List ℕ = take n bytes in
+      let more : List ℕ = take (read + 3 - length xs) (drop n bytes) in
+      let inside : read ≤ length xs = f.within in
+      let len : length xs ≡ min n (length bytes) = length-take n bytes in
+      record {
+        grown = f.grown;
+        appended = f.appended;
+        within = omega (arith, inside, len);
+        short = f.short;
+        few = f.few;
+        becomes = Becomes-where (take (read + 3) bytes) (take 3 (drop read bytes)) (front_more n (read + 3) bytes) (left_more n read bytes inside) (Becomes-more more f.becomes);
+      }
 
   -- capacity for all bytes is capacity for a code that begins the ones left
   pub room_for_next : {room : O → ℕ} → ((a b : O) (xs : List ℕ) → appends a xs b → room a ≤ room b + length xs) → {old mid : O} {p n j k : ℕ} (c : Option ℕ)

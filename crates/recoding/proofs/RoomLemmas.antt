@@ -8,6 +8,10 @@ cut_part n m xs le =
     let whole : n + (m - n) ≡ m = omega arith in
     rw whole at (sym (drop-take n (m - n) xs))
 
+-- a slice is one of the front
+pub cut_front : (n end len : ℕ) (xs : List ℕ) → n ≤ len → end ≤ len → take (end - n) (drop n xs) ≡ take (end - n) (drop n (take len xs))
+cut_front n end len xs le within = sym (take-take (end - n) (len - n) (drop n xs) (omega arith)) ∙ ap (take (end - n)) (cut_part n len xs le)
+
 pub take_more : (n m : ℕ) (xs : List ℕ) → take n xs ++ take m (drop n xs) ≡ take (n + m) xs
 take_more n m xs = sym (ap₂ (λ ys zs. ys ++ zs) (take-take n (n + m) xs (omega arith)) (drop-take n m xs)) ∙ take-append-drop n (take (n + m) xs)
 

@@ -2,7 +2,8 @@
 -- callers.
 use Rattle.std.proofs.Common.{◌≡◌, ℕ, ◌+◌, ◌-◌, ◌<◌, ◌≤◌, ⊎_elim, Bool, true, false, rules, List, [], ◌++◌, Option, length, min, take, drop, arith, refl, ap, ap₂, sym, ◌∙◌, subst, append_assoc, length-append, length-drop, length-take, take-append-drop}
 use Rattle.std.proofs.lemmas.Bool.{cases_lt}
-use Rattle.std.proofs.lemmas.List.{append-nil, drop_all, drop-drop, take_all}
+use Rattle.std.proofs.Math.Seq.{drop-append-add, take-append-add}
+use Rattle.std.proofs.lemmas.List.{append-nil, drop_all, drop-append-le, drop-drop, take_all, take_rest, take-take}
 use Rattle.std.specs.Prelude.{IsTrue, IsFalse, Vec, vec_capacity}
 use Rattle.recoding.specs.declared.form.Form.{Form}
 use Rattle.recoding.specs.declared.way.Way.{Way}
@@ -13,118 +14,88 @@ use Rattle.recoding.specs.LossyBytes.{AddsAllLossy, AddsLastLossy, AddsLossy, Fe
 use Rattle.recoding.specs.Outputs.{Extends}
 use Rattle.recoding.specs.Recoded.{Feeds, Finishes, IsRecoded, Lacks, Recoding}
 use Rattle.recoding.specs.Repaired.{AddsAllRepaired, AddsLastRepaired, AddsRepaired, FeedsRepaired, FinishesRepaired, repaired, repaired_outcome}
-use Rattle.recoding.specs.Replacing.{Becomes, BeginsBy, BeginsLast, CodeIsLonger, FillsPlace, IsFullBy, IsLastFullBy, NextIsLonger, Recodes, Takes, TakesAll, TakesLast, at_place, code_of, list_by}
+use Rattle.recoding.specs.Replacing.{Becomes, BeginsLast, FillsPlace, IsFullBy, IsLastFullBy, NextIsLonger, Recodes, Takes, TakesAll, TakesLast, at_place, code_of, list_by, reads_by}
 use Rattle.recoding.specs.Rooms.{ComesNearer, FeedsInto, FinishesInto, HasRoomFor, IsAmple}
 use Rattle.recoding.proofs.Advancing.{Replaces-of}
-use Rattle.recoding.proofs.Becoming.{NextIsLonger-of, Becomes-front, Becomes-more, Becomes-none, Becomes-then, Becomes-where, begins_short, begins_some, begins_within, continues_of, ends_short, ends_some, ends_within, leaves_of, list_last}
+use Rattle.recoding.proofs.Becoming.{Becomes-where, continues_of, ends_short, ends_some, ends_within, leaves_of, list_last}
 use Rattle.recoding.proofs.Growing.{length_written, recoded_nothing}
 use Rattle.recoding.proofs.LossyLists.{nothing_is_lossy}
 use Rattle.recoding.proofs.Repairing.{nothing_is_repaired}
-use Rattle.recoding.proofs.RoomLemmas.{take_more}
+use Rattle.recoding.proofs.Recodes.{Recodes-front, Recodes-then}
+use Rattle.recoding.proofs.RoomLemmas.{Decides-more, cut_front}
 
 -- a recoder whose carried-over bytes were replaced
 pub held_as : {r s : Recoding} {xs ys : List ℕ} → s ≡ r → xs ≡ ys → record (s) { held = xs } ≡ record (r) { held = ys }
 held_as {r} {s} {xs} {ys} e f = ap₂ (λ (x : Recoding) zs. record (x) { held = zs }) e f
 
--- Bytes that begin with a piece whose code is longer than the buffer, followed by the rest of the part.
-pub IsFullBy-of : (way : Way) (s : Recoding) (part : List ℕ) (c : Option ℕ) {n k room : ℕ} (taken : ℕ) (from to : Form) → from ≡ s.from → to ≡ s.to → BeginsBy way from (s.held ++ take taken part) c n k → CodeIsLonger to c room
-    → NextIsLonger way s.from s.to (s.held ++ part) room
-IsFullBy-of way s part c {n} {k} {room} taken from to e i begins longer =
-    let whole : (s.held ++ take taken part) ++ drop taken part ≡ s.held ++ part = append_assoc s.held (take taken part) (drop taken part) ∙ ap (λ xs. s.held ++ xs) (take-append-drop taken part) in
-    subst (λ xs. NextIsLonger way s.from s.to xs room) whole
-    (NextIsLonger-of way (s.held ++ take taken part) (drop taken part) c (subst (λ y. BeginsBy way y (s.held ++ take taken part) c n k) e begins) (subst (λ y. CodeIsLonger y c room) i longer))
-
--- a run left such bytes, some of which are carried over
-pub IsFullBy-run : (way : Way) (s v : Recoding) (part : List ℕ) (n end room : ℕ) (from to : Form) → from ≡ s.from → to ≡ s.to → n ≤ end → v ≡ record (s) { held = take (end - n) (drop n part) }
-    → NextIsLonger way from to (drop n part) room → IsFullBy way v part end room
-IsFullBy-run way s v part n end room from to e i le same full =
-    let xs : List ℕ = drop n part in
-    let whole : n + (end - n) ≡ end = omega arith in
-    let rest : drop (end - n) xs ≡ drop end part = drop-drop (end - n) n part ∙ ap (λ m. drop m part) whole in
-    let left : xs ≡ take (end - n) xs ++ drop end part = sym (take-append-drop (end - n) xs) ∙ ap (λ ys. take (end - n) xs ++ ys) rest in
+-- a run over some bytes left such ones, of which some are carried over, before the rest of the part
+pub IsFullBy-kept : (way : Way) (s v : Recoding) (part w : List ℕ) (n m end room : ℕ) (from to : Form) → from ≡ s.from → to ≡ s.to → drop end part ≡ drop (n + m) w → v ≡ record (s) { held = take m (drop n w) }
+    → NextIsLonger way from to (drop n w) room → IsFullBy way v part end room
+IsFullBy-kept way s v part w n m end room from to e i after same full =
+    let xs : List ℕ = drop n w in
+    let rest : drop m xs ≡ drop end part = drop-drop m n w ∙ sym after in
+    let left : xs ≡ take m xs ++ drop end part = sym (take-append-drop m xs) ∙ ap (λ ys. take m xs ++ ys) rest in
     let here : NextIsLonger way s.from s.to xs room = subst (λ y. NextIsLonger way s.from y xs room) i (subst (λ y. NextIsLonger way y to xs room) e full) in
     rw same (subst (λ ys. NextIsLonger way s.from s.to ys room) left here)
 
--- a call after another left such bytes
-pub IsFullBy-then : (way : Way) (v : Recoding) (part : List ℕ) (read more room : ℕ) → IsFullBy way v (drop read part) more room → IsFullBy way v part (read + more) room
-IsFullBy-then way v part read more room full = subst (λ ys. NextIsLonger way v.from v.to (v.held ++ ys) room) (drop-drop more read part) full
+-- a run over a part did
+pub IsFullBy-run : (way : Way) (s v : Recoding) (part : List ℕ) (n end room : ℕ) (from to : Form) → from ≡ s.from → to ≡ s.to → n ≤ end → v ≡ record (s) { held = take (end - n) (drop n part) }
+    → NextIsLonger way from to (drop n part) room → IsFullBy way v part end room
+IsFullBy-run way s v part n end room from to e i le same full =
+    let whole : end ≡ n + (end - n) = omega arith in
+    IsFullBy-kept way s v part part n (end - n) end room from to e i (ap (λ m. drop m part) whole) same full
+
+-- a call with the front of the part did
+pub IsFullBy-front : (way : Way) (v : Recoding) (part : List ℕ) (p end room : ℕ) → end ≤ length (take p part) → IsFullBy way v (take p part) end room → IsFullBy way v part end room
+IsFullBy-front way v part p end room inside long =
+    let left : List ℕ = v.held ++ drop end (take p part) in
+    let d = long.begins in
+    let rest : drop end (take p part) ++ drop p part ≡ drop end part = sym (drop-append-le end (take p part) (drop p part) inside) ∙ ap (drop end) (take-append-drop p part) in
+    let more : NextIsLonger way v.from v.to (left ++ drop p part) room = record { scalar = long.scalar; len = long.len; begins = Decides-more (reads_by way v.from) left (drop p part) long.scalar long.len d; longer = long.longer } in
+    subst (λ ys. NextIsLonger way v.from v.to ys room) (append_assoc v.held (drop end (take p part)) (drop p part) ∙ ap (λ ys. v.held ++ ys) rest) more
+
+-- a run over the carried-over bytes and the first three of the part, at the front of an array, did
+pub IsFullBy-joined : (way : Way) (r v : Recoding) (part joined : List ℕ) (len stop n end room : ℕ) (from to : Form) → from ≡ r.from → to ≡ r.to → take len joined ≡ r.held ++ take 3 part → len ≡ length r.held + min 3 (length part)
+    → n ≤ len → stop ≡ min len (n + 3) → length r.held + end ≡ stop → v ≡ record (r) { held = take (stop - n) (drop n joined) } → NextIsLonger way from to (drop n (take len joined)) room → IsFullBy way v part end room
+IsFullBy-joined way r v part joined len stop n end room from to e i bytes size inside least sum same full =
+    let w : List ℕ = r.held ++ take 3 part in
+    let all : length r.held + end ≡ n + (stop - n) = omega arith in
+    let after : drop end (take 3 part) ≡ drop (n + (stop - n)) w = sym (drop-append-add r.held (take 3 part) end) ∙ ap (λ x. drop x w) all in
+    let kept : take (stop - n) (drop n joined) ≡ take (stop - n) (drop n w) = cut_front n stop len joined inside (omega arith) ∙ ap (λ xs. take (stop - n) (drop n xs)) bytes in
+    let here : IsFullBy way v (take 3 part) end room =
+    IsFullBy-kept way r v (take 3 part) w n (stop - n) end room from to e i after (same ∙ ap (λ xs. record (r) { held = xs }) kept) (subst (λ xs. NextIsLonger way from to (drop n xs) room) bytes full) in
+    IsFullBy-front way v part 3 end room (omega (arith, length-take 3 part)) here
+
+pub never_both : {P : Type 0} (b : Bool) → IsTrue b → IsFalse b → P
+never_both b is isnt = absurd cc
 
 -- A part of the input, after the carried-over bytes.
 
 module _ {O : Type 0} {appends : O → List ℕ → O → Type 0} {way : Way} where
-  pub Takes-none : ((a : O) → appends a [] a) → (r : Recoding) (part : List ℕ) {out : O} → length r.held ≤ 3 → Takes appends way r part out out 0 0 r
-  Takes-none none r part {out} few = record {
-    grown = [];
-    appended = none out;
-    within = omega arith;
-    short = omega arith;
-    fewer = omega arith;
-    becomes = Becomes-where (r.held ++ []) r.held (sym (append-nil r.held)) refl (Becomes-none way r.from r.to r.held);
-    from = refl;
-    to = refl;
-    replaced = refl;
-    few = few;
-  }
-
-  -- more of the part, by another call
-  pub Takes-then : ((a b c : O) (xs ys : List ℕ) → appends a xs b → appends b ys c → appends a (xs ++ ys) c) → {r s v : Recoding} {part : List ℕ} {old mid new : O} {read more j k : ℕ}
-      → Takes appends way r part old mid read j s → Takes appends way s (drop read part) mid new more k v → Takes appends way r part old new (read + more) (j + k) v
-  Takes-then law {r} {s} {v} {part} {old} {mid} {new} {read} {more} {j} {k} f g =
-      let looked : List ℕ = take more (drop read part) in
-      let whole : (r.held ++ take read part) ++ looked ≡ r.held ++ take (read + more) part = append_assoc r.held (take read part) looked ∙ ap (λ xs. r.held ++ xs) (take_more read more part) in
-      let first : Becomes way r.from r.to (r.held ++ take (read + more) part) f.grown j (s.held ++ looked) = Becomes-where (r.held ++ take (read + more) part) (s.held ++ looked) whole refl (Becomes-more looked f.becomes) in
-      let second : Becomes way r.from r.to (s.held ++ looked) g.grown k v.held =
-      subst (λ x. Becomes way x r.to (s.held ++ looked) g.grown k v.held) f.from (subst (λ y. Becomes way s.from y (s.held ++ looked) g.grown k v.held) f.to g.becomes) in
+  -- a run over the carried-over bytes and a part, which left some that are carried over
+  pub Takes-kept : {s v : Recoding} {part : List ℕ} {old new : O} {n end k : ℕ} (w : List ℕ) (m : ℕ) (from to : Form) → from ≡ s.from → to ≡ s.to → s.held ++ part ≡ w → Recodes appends way from to w old new n k
+      → n + m ≡ min (length w) (n + 3) → length s.held + end ≡ n + m → v ≡ record (s) { held = take m (drop n w) } → Takes appends way s part old new end k v
+  Takes-kept {s} {v} {part} {old} {new} {n} {end} {k} w m from to e i whole g least sum same =
+      let h : Recodes appends way s.from s.to w old new n k = subst (λ y. Recodes appends way s.from y w old new n k) i (subst (λ y. Recodes appends way y to w old new n k) e g) in
+      let inside = h.within in
+      let at : v.held ≡ take m (drop n w) = ap (λ x. x.held) same in
+      let len : length w ≡ length s.held + length part = omega (arith, ap length whole, length-append s.held part) in
+      let front : s.held ++ take end part ≡ take (n + m) w = sym (take-append-add s.held part end) ∙ ap₂ (λ x ys. take x ys) sum whole in
+      let cut : take (n + m) w ≡ take (n + 3) w =
+      ⊎_elim (λ (lt : length w < n + 3). take_all (n + m) w (omega arith) ∙ sym (take_all (n + 3) w (omega arith))) (λ (ge : n + 3 ≤ length w). let all : n + m ≡ n + 3 = omega arith in ap (λ x. take x w) all) (cases_lt (length w) (n + 3)) in
+      let held : take 3 (drop n w) ≡ v.held =
+      ⊎_elim
+      (λ (lt : length w < n + 3). take_all 3 (drop n w) (omega (arith, length-drop n w)) ∙ sym (take_all m (drop n w) (omega (arith, length-drop n w))))
+      (λ (ge : n + 3 ≤ length w). let all : 3 ≡ m = omega arith in ap (λ x. take x (drop n w)) all)
+      (cases_lt (length w) (n + 3)) ∙ sym at in
+      let some : length v.held ≡ m = omega (arith, ap length at, length-take m (drop n w), length-drop n w) in
       record {
-        grown = f.grown ++ g.grown;
-        appended = law old mid new f.grown g.grown f.appended g.appended;
-        within = omega (arith, f.within, g.within, length-drop read part);
-        short = omega (arith, f.short, g.short, length-append f.grown g.grown);
-        fewer = omega (arith, f.fewer, g.fewer);
-        becomes = Becomes-then first second;
-        from = g.from ∙ f.from;
-        to = g.to ∙ f.to;
-        replaced = g.replaced ∙ f.replaced;
-        few = g.few;
-      }
-
-  -- a piece that they begin with
-  pub Takes-piece : {s v : Recoding} {part : List ℕ} {old new : O} {n k : ℕ} (c : Option ℕ) (taken : ℕ) (from to : Form) → from ≡ s.from → to ≡ s.to → taken ≤ length part → length s.held + taken ≤ 4
-      → BeginsBy way from (s.held ++ take taken part) c n k → appends old (code_of to c) new → v ≡ record (s) { held = drop n (s.held ++ take taken part) } → Takes appends way s part old new taken k v
-  Takes-piece {s} {v} {part} {old} {new} {n} {k} c taken from to e i within four begins put same =
-      let w : List ℕ = s.held ++ take taken part in
-      let some = begins_some begins in
-      let inside = begins_within begins in
-      let at : v.held ≡ drop n w = ap (λ x. x.held) same in
-      let len : length w ≡ length s.held + taken = omega (arith, length-append s.held (take taken part), length-take taken part) in
-      let here : BeginsBy way s.from w c n k = subst (λ y. BeginsBy way y w c n k) e begins in
-      record {
-        grown = code_of s.to c;
-        appended = subst (λ y. appends old (code_of y c) new) i put;
-        within = within;
-        short = omega (arith, begins_short s.to begins, ap length at, length-drop n w);
-        fewer = omega (arith, begins.few, ap length at, length-drop n w);
-        becomes = Becomes-where w v.held refl (sym at) (Becomes-front here);
-        from = ap (λ x. x.from) same;
-        to = ap (λ x. x.to) same;
-        replaced = ap (λ x. x.replaced) same;
-        few = omega (arith, ap length at, length-drop n w);
-      }
-
-  -- all that is left is carried over
-  pub Takes-all : ((a : O) → appends a [] a) → {s v : Recoding} {part : List ℕ} {out : O} → length s.held + length part ≤ 3 → v ≡ record (s) { held = s.held ++ part }
-      → Takes appends way s part out out (length part) 0 v
-  Takes-all none {s} {v} {part} {out} few same =
-      let at : v.held ≡ s.held ++ part = ap (λ x. x.held) same in
-      let len : length v.held ≡ length s.held + length part = omega (arith, ap length at, length-append s.held part) in
-      let whole : s.held ++ part ≡ s.held ++ take (length part) part = ap (λ xs. s.held ++ xs) (sym (take_all (length part) part (omega arith))) in
-      record {
-        grown = [];
-        appended = none out;
+        grown = h.grown;
+        appended = h.appended;
         within = omega arith;
-        short = omega arith;
-        fewer = omega arith;
-        becomes = Becomes-where (s.held ++ take (length part) part) v.held whole (sym at) (Becomes-none way s.from s.to (s.held ++ part));
+        short = omega (arith, h.short);
+        fewer = omega (arith, h.few);
+        becomes = Becomes-where (s.held ++ take end part) v.held (sym cut ∙ sym front) held h.becomes;
         from = ap (λ x. x.from) same;
         to = ap (λ x. x.to) same;
         replaced = ap (λ x. x.replaced) same;
@@ -135,30 +106,54 @@ module _ {O : Type 0} {appends : O → List ℕ → O → Type 0} {way : Way} wh
   pub Takes-run : {s v : Recoding} {part : List ℕ} {old new : O} {n end k : ℕ} (from to : Form) → from ≡ s.from → to ≡ s.to → length s.held ≡ 0 → Recodes appends way from to part old new n k
       → end ≡ min (length part) (n + 3) → v ≡ record (s) { held = take (end - n) (drop n part) } → Takes appends way s part old new end k v
   Takes-run {s} {v} {part} {old} {new} {n} {end} {k} from to e i none g least same =
-      let h : Recodes appends way s.from s.to part old new n k = subst (λ y. Recodes appends way s.from y part old new n k) i (subst (λ y. Recodes appends way y to part old new n k) e g) in
-      let inside = h.within in
+      let inside = g.within in
       let nothing : s.held ≡ [] = drop_all 0 s.held (omega arith) in
-      let at : v.held ≡ take (end - n) (drop n part) = ap (λ x. x.held) same in
-      let cut : take end part ≡ take (n + 3) part =
-      ⊎_elim (λ (lt : length part < n + 3). take_all end part (omega arith) ∙ sym (take_all (n + 3) part (omega arith))) (λ (ge : n + 3 ≤ length part). let all : end ≡ n + 3 = omega arith in ap (λ m. take m part) all) (cases_lt (length part) (n + 3)) in
-      let held : take 3 (drop n part) ≡ v.held =
-      ⊎_elim
-      (λ (lt : length part < n + 3). take_all 3 (drop n part) (omega (arith, length-drop n part)) ∙ sym (take_all (end - n) (drop n part) (omega (arith, length-drop n part))))
-      (λ (ge : n + 3 ≤ length part). let all : 3 ≡ end - n = omega arith in ap (λ m. take m (drop n part)) all)
-      (cases_lt (length part) (n + 3)) ∙ sym at in
-      let looked : take (n + 3) part ≡ s.held ++ take end part = sym cut ∙ sym (ap (λ ys. ys ++ take end part) nothing) in
+      Takes-kept part (end - n) from to e i (ap (λ xs. xs ++ part) nothing) g (omega arith) (omega arith) same
+
+  -- a call with the front of the part
+  pub Takes-front : {r s : Recoding} {part : List ℕ} {old new : O} {read k : ℕ} (p : ℕ) → Takes appends way r (take p part) old new read k s → Takes appends way r part old new read k s
+  Takes-front {r} {s} {part} {read = read} p f =
+      let inside = f.within in
+      let few : read ≤ p = omega (arith, length-take p part) in
       record {
-        grown = h.grown;
-        appended = h.appended;
-        within = omega arith;
-        short = omega (arith, h.short, ap length at, length-take (end - n) (drop n part), length-drop n part);
-        fewer = omega (arith, h.few, ap length at, length-take (end - n) (drop n part), length-drop n part);
-        becomes = Becomes-where (s.held ++ take end part) v.held looked held h.becomes;
-        from = ap (λ x. x.from) same;
-        to = ap (λ x. x.to) same;
-        replaced = ap (λ x. x.replaced) same;
-        few = omega (arith, ap length at, length-take (end - n) (drop n part), length-drop n part);
+        grown = f.grown;
+        appended = f.appended;
+        within = omega (arith, length-take p part);
+        short = f.short;
+        fewer = f.fewer;
+        becomes = Becomes-where (r.held ++ take read part) s.held (ap (λ xs. r.held ++ xs) (take-take read p part few)) refl f.becomes;
+        from = f.from;
+        to = f.to;
+        replaced = f.replaced;
+        few = f.few;
       }
+
+  -- a run over the carried-over bytes and the first three of the part, at the front of an array
+  pub Takes-joined : {r v : Recoding} {part : List ℕ} {old new : O} {n end k : ℕ} (joined : List ℕ) (len stop : ℕ) (from to : Form) → from ≡ r.from → to ≡ r.to → take len joined ≡ r.held ++ take 3 part → len ≡ length r.held + min 3 (length part)
+      → Recodes appends way from to (take len joined) old new n k → stop ≡ min len (n + 3) → length r.held + end ≡ stop → v ≡ record (r) { held = take (stop - n) (drop n joined) } → Takes appends way r part old new end k v
+  Takes-joined {r} {v} {part} {old} {new} {n} {end} {k} joined len stop from to e i bytes size g least sum same =
+      let w : List ℕ = r.held ++ take 3 part in
+      let h : Recodes appends way from to w old new n k = subst (λ xs. Recodes appends way from to xs old new n k) bytes g in
+      let inside = h.within in
+      let whole : length w ≡ len = omega (arith, length-append r.held (take 3 part), length-take 3 part) in
+      let kept : take (stop - n) (drop n joined) ≡ take (stop - n) (drop n w) = cut_front n stop len joined (omega arith) (omega arith) ∙ ap (λ xs. take (stop - n) (drop n xs)) bytes in
+      Takes-front 3 (Takes-kept w (stop - n) from to e i refl h (omega arith) (omega arith) (same ∙ ap (λ xs. record (r) { held = xs }) kept))
+
+  -- and another run over the rest of the part
+  pub Takes-both : ((a b c : O) (xs ys : List ℕ) → appends a xs b → appends b ys c → appends a (xs ++ ys) c) → {r v : Recoding} {part : List ℕ} {old mid new : O} {n next end j k : ℕ} (start m : ℕ) (from to : Form)
+      → from ≡ r.from → to ≡ r.to → Recodes appends way from to (r.held ++ take 3 part) old mid n j → n ≡ length r.held + start → Recodes appends way from to (drop start part) mid new next k
+      → next + m ≡ min (length (drop start part)) (next + 3) → end ≡ start + (next + m) → v ≡ record (r) { held = take m (drop next (drop start part)) } → Takes appends way r part old new end (j + k) v
+  Takes-both law {r} {v} {part} {old} {mid} {new} {n} {next} {end} {j} {k} start m from to e i f at g least sum same =
+      let w : List ℕ = r.held ++ part in
+      let first : Recodes appends way from to w old mid n j = Recodes-front (length r.held + 3) (subst (λ xs. Recodes appends way from to xs old mid n j) (sym (take-append-add r.held part 3)) f) in
+      let left : drop n w ≡ drop start part = ap (λ x. drop x w) at ∙ drop-append-add r.held part start in
+      let second : Recodes appends way from to (take (length w - n) (drop n w)) mid new next k = subst (λ xs. Recodes appends way from to xs mid new next k) (sym left ∙ sym (take_rest w n)) g in
+      let both : Recodes appends way from to w old new (n + next) (j + k) = Recodes-then law first second in
+      let kept : take m (drop next (drop start part)) ≡ take m (drop (n + next) w) = ap (λ xs. take m (drop next xs)) (sym left) ∙ ap (take m) (drop-drop next n w) in
+      let len : length w ≡ length r.held + length part = length-append r.held part in
+      let rest : length (drop start part) ≡ length part - start = length-drop start part in
+      let inside = first.within in
+      Takes-kept w m from to e i refl both (omega arith) (omega arith) (same ∙ ap (λ xs. record (r) { held = xs }) kept)
 
   -- If there is capacity for all, no code is longer than it.
 
@@ -246,13 +241,6 @@ TakesLast-as turn f = record {
 pub false_unless : (b : Bool) → (IsTrue b → ⊥) → IsFalse b
 false_unless true never = absurd (never (search rules))
 false_unless false never = search rules
-
--- capacity for all is capacity for what is left
-pub room_left : {Z : Type 0} {way : Way} {old new : Vec ℕ Z} {r s : Recoding} {part : List ℕ} {read k : ℕ} → Takes Extends way r part old new read k s
-    → HasRoomFor old (length r.held + length part) → HasRoomFor new (length (drop read part))
-room_left {old = old} {new} {r} {s} {part} {read} f room =
-    let put = f.appended in
-    omega (arith, room, put.capacity, ap length put.items, length-append old.items f.grown, f.short, f.within, length-drop read part)
 
 -- capacity that was reserved before
 reserved : {Z : Type 0} {old mid : Vec ℕ Z} → mid.items ≡ old.items → vec_capacity old ≤ vec_capacity mid → (xs : List ℕ) (new : Vec ℕ Z) → Extends mid xs new → Extends old xs new

@@ -1,5 +1,5 @@
 -- The output for bytes in each way of replacing, and the piece that begins them.
-use Rattle.std.specs.Prelude.{◌≡◌, ℕ, ◌+◌, ◌*◌, ◌<◌, ◌≤◌, Bool, false, true, List, ◌++◌, length, min, take, drop, IsTrue, Option, Some, None, [], Vec}
+use Rattle.std.specs.Prelude.{◌≡◌, ℕ, ◌+◌, ◌-◌, ◌*◌, ◌<◌, ◌≤◌, Bool, false, true, List, ◌++◌, length, min, take, drop, IsTrue, IsFalse, Option, Some, None, [], Vec}
 use Rattle.recoding.specs.declared.form.Form.{Form}
 use Rattle.recoding.specs.declared.next_scalar.ShownPiece.{ShownPiece}
 use Rattle.recoding.specs.declared.next_scalar.ShownPiece.TheVariants as piece
@@ -12,6 +12,7 @@ use Rattle.recoding.specs.NextScalars.{Decides, Ends, Leads, LeadsLast, fault_le
 use Rattle.recoding.specs.Outputs.{Extends}
 use Rattle.recoding.specs.declared.engine.Reached.{Reached}
 use Rattle.recoding.specs.declared.form.TheConstants.{WIDEST}
+use Rattle.recoding.specs.declared.rooms.Progress.{Progress}
 use Rattle.recoding.specs.Recoded.{Lacks, Reads, Recoding, most_held, written}
 use Rattle.recoding.specs.RecodedBytes.{recoded}
 use Rattle.recoding.specs.Repaired.{ReadsBy, repaired}
@@ -170,3 +171,12 @@ abbrev pub TakesAll : {Z : Type 0} → Recoding → List ℕ → Vec ℕ Z → V
 TakesAll r part old new s =
     (n : ℕ) × (t : Recoding) × Takes Extends Faults r part old new (length part) n t × Lacks r.from t.held
     × (s ≡ record t { replaced = saturated (t.replaced + n) })
+
+-- A part was taken into a buffer of a fixed size, after the written bytes of the old one: to its end, or to a character
+-- that does not fit. The faults are not counted yet.
+pub record TakesPart (way : Way) (r : Recoding) (part : List ℕ) (old : List ℕ × ℕ) (new : List ℕ) (done : Progress) (s : Recoding) : Type 0 where
+  pub takes : Takes FillsPlace way r part old (at_place new done.written) done.read done.replaced s
+  pub full : IsTrue done.is_full → IsFullBy way s part done.read (length old.0 - done.written)
+  pub short : IsTrue done.is_full → length old.0 < done.written + 4
+  pub read : IsFalse done.is_full → done.read ≡ length part
+  pub waits : IsFalse done.is_full → Lacks r.from s.held

@@ -40,9 +40,10 @@ impl Held {
         requires { length bytes.now ≤ 3 }
         ensures { result ≡ bytes.now }
     {
-        let mut held = Held::new();
-        held.hold(bytes);
-        held
+        Held {
+            count: bytes.len(),
+            bytes: padded_to_three(bytes),
+        }
     }
 
     /// The bytes.
@@ -140,13 +141,15 @@ impl Held {
     }
 }
 
-// One to three bytes, followed by zeros. Unrolled: a variable-length copy would call memcpy.
+// Up to three bytes, followed by zeros. Unrolled: a variable-length copy would call memcpy.
 #[inline(always)]
 fn padded_to_three(bytes: &[u8]) -> [u8; 3]
-    requires some { 0 < length bytes.now }
-    requires few { length bytes.now ≤ 3 }
+    requires { length bytes.now ≤ 3 }
     ensures { take (length bytes.now) result ≡ bytes.now }
 {
+    if bytes.is_empty() {
+        return [0; 3];
+    }
     let first = bytes[0];
     if bytes.len() == 1 {
         return [first, 0, 0];

@@ -17,7 +17,6 @@ mod first_pieces;
 pub mod form;
 mod form_calls;
 pub mod held;
-mod held_runs;
 mod kernels;
 pub mod laws;
 mod list;

@@ -48,40 +48,21 @@ pub(crate) fn next_of_utf8(way: Way<'_>, bytes: &[u8]) -> Option<ShownPiece>
     ensures lacks { IfNone result (Lacks Form.Utf8 bytes.now) }
 {
     if 4 <= bytes.len() {
-        return Some(piece_of_four(way, bytes));
+        return match front_of_text(bytes) {
+            Some((c, len)) => Some(ShownPiece::Char(c, len)),
+            None => Some(fault_of_utf8(way, bytes)),
+        };
     }
     match first_of_utf8(bytes) {
         FirstPiece::Char(c, len) => Some(ShownPiece::Char(c, len)),
         FirstPiece::Fault(_, _) => Some(fault_of_utf8(way, bytes)),
-        FirstPiece::Undecided => piece_of_few(way, bytes),
+        FirstPiece::Undecided => {
+            if is_front_of_code(bytes) {
+                return None;
+            }
+            Some(fault_of_utf8(way, bytes))
+        }
     }
-}
-
-// The piece that begins four bytes or more of UTF-8.
-#[inline(always)]
-fn piece_of_four(way: Way<'_>, bytes: &[u8]) -> ShownPiece
-    requires { 4 ≤ length bytes.now }
-    ensures { IsNext way.entry Form.Utf8 bytes.now result }
-{
-    match front_of_text(bytes) {
-        Some((c, len)) => ShownPiece::Char(c, len),
-        None => fault_of_utf8(way, bytes),
-    }
-}
-
-// The piece that begins bytes of UTF-8 that are fewer than the first asks for; `None` if more input is
-// needed.
-#[inline(always)]
-fn piece_of_few(way: Way<'_>, bytes: &[u8]) -> Option<ShownPiece>
-    requires { AwaitsKind Form.Utf8 bytes.now }
-    ensures some { IfSome result (λ x. IsNext way.entry Form.Utf8 bytes.now x) }
-    ensures few { IfNone result (length bytes.now ≤ 3) }
-    ensures lacks { IfNone result (Lacks Form.Utf8 bytes.now) }
-{
-    if is_front_of_code(bytes) {
-        return None;
-    }
-    Some(fault_of_utf8(way, bytes))
 }
 
 // The fault that begins bytes, if no code does whatever follows them: one byte, or a maximal subpart.

@@ -1,16 +1,18 @@
 //! Transcoding of text that comes in parts, which may be cut anywhere, also inside a character or a unit.
 ghost use Rattle.std.specs.Prelude.{◌≡◌, ◌<◌, ◌≤◌, [], ◌+◌, ◌*◌, min, length, OnOk, OnErr, IsOk, IfErr, ℕ, List, ◌-◌, ◌++◌, take, drop, IsTrue, IsFalse};
 ghost use Rattle.recoding.specs.Outputs.{Extends};
-ghost use Rattle.recoding.specs.Replacing.{FillsPlace, IsFullBy, IsLastFullBy, Takes, TakesAll, TakesLast, at_place};
+ghost use Rattle.recoding.specs.Replacing.{FillsPlace, IsLastFullBy, Takes, TakesAll, TakesLast, TakesPart, at_place};
 ghost use Rattle.recoding.specs.Recoded.{Feeds, Finishes, FinishesWith, Lacks, fresh, most_held};
 ghost use Rattle.recoding.specs.Faults.{AddsUp, CountsFed, KeepsCount, Replaces, ReplacesLast, fault_count, replaced_in_all, saturated};
 ghost use Rattle.recoding.specs.LossyBytes.{lossy, lossy_outcome};
 ghost use Rattle.recoding.specs.RecodedBytes.{AddsAll, AddsLast, AddsOutcome, KeepsOutcome, outcome, recoded};
 ghost use Rattle.recoding.specs.Rooms.{ComesNearer, FeedsInto, FinishesInto, HasRoomFor, IsFull, IsLastFull, bytes_left};
 
+use crate::engine::{Reached, ended};
 use crate::form::{Form, WIDEST};
-use crate::form_calls::last_of;
+use crate::form_calls::{last_of, put_shown};
 use crate::held::Held;
+use crate::output::Output;
 use crate::recoder_runs::{progress, recode_into, recode_whole};
 use crate::room::Room;
 use crate::rooms::Progress;
@@ -127,8 +129,9 @@ impl Recoder {
         ensures succeeds { HasRoomFor out.old (length part.now) → IsOk result }
     {
         out.reserve(part.len().saturating_mul(WIDEST))?;
-        let replaced = self.append(part, out);
-        self.count_faults(replaced);
+        let run = recode_whole(self.from, self.to, part, out);
+        self.held.hold(&part[run.read..]);
+        self.count_faults(run.replaced);
         Ok(())
     }
 
@@ -150,36 +153,26 @@ impl Recoder {
         Ok(())
     }
 
-    // Takes a part if nothing is carried over and the output fits. Returns the number of faults that were replaced,
-    // which are not counted yet.
-    #[inline(always)]
-    fn append<A: Allocator>(&mut self, part: &[u8], out: &mut Vec<u8, A>) -> usize
-        requires none { length self.old.held ≡ 0 }
-        requires room { HasRoomFor out.old (length part.now) }
-        ensures takes { Takes Extends Way.Faults self.old part.now out.old out.new
-            (length part.now) result self.new }
-        ensures waits { Lacks self.old.from self.new.held }
-    {
-        let run = recode_whole(self.from, self.to, part, out);
-        self.held.hold(&part[run.read..]);
-        run.replaced
-    }
-
-    // Takes a part if bytes are carried over and the output fits. Returns the number of faults that were
-    // replaced, which are not counted yet.
+    // Takes a part if bytes are carried over and the output fits. They go first, with up to three bytes of the part. A
+    // run leaves at most three bytes, so it leaves none of them if the part has more. Returns the number of faults that
+    // were replaced, which are not counted yet.
     fn append_joined<A: Allocator>(&mut self, part: &[u8], out: &mut Vec<u8, A>) -> usize
         requires { HasRoomFor out.old (length self.old.held + length part.now) }
         ensures takes { Takes Extends Way.Faults self.old part.now out.old out.new
             (length part.now) result self.new }
         ensures waits { Lacks self.old.from self.new.held }
     {
-        // It tells a proof that few bytes are held.
-        let _ = self.held.len();
-        let first = self.take_held::<Vec<u8, A>>(Way::Faults, part, out);
-        if first.is_waiting {
+        let count = self.held.len();
+        let (joined, len) = self.held.join(part);
+        let first = recode_whole(self.from, self.to, &joined[..len], out);
+        if part.len() <= 3 {
+            self.held.hold(&joined[first.read..len]);
             return first.replaced;
         }
-        first.replaced + self.append(&part[first.read..], out)
+        let rest = &part[first.read - count..];
+        let then = recode_whole(self.from, self.to, rest, out);
+        self.held.hold(&rest[then.read..]);
+        first.replaced + then.replaced
     }
 
     // Appends what the carried-over bytes become at the end to a list with enough capacity.
@@ -330,31 +323,7 @@ impl Recoder {
         ensures total { AddsUp self.old result.replaced self.new }
         ensures counts { KeepsCount self.old (take result.read part.now) self.new }
     {
-        let count = self.held.len();
-        if count == 0 {
-            let done = self.take_alone(Way::Faults, part, room, 0);
-            self.count_faults(done.replaced);
-            return done;
-        }
-        self.feed_joined_into(part, room)
-    }
-
-    // `feed_into` if bytes are carried over: outlined, so that the counts of the other path stay in
-    // registers.
-    #[inline(never)]
-    fn feed_joined_into(&mut self, part: &[u8], room: &mut [u8]) -> Progress
-        ensures feeds { FeedsInto self.old part.now room.old room.new result.read result.written self.new }
-        ensures full { IsTrue result.is_full →
-            IsFull self.new part.now result.read (length room.old - result.written) }
-        ensures short { IsTrue result.is_full → length room.old < result.written + 4 }
-        ensures read { IsFalse result.is_full → result.read ≡ length part.now }
-        ensures waits { IsFalse result.is_full → Lacks self.old.from self.new.held }
-        ensures moves { 4 ≤ length room.old → 0 < length part.now → 0 < result.read + result.written }
-        ensures nearer { ComesNearer part.now room.old result.read self.old self.new }
-        ensures replaces { Replaces self.old (take result.read part.now) result.replaced self.new }
-        ensures total { AddsUp self.old result.replaced self.new }
-    {
-        let done = self.take_joined(Way::Faults, part, room);
+        let done = self.take(Way::Faults, part, room);
         self.count_faults(done.replaced);
         done
     }
@@ -362,13 +331,7 @@ impl Recoder {
     // Takes a part into a buffer of a fixed size. Faults are not counted yet.
     #[inline(always)]
     pub(crate) fn take(&mut self, way: Way<'_>, part: &[u8], room: &mut [u8]) -> Progress
-        ensures takes { Takes FillsPlace way.entry self.old part.now
-            (at_place room.old 0) (at_place room.new result.written) result.read result.replaced self.new }
-        ensures full { IsTrue result.is_full →
-            IsFullBy way.entry self.new part.now result.read (length room.old - result.written) }
-        ensures short { IsTrue result.is_full → length room.old < result.written + 4 }
-        ensures read { IsFalse result.is_full → result.read ≡ length part.now }
-        ensures waits { IsFalse result.is_full → Lacks self.old.from self.new.held }
+        ensures { TakesPart way.entry self.old part.now (at_place room.old 0) room.new result self.new }
     {
         let count = self.held.len();
         if count == 0 {
@@ -382,13 +345,7 @@ impl Recoder {
     fn take_alone(&mut self, way: Way<'_>, part: &[u8], room: &mut [u8], place: usize) -> Progress
         requires none { length self.old.held ≡ 0 }
         requires place { place ≤ length room.old }
-        ensures takes { Takes FillsPlace way.entry self.old part.now
-            (at_place room.old place) (at_place room.new result.written) result.read result.replaced self.new }
-        ensures full { IsTrue result.is_full →
-            IsFullBy way.entry self.new part.now result.read (length room.old - result.written) }
-        ensures short { IsTrue result.is_full → length room.old < result.written + 4 }
-        ensures read { IsFalse result.is_full → result.read ≡ length part.now }
-        ensures waits { IsFalse result.is_full → Lacks self.old.from self.new.held }
+        ensures { TakesPart way.entry self.old part.now (at_place room.old place) room.new result self.new }
     {
         let done = recode_into(way, self.from, self.to, part, room, place);
         let end = part.len().min(done.read + 3);
@@ -396,26 +353,31 @@ impl Recoder {
         Progress { read: end, ..done }
     }
 
-    // Takes a part if bytes are carried over: outlined, so that the test is inlined.
+    // Takes a part if bytes are carried over: outlined, so that the test is inlined. They go first, with up to three
+    // bytes of the part. A run that is not full leaves at most three bytes, so it leaves none of them if the part has
+    // more.
     #[inline(never)]
     fn take_joined(&mut self, way: Way<'_>, part: &[u8], room: &mut [u8]) -> Progress
-        ensures takes { Takes FillsPlace way.entry self.old part.now
-            (at_place room.old 0) (at_place room.new result.written) result.read result.replaced self.new }
-        ensures full { IsTrue result.is_full →
-            IsFullBy way.entry self.new part.now result.read (length room.old - result.written) }
-        ensures short { IsTrue result.is_full → length room.old < result.written + 4 }
-        ensures read { IsFalse result.is_full → result.read ≡ length part.now }
-        ensures waits { IsFalse result.is_full → Lacks self.old.from self.new.held }
+        ensures { TakesPart way.entry self.old part.now (at_place room.old 0) room.new result self.new }
     {
-        // It tells a proof that few bytes are held.
-        let _ = self.held.len();
-        let (first, written) = self.take_held_into(way, part, room);
-        if first.is_full || first.is_waiting {
-            return progress(first.read, written, first.replaced, first.is_full);
+        let count = self.held.len();
+        let (joined, len) = self.held.join(part);
+        let first = recode_into(way, self.from, self.to, &joined[..len], room, 0);
+        if first.is_full || part.len() <= 3 {
+            let end = len.min(first.read + 3);
+            self.held.hold(&joined[first.read..end]);
+            return Progress {
+                read: end - count,
+                ..first
+            };
         }
-        let then = self.take_alone(way, &part[first.read..], room, written);
+        let start = first.read - count;
+        let rest = &part[start..];
+        let then = recode_into(way, self.from, self.to, rest, room, first.written);
+        let end = rest.len().min(then.read + 3);
+        self.held.hold(&rest[then.read..end]);
         Progress {
-            read: first.read + then.read,
+            read: start + end,
             replaced: first.replaced + then.replaced,
             ..then
         }
@@ -465,6 +427,28 @@ impl Recoder {
         let mut out = Room::new(room, 0);
         let done = self.take_last::<Room<'_>>(way, &mut out);
         progress(0, out.len, done.replaced, done.is_full)
+    }
+
+    // Transcodes the carried-over bytes that nothing follows, until nothing is carried over, or the output is
+    // full.
+    pub(crate) fn take_last<O: Output>(&mut self, way: Way<'_>, out: &mut O) -> Reached
+        ensures takes { TakesLast O.appends way.entry self.old out.old out.new result.replaced self.new }
+        ensures full { IsTrue result.is_full → IsLastFullBy way.entry self.new (O.room out.new) }
+        ensures short { IsTrue result.is_full → O.room out.new < 4 }
+        ensures all { IsFalse result.is_full → self.new.held ≡ [] }
+    {
+        let (from, to) = self.forms();
+        let mut replaced = 0;
+        while self.held.len() > 0 {
+            let first = last_of(way, from, self.held.as_slice());
+            let is_put = put_shown(to, first.c, out);
+            if !is_put {
+                return ended(0, replaced, true, false);
+            }
+            let _more = self.held.drop_front(first.len);
+            replaced += first.faults;
+        }
+        ended(0, replaced, false, false)
     }
 }
 

@@ -87,7 +87,11 @@ impl Recoder {
         ensures first { TellsFirstAtEnd self.old result }
     {
         if self.held.len() == 0 {
-            return finished();
+            return StrictProgress {
+                read: 0,
+                written: 0,
+                outcome: Outcome::AllRead,
+            };
         }
         let progress = self.feed_strict_into(&[], room);
         let held = self.held.len();
@@ -104,17 +108,6 @@ impl Recoder {
             outcome: faulty(kind, len, self.held.len()),
             ..progress
         }
-    }
-}
-
-// The progress if nothing was carried over.
-fn finished() -> StrictProgress
-    ensures { result ≡ record { read = 0; written = 0; outcome = Outcome.AllRead } }
-{
-    StrictProgress {
-        read: 0,
-        written: 0,
-        outcome: Outcome::AllRead,
     }
 }
 

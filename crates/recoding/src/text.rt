@@ -6,7 +6,7 @@ ghost use Rattle.recoding.specs.Replacing.{CodeIsLonger, IsNext, code_of, replac
 ghost use Rattle.recoding.specs.Rooms.{parts_of};
 ghost use Rattle.recoding.specs.Strict.{BeginsChar, IsFirstPiece, lacking};
 
-use crate::codes::{len_of_units, put_code_units, put_short};
+use crate::codes::{put_pair, put_short};
 use crate::faults::FaultKind;
 use crate::first_pieces::{FirstPiece, first_of_utf8, first_of_utf16};
 use crate::form::Form;
@@ -17,6 +17,7 @@ use encode_unicode::CharExt;
 use encode_unicode::error::{Utf8ErrorKind, Utf16PairError};
 use std::marker::PhantomData;
 use utf_lanes::byte_order::ByteOrder;
+use utf_lanes::byte_pairs::two_bytes;
 use utf_lanes::text_front::front_of_text;
 
 // An encoding of text.
@@ -270,12 +271,26 @@ impl<E: ByteOrder> Text for Utf16<E> {
     #[inline(always)]
     #[tactic(auto, using(crate::proofs::Forms::written_utf16))]
     fn put_code<O: Output>(c: char, out: &mut O) {
-        put_code_units::<O, E>(c, out);
+        match c.to_utf16_tuple() {
+            (unit, None) => {
+                let [a, b] = two_bytes::<E>(unit);
+                put_pair(a, b, out);
+            }
+            (first, Some(second)) => {
+                let [a, b] = two_bytes::<E>(first);
+                let [c, d] = two_bytes::<E>(second);
+                put_pair(a, b, out);
+                put_pair(c, d, out);
+            }
+        }
     }
 
     #[inline(always)]
     #[tactic(auto, using(crate::proofs::Forms::written_utf16))]
     fn code_len(c: char) -> usize {
-        len_of_units::<E>(c)
+        match c.to_utf16_tuple() {
+            (_, None) => 2,
+            (_, Some(_)) => 4,
+        }
     }
 }

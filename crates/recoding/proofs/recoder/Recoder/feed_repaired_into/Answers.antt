@@ -8,8 +8,14 @@ returns-clause-feeds c = fed_repaired c.args.repair c.take-done.ensures.takes c.
 pub returns-clause-full : goal.returns-clause-full
 returns-clause-full c = rw c.count_faults.ensures c.take-done.ensures.full
 
+pub returns-clause-short : goal.returns-clause-short
+returns-clause-short c = c.take-done.ensures.short
+
 pub returns-clause-enough : goal.returns-clause-enough
 returns-clause-enough c = enough_room c.take-done.ensures.takes c.take-done.result.is_full c.take-done.ensures.full
+
+pub returns-clause-read : goal.returns-clause-read
+returns-clause-read c = c.take-done.ensures.read
 
 pub returns-clause-waits : goal.returns-clause-waits
 returns-clause-waits c = rw c.count_faults.ensures c.take-done.ensures.waits

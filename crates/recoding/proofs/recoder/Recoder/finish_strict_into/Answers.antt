@@ -10,7 +10,7 @@ use Rattle.recoding.proofs.recoder.Recoder.finish_strict_into.Goals as goal
 
 pub returns-then-len-eq0-clause-finishes : goal.returns-then-len-eq0-clause-finishes
 returns-then-len-eq0-clause-finishes c =
-    rw c.finished.ensures (FinishesStrictly-none c.args.self.now c.args.room.now (drop_all 0 _ (omega (arith, ap (λ (x : Recoding). length x.held) c.self.view_is))))
+    FinishesStrictly-none c.args.self.now c.args.room.now (drop_all 0 _ (omega (arith, ap (λ (x : Recoding). length x.held) c.self.view_is)))
 
 pub returns-then-len-eq0-clause-first : goal.returns-then-len-eq0-clause-first
 returns-then-len-eq0-clause-first c = tells_first_at_end _ c.args.room.now _ _ _ (returns-then-len-eq0-clause-finishes c)
