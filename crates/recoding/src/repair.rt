@@ -1,8 +1,8 @@
 //! What invalid input becomes, by a table of characters.
-ghost use Rattle.std.specs.Prelude.{◌≡◌, ◌<◌, false, [], IfSome, Some};
+ghost use Rattle.std.specs.Prelude.{◌≡◌, ◌<◌, false, [], length, IfSome, Some};
 ghost use Rattle.std.proofs.Props.{props};
 ghost use Rattle.recoding.specs.RepairTables.{AreCodes, char_for, latin_1, short_scalar, unit_for, windows_1252};
-ghost use Rattle.utf_lanes.specs.Mending.{IsCodeShown};
+ghost use Rattle.utf_lanes.specs.Mending.{IsCodeShown, shown_code};
 
 use encode_unicode::CharExt;
 use utf_lanes::replacements::Mending;
@@ -244,6 +244,13 @@ impl Mending for Coded<'_> {
         ensures { IsCodeShown (char_for self.entry.repair.chars.now byte) result }
     {
         self.codes[byte as usize]
+    }
+
+    #[inline(always)]
+    fn code_len(self, byte: u8) -> usize
+        ensures { result ≡ length (shown_code (char_for self.entry.repair.chars.now byte)) }
+    {
+        self.codes[byte as usize][3] as usize
     }
 }
 

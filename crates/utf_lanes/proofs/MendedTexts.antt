@@ -7,7 +7,7 @@ use Rattle.std.proofs.lemmas.Slice.{drop-put_mid, take-put_mid}
 use Rattle.std.proofs.lemmas.List.Concat.{flat_map-append}
 use Rattle.std.proofs.lemmas.List.Elements.{All-append, All-cons, All-nil}
 use Rattle.std.proofs.lemmas.List.Sums.{sum_by-append}
-use Rattle.std.proofs.lemmas.List.{drop-take, drop_at, take-append-drop, take-take, take_at}
+use Rattle.std.proofs.lemmas.List.{drop-take, drop_at, length-take-le, take-append-drop, take-take, take_at}
 use Rattle.std.proofs.lemmas.Simd.{length-chunk, length-put_chunk, take_more_put_chunk}
 use lib.Lanes.{chunk, put_chunk}
 use Rattle.std.specs.Prelude.{flat_map, if◌then◌else◌, is_none, slice_range}
@@ -23,7 +23,7 @@ use Rattle.utf_base.proofs.Rests.{stands_in_list, stands_in_rest}
 use Rattle.utf_base.proofs.Standing.{outside_after}
 use Rattle.utf_base.proofs.Utf8Code.{utf8_is_code}
 use Rattle.utf_base.proofs.Walks.{piece_over}
-use Rattle.utf_lanes.specs.Mending.{IsCodeShown, IsMendedAt, Mends, MendsFront, all_shown, invalid_bytes, scalars_of, shown_as}
+use Rattle.utf_lanes.specs.Mending.{IsCodeShown, IsMendedAt, Mends, MendsFront, all_shown, invalid_bytes, scalars_of, shown_as, shown_code}
 
 Follow-append : (i j k : ℕ) (ps qs : List Piece) → Follow i ps j → Follow j qs k → Follow i (ps ++ qs) k
 Follow-append i j k [] qs f g = subst (λ n. Follow n qs k) (sym f) g
@@ -184,6 +184,12 @@ module _ {subparts : Bool} {shown : ℕ → Option ℕ} (xs : List ℕ) where
 pub replacement_code : IsCodeShown (Some 0xFFFD) (0xEF ∷ 0xBF ∷ 0xBD ∷ 3 ∷ [])
 unfolding utf8
 replacement_code = record { few = omega arith; code = refl }
+
+-- the length of a code
+pub code_length : (c : Option ℕ) (xs : List ℕ) → IsCodeShown c xs → length xs ≡ 4 → get_or xs 3 0 ≡ length (shown_code c)
+code_length c xs h four =
+    let few = h.few in
+    sym (length-take-le (get_or xs 3 0) xs (omega arith)) ∙ ap length h.code
 
 -- elements that are written over as many others
 pub length_put : (xs ys : List ℕ) (n m : ℕ) → n + m ≤ length xs → length ys ≡ m → length (put_mid n m xs ys) ≡ length xs

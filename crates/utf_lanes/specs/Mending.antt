@@ -20,10 +20,14 @@ shown_as None other = other
 abbrev pub all_shown : (ℕ → Option ℕ) → List ℕ → List Piece → List ℕ
 all_shown shown xs = flat_map (λ x. scalars_of (shown_as x.char (shown (get_or xs x.start 0))))
 
+-- the code of the character, or nothing
+abbrev pub shown_code : Option ℕ → List ℕ
+shown_code c = flat_map utf8 (scalars_of c)
+
 -- The elements begin with the code of the character, or nothing, which is at most three bytes. The fourth is its length.
 pub record IsCodeShown (c : Option ℕ) (xs : List ℕ) : Type 0 where
   pub few : get_or xs 3 0 ≤ 3
-  pub code : take (get_or xs 3 0) xs ≡ flat_map utf8 (scalars_of c)
+  pub code : take (get_or xs 3 0) xs ≡ shown_code c
 
 -- A character, or what is replaced together: a fault, or a maximal subpart.
 abbrev pub IsMendedAt : Bool → List ℕ → ℕ → ℕ → Option ℕ → Type 0

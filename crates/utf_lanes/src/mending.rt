@@ -177,11 +177,13 @@ fn put_shown<M: Mending>(
     ensures most { result.len ≤ done.len + 3 }
     ensures replaced { result.replaced ≡ done.replaced + len }
 {
-    let code = by.code(bytes[done.read]);
-    made[done.len..done.len + 4].copy_from_slice(&code);
+    let byte = bytes[done.read];
+    // First, so that a table is read twice: to take the length out of the code takes more time.
+    let shown_len = by.code_len(byte);
+    made[done.len..done.len + 4].copy_from_slice(&by.code(byte));
     Mended {
         read: done.read + len,
-        len: done.len + code[3] as usize,
+        len: done.len + shown_len,
         replaced: done.replaced + len,
     }
 }

@@ -1,6 +1,6 @@
 //! What replaces invalid bytes in damaged text.
-ghost use Rattle.std.specs.Prelude.{◌≡◌};
-ghost use Rattle.utf_lanes.specs.Mending.{IsCodeShown};
+ghost use Rattle.std.specs.Prelude.{◌≡◌, length};
+ghost use Rattle.utf_lanes.specs.Mending.{IsCodeShown, shown_code};
 
 /// What replaces invalid bytes.
 pub trait Mending: Copy + Drop {
@@ -22,6 +22,15 @@ pub trait Mending: Copy + Drop {
     /// The code of the character that replaces an invalid byte, in three bytes, and its length, which is 0 if none does.
     fn code(self, byte: u8) -> [u8; 4]
         ensures { IsCodeShown (shown self byte) result };
+
+    /// The length of that code in bytes.
+    #[inline(always)]
+    #[tactic(auto, using(crate::proofs::MendedTexts::code_length))]
+    fn code_len(self, byte: u8) -> usize
+        ensures { result ≡ length (shown_code (shown self byte)) }
+    {
+        self.code(byte)[3] as usize
+    }
 }
 
 // The code of U+FFFD, and its length.
