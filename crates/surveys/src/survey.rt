@@ -55,7 +55,8 @@ pub struct Surveyor {
 }
 
 impl Surveyor {
-    ghost use Rattle.std.specs.Prelude.{◌≡◌, ◌%◌, ◌++◌, ℕ, List, [], take};
+    ghost use Rattle.std.specs.Prelude.{◌≡◌, ◌+◌, ◌%◌, ◌++◌, ℕ, List, [], take};
+    ghost use Rattle.surveys.specs.SurveyCounts.{wrapped};
     ghost use Rattle.surveys.specs.SurveyOrdinary.{AreAll, is_ordinary_ascii};
     ghost use Rattle.surveys.specs.Surveys.{Surveys, foreseen, surveyed};
 
@@ -101,7 +102,7 @@ impl Surveyor {
         requires class { AreAll is_ordinary_ascii part.now 0 (length part.now) }
         ensures { Surveys self.old part.now self.new }
     {
-        self.len = sum(self.len, part.len() as u64);
+        self.len = self.len_with(part);
         self.front = self.front_with(part);
         self.utf8.pass(part);
         self.utf16le.pass::<LittleEndian>(part);
@@ -112,7 +113,7 @@ impl Surveyor {
     fn see(&mut self, part: &[u8])
         ensures { Surveys self.old part.now self.new }
     {
-        self.len = sum(self.len, part.len() as u64);
+        self.len = self.len_with(part);
         self.front = self.front_with(part);
         self.utf8.feed(part);
         let mut rare = RareCounts {
@@ -126,6 +127,13 @@ impl Surveyor {
         self.control = rare.control;
         self.utf16le = rare.utf16le;
         self.utf16be = rare.utf16be;
+    }
+
+    // The length of the input with the next part.
+    fn len_with(&self, part: &[u8]) -> u64
+        ensures { result ≡ wrapped (self.now.len + length part.now) }
+    {
+        sum(self.len, part.len() as u64)
     }
 
     // The first four bytes of the input with the next part.

@@ -28,7 +28,7 @@ returns c =
     let all = ordinary_uncontrolled part (ascii_ordinary part 0 (length part) c.requires.class) in
     fed s _ part
     (record {
-      len = c.sum-self.ensures;
+      len = c.len_with-self.ensures;
       front = c.front_with-self.ensures;
       nul = λ later. ap (λ n. wrapped (s.nul + n)) (sym (none_on is_nul part later (no_nuls part all)));
       control = λ later. ap (λ n. wrapped (s.control + n)) (sym (none_on is_control part later (no_controls part all)));

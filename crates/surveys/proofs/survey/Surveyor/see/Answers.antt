@@ -19,7 +19,7 @@ unfolding rare_with
 returns c =
     fed c.args.self.now _ c.args.part.now
     (record {
-      len = c.sum-self.ensures;
+      len = c.len_with-self.ensures;
       front = c.front_with-self.ensures;
       nul = λ later. ap (λ r. r.0) (c.feed-2.ensures later);
       control = λ later. ap (λ r. r.1) (c.feed-2.ensures later);
