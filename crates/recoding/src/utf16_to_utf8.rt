@@ -117,7 +117,8 @@ fn write_ascii_blocks<E: ByteOrder>(bytes: &[u8], room: &mut [u8], start: usize)
     (place, end)
 }
 
-// Converts wide blocks without surrogates.
+// Converts wide blocks without surrogates. Each is loaded and validated before the previous one is written, so that the
+// CPU overlaps both.
 #[inline(always)]
 fn write_character_blocks<E: ByteOrder>(
     bytes: &[u8],
@@ -131,32 +132,10 @@ fn write_character_blocks<E: ByteOrder>(
     if bytes.len() < WIDE_BLOCK || room.len() - start < WIDE_ROOM {
         return (0, start);
     }
-    let (low, high) = thirty_two_halves::<E>(bytes);
+    let (mut low, mut high) = thirty_two_halves::<E>(bytes);
     if !are_characters(high) {
         return (0, start);
     }
-    write_characters_from::<E>(low, high, bytes, room, start)
-}
-
-// Converts wide blocks without surrogates, the first of which is given. Each block is loaded and validated before the
-// previous one is written, so that the CPU overlaps both.
-#[inline(always)]
-fn write_characters_from<E: ByteOrder>(
-    first_low: u8x32,
-    first_high: u8x32,
-    bytes: &[u8],
-    room: &mut [u8],
-    start: usize,
-) -> (usize, usize)
-    requires units { (k : ℕ) → k < 32 → lane_unit first_low first_high k ≡ unit_number E.HIGH_FIRST bytes.now k }
-    requires characters { AreCharacters 32 first_high }
-    requires bytes { 64 ≤ length bytes.now }
-    requires room { start + 112 ≤ length room.old }
-    ensures { PutsText FillsPlace (utf16_form E.HIGH_FIRST) Form.Utf8 bytes.now
-        (at_place room.old start) (at_place room.new result.1) result.0 }
-{
-    let mut low = first_low;
-    let mut high = first_high;
     let mut read = 0;
     let mut end = start;
     while 2 * WIDE_BLOCK <= bytes.len() - read && 2 * WIDE_ROOM <= room.len() - end {

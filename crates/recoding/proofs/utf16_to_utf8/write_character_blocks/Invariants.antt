@@ -5,7 +5,7 @@ use Rattle.recoding.specs.Strict.{PutsText}
 use Rattle.recoding.specs.declared.form.Form.TheVariants.{Utf8}
 use Rattle.utf_lanes.specs.BytePairs.{unit_number}
 use Rattle.utf_lanes.specs.UnitCodes.{lane_unit, AreCharacters}
-use Rattle.recoding.proofs.utf16_to_utf8.write_characters_from.Given as goal
+use Rattle.recoding.proofs.utf16_to_utf8.write_character_blocks.Given as goal
 
 abbrev pub invariant-loop-read : goal.invariant-loop-read
 invariant-loop-read g l = record {
