@@ -124,7 +124,7 @@ impl Kernel<Utf8, Utf8> for Copied {
 
     const CROWD: usize = 1;
 
-    #[inline(always)]
+    #[inline(never)]
     fn put_text<O: BlockOutput>(is_ample: bool, bytes: &[u8], out: &mut O) -> usize {
         let most = PART.min(most_copied(is_ample, bytes, out));
         let part = &bytes[..most];
@@ -187,7 +187,7 @@ fn copy_damaged<F: Windowed, O: Output>(by: F, bytes: &[u8], out: &mut O) -> Dam
 }
 
 // Returns where the text ends that begins at an offset, at most that of a part.
-#[inline(always)]
+#[inline(never)]
 fn next_text_end(bytes: &[u8], place: usize) -> usize
     requires { place ≤ length bytes.now }
     ensures least { place ≤ result }
@@ -479,7 +479,7 @@ fn put_one_vector<O: Output, E: ByteOrder>(text: &[u8], out: &mut O)
 
 // Appends the units of text at the front of some bytes, which is validated as a whole before, as far as the full
 // vectors that are stored fit. Returns its length in bytes, or 0 if these bytes are few.
-#[inline(always)]
+#[inline(never)]
 fn put_judged<O: BlockOutput, E: ByteOrder>(bytes: &[u8], out: &mut O) -> usize
     ensures { PutsText O.appends form.Utf8 (utf16_form E.HIGH_FIRST) bytes.now out.old out.new result }
 {
@@ -498,7 +498,7 @@ impl<E: ByteOrder> Kernel<Utf16<E>, Utf8> for Narrowed {
 
     const CROWD: usize = 0;
 
-    #[inline(always)]
+    #[inline(never)]
     fn put_text<O: BlockOutput>(is_ample: bool, bytes: &[u8], out: &mut O) -> usize {
         let len = out.put_blocks::<E>(bytes);
         len + narrow_ascii::<O, E>(&bytes[len..], out)
