@@ -11,10 +11,14 @@ use crate::windows::{
     WINDOW, follows_two, front_len, is_char, is_fault, is_in_word, is_surrogate, is_undefined,
     twice_len,
 };
+use utf_base::elements::is_continuation;
 use utf_lanes::ascii_texts::ascii_wide_end;
 use utf_lanes::text_blocks::text_len;
 
-// The least number of bytes that are counted as text, and with which counting them one by one begins.
+// The greatest number of bytes of a character after its first.
+const FRONT: usize = 3;
+
+// The least number of bytes that are counted as text, and with which counting them one by one begins after text.
 const LEAST: usize = 64;
 
 // The greatest number of bytes that are counted one by one before the next are validated.
@@ -84,7 +88,7 @@ pub(crate) fn count(bytes: &[u8]) -> Utf8Counts
 {
     let mut counts = Utf8Counts::new();
     let mut place = 0;
-    let mut reach = LEAST;
+    let mut reach = first_reach(bytes);
     while WINDOW <= bytes.len() - place {
         let ascii = ascii_end(bytes, place);
         if place < ascii {
@@ -105,6 +109,19 @@ pub(crate) fn count(bytes: &[u8]) -> Utf8Counts
         }
     }
     counts
+}
+
+// The number of windows that are counted one by one at the front if they are not validated: few, if a character began
+// before them.
+fn first_reach(bytes: &[u8]) -> usize
+    ensures some { 0 < result }
+    ensures few { result ≤ 1024 }
+{
+    if WINDOW <= bytes.len() && is_continuation(bytes[3]) {
+        FRONT
+    } else {
+        LEAST
+    }
 }
 
 // The counts of the windows from an offset on, one by one, up to the returned offset: that is `end`, or after the

@@ -9,8 +9,8 @@ loop-place-init c = record {
   within = omega arith;
   same = ap (λ n. counted n c.args.bytes.now) c.new-counts.ensures;
   fit = subst Fit (sym c.new-counts.ensures) Fit-nothing;
-  some = omega arith;
-  few = omega arith;
+  some = c.first_reach-reach.ensures.some;
+  few = c.first_reach-reach.ensures.few;
 }
 
 pub loop-place-preserved-then-place-ascii : goal.loop-place-preserved-then-place-ascii
