@@ -1,5 +1,5 @@
 //! Line feeds of bytes in any encoding: how many there are, and where the last line begins.
-ghost use Rattle.std.specs.Prelude.{◌≡◌, ◌+◌, ◌*◌, ◌<◌, ◌≤◌, length, slice_index};
+ghost use Rattle.std.specs.Prelude.{◌≡◌, ◌+◌, ◌*◌, ◌<◌, ◌≤◌, drop, length, slice_index};
 ghost use Rattle.utf_lanes.specs.BytePairs.{units_of};
 ghost use Rattle.text_positions.specs.Positions.{BeginsLastLine, IsLastLine, line_feeds};
 ghost use Rattle.text_runs.specs.ShardRuns.{line_feed_count as feed_count};
@@ -156,12 +156,25 @@ fn feeds_of<T: Elements>(elements: T) -> usize
     feeds + elements.part_feeds(place, elements.count()) as usize
 }
 
+// An index from which on no element is a line feed, found by sixteen elements at once.
+#[inline(always)]
+fn calm_end<T: Elements>(elements: T) -> usize
+    ensures within { result ≤ length (T.list elements) }
+    ensures none { feed_count (drop result (T.list elements)) ≡ 0 }
+{
+    let mut place = elements.count();
+    while 16 <= place && elements.part_feeds(place - 16, place) == 0 {
+        place -= 16;
+    }
+    place
+}
+
 // The index of the element after the last line feed, or 0 if there is none.
 #[inline(always)]
 fn last_line_of<T: Elements>(elements: T) -> usize
     ensures { BeginsLastLine (T.list elements) result }
 {
-    let mut place = elements.count();
+    let mut place = calm_end(elements);
     while 0 < place && !elements.is_feed(place - 1) {
         place -= 1;
     }

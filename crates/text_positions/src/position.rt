@@ -154,7 +154,7 @@ impl Position {
         self.byte_column = self.byte_column.wrapping_add(bytes.len() as u64);
         if are_single(form, bytes) {
             self.column = self.column.wrapping_add(bytes.len() as u64);
-            self.held.hold(&[]);
+            self.held = Held::new();
             return;
         }
         self.column = self.column.wrapping_add(char_count(form, bytes) as u64);

@@ -12,7 +12,7 @@ returns-then-are_single c =
     let byte_column = ap (λ (p : Place). p.byte_column) c.self.view_is in
     let pieces = c.are_single.ensures.pieces c.if-are_single.true in
     let u = c.are_single.ensures.end c.if-are_single.true in
-    line_passed c.args.form c.args.bytes.now c.args.self.now _ 0 (omega arith) (omega arith) (omega arith) (c.hold.ensures ∙ sym (nothing_left c.args.bytes.now)) u.within u
+    line_passed c.args.form c.args.bytes.now c.args.self.now _ 0 (omega arith) (omega arith) (omega arith) (c.new-self-inside.ensures ∙ sym (nothing_left c.args.bytes.now)) u.within u
 
 pub returns : goal.returns
 returns c =
@@ -21,4 +21,4 @@ returns c =
     let column = ap (λ (p : Place). p.column) c.self.view_is in
     let byte_column = ap (λ (p : Place). p.byte_column) c.self.view_is in
     let pieces = c.char_count.ensures in
-    line_passed c.args.form c.args.bytes.now c.args.self.now _ c.undecided_len.result (omega arith) (omega arith) (omega arith) (c.hold-2.ensures ∙ take_rest c.args.bytes.now (length c.args.bytes.now - c.undecided_len.result)) u.within u.end
+    line_passed c.args.form c.args.bytes.now c.args.self.now _ c.undecided_len.result (omega arith) (omega arith) (omega arith) (c.hold.ensures ∙ take_rest c.args.bytes.now (length c.args.bytes.now - c.undecided_len.result)) u.within u.end
