@@ -71,18 +71,8 @@ impl FewBytes {
         requires { length self.old + length bytes.now ≤ 32 }
         ensures { self.new ≡ self.old ++ bytes.now }
     {
-        for byte in bytes {
-            self.push(*byte);
-        }
-    }
-
-    // Appends a byte.
-    #[inline(always)]
-    fn push(&mut self, byte: u8)
-        requires { length self.old < 32 }
-        ensures { self.new ≡ self.old ++ byte ∷ [] }
-    {
-        self.bytes[self.count] = byte;
-        self.count += 1;
+        let count = self.count + bytes.len();
+        self.bytes[self.count..count].copy_from_slice(bytes);
+        self.count = count;
     }
 }
