@@ -15,7 +15,7 @@ use Rattle.recoding.specs.Outputs.{Extends}
 use Rattle.recoding.specs.Recoded.{Feeds, Finishes, IsRecoded, Lacks, Recoding}
 use Rattle.recoding.specs.Repaired.{AddsAllRepaired, AddsLastRepaired, AddsRepaired, FeedsRepaired, FinishesRepaired, repaired, repaired_outcome}
 use Rattle.recoding.specs.Replacing.{Becomes, BeginsLast, FillsPlace, IsFullBy, IsLastFullBy, NextIsLonger, Recodes, Takes, TakesAll, TakesLast, at_place, code_of, list_by, reads_by}
-use Rattle.recoding.specs.Rooms.{ComesNearer, FeedsInto, FinishesInto, HasRoomFor, IsAmple}
+use Rattle.recoding.specs.Rooms.{ComesNearer, FeedsInto, FinishesInto, IsAmple}
 use Rattle.recoding.proofs.Advancing.{Replaces-of}
 use Rattle.recoding.proofs.Becoming.{Becomes-where, continues_of, ends_short, ends_some, ends_within, leaves_of, list_last}
 use Rattle.recoding.proofs.Growing.{length_written, recoded_nothing}
