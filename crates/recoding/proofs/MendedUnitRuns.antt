@@ -1,5 +1,5 @@
 -- Units that were mended, as transcoded bytes: each character, and U+FFFD for each lone surrogate, whatever follows.
-use Rattle.std.proofs.Common.{◌≡◌, ℕ, zero, suc, ◌+◌, ◌-◌, ◌*◌, ◌/◌, ◌%◌, ◌<◌, ◌≤◌, Bool, true, false, not, cond, ltb, ltb-true, List, [], ◌∷◌, ◌++◌, length, get_or, take, drop, Some, arith, refl, lit<, lit≤, sym, ap, ap₂, ◌∙◌, subst, inl, inr, length-append, length-drop, length-take, w8, Fits}
+use Rattle.std.proofs.Common.{◌≡◌, ℕ, zero, suc, ◌+◌, ◌-◌, ◌*◌, ◌/◌, ◌%◌, ◌<◌, ◌≤◌, Bool, true, false, not, cond, ltb, ltb-true, List, [], ◌∷◌, ◌++◌, length, get_or, take, drop, Some, arith, refl, lit<, sym, ap, ap₂, ◌∙◌, subst, inl, inr, length-append, length-drop, length-take, w8, Fits}
 use Rattle.std.proofs.lemmas.Bool.{cases_lt}
 use Rattle.std.proofs.lemmas.Grind.{common_steps}
 use Rattle.std.proofs.lemmas.List.{drop-drop, get_or-drop, get_or-take, take_at}
@@ -13,7 +13,7 @@ use Rattle.utf_lanes.specs.UnitCodes.{AreText, code_at, lane_unit}
 use Rattle.utf_lanes.specs.UnitMending.{count_from, holds_before, is_lone, mended_unit}
 use Rattle.utf_lanes.specs.Utf8ToUtf16.{concat_range, halves, halves_at}
 use Rattle.utf_lanes.proofs.Joined.{joined_add}
-use Rattle.utf_lanes.proofs.UnitBytes.{not_both, not_true}
+use Rattle.utf_lanes.proofs.UnitBytes.{not_true}
 use Rattle.recoding.specs.NextScalars.{HasByteOrder, utf16_form}
 use Rattle.recoding.specs.Recoded.{written}
 use Rattle.recoding.specs.Recodes.{PutsLanes}

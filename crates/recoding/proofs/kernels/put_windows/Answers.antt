@@ -1,4 +1,4 @@
-use Rattle.std.proofs.Common.{◌≡◌, ℕ, ◌-◌, ◌≤◌, length, get_or, take, drop, arith, refl, length-drop, length-take, w8, Fits}
+use Rattle.std.proofs.Common.{◌-◌, length, take, drop, arith, refl, length-drop, length-take}
 use Rattle.recoding.specs.Replacing.{ReplacesUnits}
 use Rattle.recoding.specs.declared.way.Way.TheVariants.{Faults}
 use Rattle.utf_lanes.specs.UnitCodes.{lane_unit}

@@ -1,4 +1,4 @@
-use Rattle.std.proofs.Common.{◌+◌, ◌*◌, ◌-◌, take, arith, subst, List, ℕ}
+use Rattle.std.proofs.Common.{arith, subst}
 use Rattle.recoding.proofs.Forms.{is_utf16}
 use Rattle.recoding.proofs.MendedUnitRuns.{PutsLanes-units, front_of_halves}
 use Rattle.recoding.proofs.kernels.Utf16TakesUnits.put_mended.Goals as goal

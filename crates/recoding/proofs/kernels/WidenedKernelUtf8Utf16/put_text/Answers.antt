@@ -1,7 +1,7 @@
-use Rattle.std.proofs.Common.{◌-◌, length, drop, take, arith, length-take, length-drop}
+use Rattle.std.proofs.Common.{take, arith}
 use Rattle.recoding.proofs.Forms.{is_utf16}
 use Rattle.recoding.proofs.TextRuns.{PutsText-none, PutsText-part, PutsText-then}
-use Rattle.recoding.proofs.AsciiToUtf16.{PutsText-widened, ascii_front, few_widened}
+use Rattle.recoding.proofs.AsciiToUtf16.{PutsText-widened, ascii_front}
 use Rattle.recoding.proofs.kernels.WidenedKernelUtf8Utf16.put_text.Goals as goal
 
 pub returns-then-most-bytes : goal.returns-then-most-bytes

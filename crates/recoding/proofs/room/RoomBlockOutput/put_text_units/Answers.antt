@@ -1,4 +1,4 @@
-use Rattle.std.proofs.Common.{rules, ◌+◌, length, take, arith, ap, length-append, length-take}
+use Rattle.std.proofs.Common.{rules, length, take, arith, ap, length-append, length-take}
 use Rattle.utf_lanes.specs.UnitCodes.{code_at, lane_unit}
 use Rattle.utf_lanes.specs.Utf8ToUtf16.{concat_range}
 use Rattle.recoding.proofs.room.RoomBlockOutput.put_text_units.Goals as goal
