@@ -1,6 +1,8 @@
 //! Strict transcoding in packets, and among other calls; the rows of `run_vectors` have whole inputs. Python's decoders give
 //! the offsets of first faults, and the README's table the kinds.
-use cuts::{Counted, FaultAt, FaultKind, Form, Forms, Outcome, Recoder, StrictError, recode_strict};
+use cuts::{
+    Counted, FaultAt, FaultKind, Form, Forms, Outcome, Recoder, StrictError, recode_strict,
+};
 use encode_unicode::error::Utf8ErrorKind;
 use fakes::fuse::{Failure, Fuse, Plan};
 use run_examples::strict::{feed_strictly, finish_strictly};
