@@ -13,7 +13,7 @@ use utf_lanes::byte_order::{BigEndian, LittleEndian};
 
 // The greatest number of bytes that are counted in one way before they are counted in the next: a CPU has them in a near
 // cache.
-const PART: usize = 65536;
+const PART: usize = 131072;
 
 /// What was counted in an input. Counts are modulo 2^64.
 #[repr(C)]

@@ -34,6 +34,8 @@ pub(crate) fn twice_counts(bytes: &[u8]) -> TwiceCounts
             place += WIDE;
         } else if place % BLOCK == 0 && has_none(bytes, place) {
             place += BLOCK;
+        } else if place % BLOCK == 0 && ends_with_none(bytes, place) {
+            place = bytes.len() - (WINDOW - 1);
         } else {
             let len = twice_len(&bytes[place..place + WINDOW]);
             sequences = sum(sequences, number(0 < len));
@@ -92,6 +94,21 @@ fn has_none(bytes: &[u8], place: usize) -> bool
         return false;
     }
     candidates(bytes, place) == 0 && candidates(bytes, place + 32) == 0
+}
+
+// Returns true if fewer than 64 windows are left, and none of the last 64 has a sequence, as far as two bytes of each show.
+#[inline(always)]
+fn ends_with_none(bytes: &[u8], place: usize) -> bool
+    requires { place + 17 ≤ length bytes.now }
+    ensures { IsTrue result → (k : ℕ) → place + k + 17 ≤ length bytes.now → may_be_twice (drop (place + k) bytes.now) ≡ false }
+{
+    if BLOCK + WINDOW - 1 <= bytes.len() - place {
+        return false;
+    }
+    if bytes.len() < BLOCK + WINDOW - 1 {
+        return false;
+    }
+    has_none(bytes, bytes.len() - (BLOCK + WINDOW - 1))
 }
 
 // The bits of the windows, of 32 from the offset on, in which a sequence may begin.

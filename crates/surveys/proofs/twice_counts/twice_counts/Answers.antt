@@ -30,6 +30,23 @@ loop-place-preserved-then-has_none c =
       chars = ap (λ n. wrapped (l.chars + n)) (sum_skip twice_len bytes l.place 64 (omega (arith, c.has_none.ensures.within c.if-has_none.true)) none) ∙ l.invariant.chars;
     }
 
+pub loop-place-preserved-then-ends_with_none : goal.loop-place-preserved-then-ends_with_none
+loop-place-preserved-then-ends_with_none c =
+    let l = c.loop-place in
+    let bytes = c.args.bytes.now in
+    let n = length bytes - 16 - l.place in
+    let long : l.place + 17 ≤ length bytes = omega (arith, l.invariant.within, c.loop-place-test.true) in
+    let to : l.place + n ≡ length bytes - 16 = omega arith in
+    let none : (k : ℕ) → k < n → twice_len (take 17 (drop (l.place + k) bytes)) ≡ 0 = λ k lt. none_twice-at bytes (l.place + k) (c.ends_with_none.ensures c.if-ends_with_none.true k (omega arith)) in
+    record {
+      within = omega arith;
+      sequences = ap (λ n. wrapped (l.sequences + n))
+          (ap (λ k. window_sum (λ w. number (nat_lt 0 (twice_len w))) (drop k bytes)) (sym to)
+          ∙ sum_skip (λ w. number (nat_lt 0 (twice_len w))) bytes l.place n (omega arith) (λ k lt. ap (λ n. number (nat_lt 0 n)) (none k lt)))
+          ∙ l.invariant.sequences;
+      chars = ap (λ n. wrapped (l.chars + n)) (ap (λ k. window_sum twice_len (drop k bytes)) (sym to) ∙ sum_skip twice_len bytes l.place n (omega arith) none) ∙ l.invariant.chars;
+    }
+
 pub loop-place-preserved : goal.loop-place-preserved
 loop-place-preserved c =
     let l = c.loop-place in
