@@ -129,6 +129,9 @@ SHARED = {
     "recoding/room.rt": ("Room",),
 }
 
+# Outlined methods that the copy inlines: a method of a trait is not compiled for that CPU, so what it does with vectors would be calls.
+IN_LINE = {"recoding/kernels.rt:put_text"}
+
 # A trait of which all but one method, which has vectors as parameters, exist once: in the copy it has only that one, by another name, and
 # extends the other trait.
 EXTENDED = ("Output", ("room", "put", "put_byte"), "put_wide", "put_wider")

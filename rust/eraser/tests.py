@@ -206,6 +206,11 @@ WIDENED = [
      "use crate::{proved::{utf_base, utf_lanes::wide as utf_lanes}, support::wide as std};\n"
      "use crate::proved::utf_lanes::wide::text_blocks::text_len;\nuse crate::proved::recoding::form::Form;\nuse std::simd::prelude::*;\n"),
 ]
+# Of the outlined methods the copy inlines those of `rules.IN_LINE`.
+IN_LINE = [
+    ("recoding/kernels.rt", "impl T for S {\n    #[inline(never)]\n    fn put_text(x: u8) {}\n}\n", "impl T for S {\n    #[inline(always)]\n    fn put_text(x: u8) {}\n}\n"),
+    ("recoding/list.rt", "impl T for S {\n    #[inline(never)]\n    fn put_text(x: u8) {}\n}\n", None),
+]
 # With debug assertions nothing has to be inlined.
 INLINED = [
     ("impl S {\n    /// Is.\n    #[inline(always)]\n    fn f() {}\n}\n", "impl S {\n    /// Is.\n    #[cfg_attr(not(debug_assertions), inline(always))]\n    fn f() {}\n}\n"),
@@ -256,8 +261,8 @@ def writes(text, wanted, is_trusted=False, name="utf_base/a.rt"):
     return None if have == (text if wanted is None else wanted) else f"it writes {have!r}"
 
 
-def widens(text, wanted):
-    have = widened(text, "utf_lanes/a.rt")
+def widens(text, wanted, name="utf_lanes/a.rt"):
+    have = widened(text, name)
     return None if have == (text if wanted is None else wanted) else f"it writes {have!r}"
 
 
@@ -341,6 +346,7 @@ def main():
     tried = [("other files stay", keeps_other_files())]
     tried += [(why, refuses(why, *rest)) for why, *rest in REFUSED]
     tried += [(text, widens(text, wanted)) for text, wanted in WIDENED]
+    tried += [(text, widens(text, wanted, name)) for name, text, wanted in IN_LINE]
     tried += [(text, inlines(text, wanted)) for text, wanted in INLINED]
     tried += [(text, cools(name, text, wanted)) for name, text, wanted in COOLED]
     tried += [(text, shares(text, wanted)) for text, wanted in SHARED]

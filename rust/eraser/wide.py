@@ -21,6 +21,8 @@ def widened(text, name):
     """The copy of an erased file."""
     made = Text(extended(shared(text, name)), name)
     for it in made.functions():
+        if f"{name}:{it.name}" in rules.IN_LINE:
+            put_in_line(made, it)
         if not it.inside and made.text(it.body) == "{":
             attributes = attributes_of(made, it)
             inline = next((at for at, _, words in attributes if words == "#[inline]"), None)
@@ -68,6 +70,13 @@ def extended(text):
 def attributes_of(text, it):
     """Those above a function: where each begins and ends, and what it is."""
     return [(start, end, "".join(x.text for x in text.t[start:end + 1])) for start, end in text.attributes(it.start)]
+
+
+def put_in_line(text, it):
+    """An outlined method of `rules.IN_LINE`, inlined."""
+    for start, end, words in attributes_of(text, it):
+        if words == "#[inline(never)]":
+            text.said[next(k for k in range(start, end) if text.text(k) == "never")] = "always"
 
 
 def apart(text, it, attributes):
