@@ -1,5 +1,5 @@
 -- Bytes of UTF-8 each of which is a piece, whatever follows them: ASCII, and an invalid byte before it.
-use Rattle.std.proofs.Common.{◌≡◌, ℕ, suc, ◌+◌, ◌-◌, ◌<◌, ◌≤◌, true, List, [], ◌∷◌, length, get_or, drop, Ok, Err, Result, arith, refl, ap, sym, ◌∙◌, length-append, inl, inr}
+use Rattle.std.proofs.Common.{◌≡◌, ℕ, suc, ◌+◌, ◌-◌, ◌<◌, ◌≤◌, true, List, [], ◌∷◌, length, drop, Ok, Err, Result, arith, refl, ap, ◌∙◌, length-append, inl, inr}
 use Rattle.std.proofs.lemmas.Bool.{cases_lt}
 use Rattle.std.proofs.lemmas.Grind.{common_steps}
 use Rattle.std.proofs.lemmas.List.{append-nil}
@@ -42,20 +42,20 @@ second_breaks b a w asks low = grind (arith, common_steps)
 lone_single : (b a : ℕ) (w : List ℕ) → 0x80 ≤ b → a < 0x80 → AreSingle (a ∷ w) → AreSingle (b ∷ a ∷ w)
 unfolding asked
 lone_single b a w high low rest = elim (cases_lt b 0xC0) [
-    | inl before ↦ single_on b (a ∷ w) (Err (kind.Utf8 UnexpectedContinuationByte)) (kind_begins (b ∷ a ∷ w) _ (kind-continuation (b ∷ a ∷ w) (omega arith) high before) (λ e. absurd cc)) rest
-    | inr from ↦ elim (cases_lt 0 (asked b)) [
-        | inl asks ↦ single_on b (a ∷ w) (Err (kind.Utf8 InterruptedSequence)) (broken_begins (b ∷ a ∷ w) (second_breaks b a w (grind (arith, common_steps)) low)) rest
-        | inr none ↦ single_on b (a ∷ w) (Err (kind.Utf8 NonUtf8Byte)) (kind_begins (b ∷ a ∷ w) _ (kind-never (b ∷ a ∷ w) (omega arith) (omega arith) (grind (arith, common_steps))) (λ e. absurd cc)) rest
-      ]
+  | inl before ↦ single_on b (a ∷ w) (Err (kind.Utf8 UnexpectedContinuationByte)) (kind_begins (b ∷ a ∷ w) _ (kind-continuation (b ∷ a ∷ w) (omega arith) high before) (λ e. absurd cc)) rest
+  | inr from ↦ elim (cases_lt 0 (asked b)) [
+    | inl asks ↦ single_on b (a ∷ w) (Err (kind.Utf8 InterruptedSequence)) (broken_begins (b ∷ a ∷ w) (second_breaks b a w (grind (arith, common_steps)) low)) rest
+    | inr none ↦ single_on b (a ∷ w) (Err (kind.Utf8 NonUtf8Byte)) (kind_begins (b ∷ a ∷ w) _ (kind-never (b ∷ a ∷ w) (omega arith) (omega arith) (grind (arith, common_steps))) (λ e. absurd cc)) rest
   ]
+]
 
 first_single : (w : List ℕ) → 2 ≤ length w → AreAscii (drop 1 w) 0 (length (drop 1 w)) → AreSingle w
 first_single [] long ascii = absurd (omega arith)
 first_single (b ∷ []) long ascii = absurd (omega arith)
 first_single (b ∷ a ∷ w) long ascii = elim (cases_lt b 0x80) [
-    | inl low ↦ single_on b (a ∷ w) (Ok b) (ascii_begins (b ∷ a ∷ w) 0 (omega arith) low) (ascii_single (a ∷ w) ascii)
-    | inr high ↦ lone_single b a w high (ascii 0 (omega arith) (omega arith)) (ascii_single (a ∷ w) ascii)
-  ]
+  | inl low ↦ single_on b (a ∷ w) (Ok b) (ascii_begins (b ∷ a ∷ w) 0 (omega arith) low) (ascii_single (a ∷ w) ascii)
+  | inr high ↦ lone_single b a w high (ascii 0 (omega arith) (omega arith)) (ascii_single (a ∷ w) ascii)
+]
 
 no_rest : (w : List ℕ) → drop (length w) w ≡ []
 no_rest [] = refl
