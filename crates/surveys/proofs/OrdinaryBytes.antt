@@ -8,7 +8,6 @@ use Rattle.utf_lanes.specs.AsciiTexts.{AreAscii}
 use Rattle.utf_lanes.specs.BytePairs.{unit_of, units_of}
 use Rattle.surveys.specs.declared.unit_counts.UnitCounts.{UnitCounts}
 use Rattle.surveys.specs.declared.unit_counts.UnitParts.{UnitParts}
-use Rattle.surveys.specs.SurveyEnds.{is_control, is_nul}
 use Rattle.surveys.specs.SurveyOrdinary.{AreAll, AreOrdinary, is_after_ordinary, is_odd_ordinary, is_ordinary, is_ordinary_ascii, is_uncontrolled}
 use Rattle.surveys.specs.SurveyUnits.{is_plain, is_stray, is_unpaired, unpaired_after, units_from, units_with}
 use Rattle.std.proofs.lemmas.List.{get_or-drop, get_or-take, take-append-drop}

@@ -1,5 +1,5 @@
 -- Bytes of which, besides counts of UTF-8, only that of unpaired units takes any.
-use Rattle.std.proofs.Common.{◌≡◌, ℕ, zero, suc, ◌+◌, ◌*◌, ◌<◌, ◌≤◌, Bool, true, false, ◌||◌, leb, ltb, bit_xor, List, [], ◌∷◌, count_by, length, refl, ◌∙◌, arith, inl, inr, zero-add}
+use Rattle.std.proofs.Common.{◌≡◌, ℕ, suc, ◌+◌, ◌*◌, ◌<◌, ◌≤◌, Bool, true, false, ◌||◌, leb, ltb, bit_xor, List, [], ◌∷◌, count_by, length, refl, ◌∙◌, arith, inl, inr, zero-add}
 use Rattle.std.proofs.lemmas.Bool.{cases_lt}
 use Rattle.std.proofs.lemmas.Bool.Decides.{nat_tests}
 use Rattle.utf_lanes.proofs.PairTables.{at_each}

@@ -1,5 +1,5 @@
 -- Unpaired units of bytes, by the high byte of each.
-use Rattle.std.proofs.Common.{◌≡◌, ℕ, zero, suc, ◌+◌, ◌-◌, ◌*◌, ◌/◌, ◌%◌, ◌<◌, ◌≤◌, Bool, true, false, ◌&&◌, leb, ltb, if◌then◌else◌, List, [], ◌∷◌, ◌++◌, count_by, length, get_or, drop, refl, sym, ap, ap₂, ◌∙◌, arith, add_assoc, None, inl, inr, zero-add}
+use Rattle.std.proofs.Common.{◌≡◌, ℕ, zero, suc, ◌+◌, ◌-◌, ◌*◌, ◌/◌, ◌%◌, ◌<◌, ◌≤◌, Bool, true, false, ◌&&◌, leb, ltb, List, [], ◌∷◌, ◌++◌, count_by, length, get_or, drop, refl, sym, ap, ap₂, ◌∙◌, arith, add_assoc, None, inl, inr, zero-add}
 use Rattle.std.proofs.lemmas.Bool.{cases_lt}
 use Rattle.std.proofs.lemmas.Bool.Decides.{nat_tests}
 use Rattle.utf_base.specs.Units.{is_leading_surrogate, is_trailing_surrogate}

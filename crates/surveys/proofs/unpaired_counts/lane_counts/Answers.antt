@@ -1,4 +1,4 @@
-use Rattle.std.proofs.Common.{◌≡◌, ◌+◌, ◌-◌, ◌*◌, ◌∙◌, ap₂, sym, refl, arith}
+use Rattle.std.proofs.Common.{◌≡◌, ◌+◌, ◌-◌, ◌*◌, ◌∙◌, ap₂, sym, arith}
 use Rattle.std.proofs.lemmas.List.{get_or-replicate}
 use Rattle.surveys.specs.SurveyUnits.{lane_count}
 use Rattle.surveys.proofs.UnpairedRows.{lane_few, lane_more, row_at}

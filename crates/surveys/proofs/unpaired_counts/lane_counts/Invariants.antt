@@ -1,4 +1,4 @@
-use Rattle.std.proofs.Common.{◌≡◌, ℕ, ◌<◌, ◌≤◌, get_or}
+use Rattle.std.proofs.Common.{◌≡◌, ℕ, ◌<◌, get_or}
 use Rattle.surveys.specs.SurveyUnits.{lane_count}
 use Rattle.surveys.proofs.unpaired_counts.lane_counts.Given as goal
 

@@ -1,4 +1,4 @@
-use Rattle.std.proofs.Common.{◌≡◌, ◌+◌, ◌*◌, ◌<◌, ◌∙◌, drop, get_or, ap, sym, refl, arith}
+use Rattle.std.proofs.Common.{◌≡◌, ◌+◌, ◌*◌, ◌∙◌, get_or, ap, sym, refl, arith}
 use Rattle.surveys.specs.SurveyUnits.{lane_count}
 use Rattle.surveys.proofs.UnpairedRows.{rows_all, sum_next, sum_same, sum_to}
 use Rattle.surveys.proofs.unpaired_counts.unpaired_counts.Goals as goal

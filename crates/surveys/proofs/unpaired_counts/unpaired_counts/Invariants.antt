@@ -1,4 +1,4 @@
-use Rattle.std.proofs.Common.{◌≡◌, ℕ, ◌+◌, ◌*◌, ◌≤◌, get_or}
+use Rattle.std.proofs.Common.{◌≡◌, ◌+◌, ◌*◌, ◌≤◌, get_or}
 use Rattle.surveys.proofs.UnpairedRows.{sum_to}
 use Rattle.surveys.proofs.unpaired_counts.unpaired_counts.Given as goal
 
