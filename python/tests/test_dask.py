@@ -62,6 +62,39 @@ class OnWorkers(InFolder):
         return folder, them
 
 
+class Replaced(InFolder):
+    """What a worker does with the file of an output, which needs no dask."""
+
+    def test_permissions(self):
+        partial = self.out + ".partial"
+        for mode in (0o640, 0o600, 0o444, None):
+            if mode is None:
+                os.remove(self.out)
+            else:
+                self.write(b"old", self.out)
+                os.chmod(self.out, mode)
+            mask = os.umask(0o022)
+            try:
+                nody_dask._begin(partial, 3, self.out)
+            finally:
+                os.umask(mask)
+            self.assertEqual(os.stat(partial).st_mode & 0o7777, 0o644 if mode is None else 0o600)
+            self.write(b"new", partial)
+            nody_dask._end(partial, self.out, 3)
+            self.assertEqual((self.read(), os.stat(self.out).st_mode & 0o7777), (b"new", mode or 0o644))
+
+    @unittest.skipUnless(hasattr(os, "setxattr"), "extended attributes are of Linux")
+    def test_attributes(self):
+        self.write(b"old", self.out)
+        try:
+            os.setxattr(self.out, "user.mime_type", b"text/plain")
+        except OSError:
+            self.skipTest("this file system has no such attributes")
+        nody_dask._begin(self.out + ".partial", 3, self.out)
+        nody_dask._end(self.out + ".partial", self.out, 3)
+        self.assertEqual((self.read(), os.getxattr(self.out, "user.mime_type")), (b"\0\0\0", b"text/plain"))
+
+
 class SameAsOne(OnWorkers):
     def test_small_texts(self):
         for form, data in texts(4, seed=61):
