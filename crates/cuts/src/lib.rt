@@ -31,7 +31,7 @@ pub use counted::Counted;
 pub use programs::listing::{write_listing, write_merged, write_walk};
 pub use programs::pieces_program::run_pieces;
 pub use programs::recode_program::run_recode;
-pub use programs::recode_stream::{Forms, RecodeFault, recode};
+pub use programs::recode_stream::{RecodeFault, recode};
 pub use programs::strict::{FaultAt, StrictError, recode_strict};
 pub use recoding::boundaries::{
     boundary_after, boundary_before, unit_boundary_after, unit_boundary_before,

@@ -2,7 +2,7 @@
 use cuts::programs::mains::{Streams, arguments_of, pieces};
 use cuts::programs::stops::Stop;
 use cuts::{
-    Counted, Form, Forms, RecodeFault, forward_utf16, merge_utf8, merge_utf16, recode, walk_utf8,
+    Counted, Form, RecodeFault, forward_utf16, merge_utf8, merge_utf16, recode, walk_utf8,
     write_listing,
 };
 use encode_unicode::{StrExt, Utf8CharIterExt, Utf16CharIterExt};
@@ -149,11 +149,7 @@ fn recoding_tells_what_failed(rt: HostRuntime) {
         reader.plan = Plan::fail_once(reads, ErrorKind::BrokenPipe);
         let mut input = Counted::new(reader);
         let mut out = Counted::new(Fuse::failing(rt.alloc(), writes, Failure::Nothing));
-        let forms = Forms {
-            from: Form::Utf8,
-            to: Form::Utf8,
-        };
-        let answer = recode(&budget, &mut input, &mut out, forms);
+        let answer = recode(&budget, &mut input, &mut out, Form::Utf8, Form::Utf8);
         assert!(rt; answer == Err(failure));
     }
 }
@@ -194,10 +190,6 @@ fn nothing_to_hold_needs_no_memory(rt: HostRuntime) {
     assert!(rt; walk_utf8(&budget, b"a", &[]).is_ok());
     let mut input = Counted::new(Fuse::over(rt.alloc(), &[]));
     let mut out = Counted::new(Fuse::ample(rt.alloc()));
-    let forms = Forms {
-        from: Form::Utf16Be,
-        to: Form::Utf8,
-    };
-    let answer = recode(&budget, &mut input, &mut out, forms);
+    let answer = recode(&budget, &mut input, &mut out, Form::Utf16Be, Form::Utf8);
     assert!(rt; answer == Ok(()));
 }

@@ -1,17 +1,12 @@
 //! Streams that return an error of the kind `OutOfMemory`: they failed, and no allocation did.
 use cuts::programs::stops::Stop;
-use cuts::{Counted, Form, Forms, RecodeFault, recode, run_pieces, run_recode};
+use cuts::{Counted, Form, RecodeFault, recode, run_pieces, run_recode};
 use fakes::fuse::{Failure, Fuse, Plan};
 use std::alloc::{AllocError, Global};
 use std::io::ErrorKind;
 use std::test::Fail;
 
 const OUT_OF_MEMORY: Failure = Failure::Error(ErrorKind::OutOfMemory);
-
-const FORMS: Forms = Forms {
-    from: Form::Utf8,
-    to: Form::Utf16Le,
-};
 
 // A reader of three bytes that passes some reads and is then out of memory.
 fn failing_reader<'a>(alloc: Global, passes: u32) -> Fuse<'a> {
@@ -62,7 +57,7 @@ fn a_reader_of_recode(rt: HostRuntime) {
     for passes in 0..3 {
         let mut input = Counted::new(failing_reader(rt.alloc(), passes));
         let mut out = Counted::new(Fuse::ample(rt.alloc()));
-        let answer = recode(rt.alloc(), &mut input, &mut out, FORMS);
+        let answer = recode(rt.alloc(), &mut input, &mut out, Form::Utf8, Form::Utf16Le);
         assert_eq!(rt; answer, Err(RecodeFault::Read));
     }
 }
@@ -71,7 +66,7 @@ fn a_reader_of_recode(rt: HostRuntime) {
 fn a_writer_of_recode(rt: HostRuntime) {
     let mut input = Counted::new(Fuse::over(rt.alloc(), b"abc"));
     let mut out = Counted::new(Fuse::failing(rt.alloc(), 0, OUT_OF_MEMORY));
-    let answer = recode(rt.alloc(), &mut input, &mut out, FORMS);
+    let answer = recode(rt.alloc(), &mut input, &mut out, Form::Utf8, Form::Utf16Le);
     assert_eq!(rt; answer, Err(RecodeFault::Write));
 }
 

@@ -1,8 +1,6 @@
 //! Strict transcoding in packets, and among other calls; the rows of `run_vectors` have whole inputs. Python's decoders give
 //! the offsets of first faults, and the README's table the kinds.
-use cuts::{
-    Counted, FaultAt, FaultKind, Form, Forms, Outcome, Recoder, StrictError, recode_strict,
-};
+use cuts::{Counted, FaultAt, FaultKind, Form, Outcome, Recoder, StrictError, recode_strict};
 use encode_unicode::error::Utf8ErrorKind;
 use fakes::fuse::{Failure, Fuse, Plan};
 use run_examples::strict::{feed_strictly, finish_strictly};
@@ -13,11 +11,6 @@ const LE: Form = Form::Utf16Le;
 
 const BE: Form = Form::Utf16Be;
 
-const FORMS: Forms = Forms {
-    from: Form::Utf8,
-    to: LE,
-};
-
 fn of_bytes(offset: u64, kind: Utf8ErrorKind) -> Option<(u64, FaultKind)> {
     Some((offset, FaultKind::Utf8(kind)))
 }
@@ -27,12 +20,12 @@ fn a_strict_run_tells_what_failed(rt: HostRuntime) -> Result<(), Fail> {
     let mut reader = Fuse::over(rt.alloc(), b"abc");
     reader.plan = Plan::fail_once(1, ErrorKind::BrokenPipe);
     let mut out = Counted::new(Fuse::ample(rt.alloc()));
-    let answer = recode_strict(&mut Counted::new(reader), &mut out, FORMS);
+    let answer = recode_strict(&mut Counted::new(reader), &mut out, Form::Utf8, LE);
     assert!(rt; answer == Err(StrictError::Read));
     assert!(rt; out.into_inner().written.as_slice() == b"a\0b\0".as_slice());
     let mut input = Counted::new(Fuse::over(rt.alloc(), b"abc"));
     let mut full = Counted::new(Fuse::failing(rt.alloc(), 1, Failure::Nothing));
-    let answer = recode_strict(&mut input, &mut full, FORMS);
+    let answer = recode_strict(&mut input, &mut full, Form::Utf8, LE);
     assert!(rt; answer == Err(StrictError::Write));
     let fault = FaultAt {
         offset: 7,

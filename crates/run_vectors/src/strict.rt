@@ -4,7 +4,7 @@
 
 use crate::columns::column;
 use crate::recodings::forms_of;
-use cuts::{Counted, FaultAt, Forms, Outcome, Recoder, StrictError, recode_strict};
+use cuts::{Counted, FaultAt, Outcome, Recoder, StrictError, recode_strict};
 use fakes::fuse::Fuse;
 use fakes::rows::bytes_of;
 use std::alloc::{AllocError, Global};
@@ -96,7 +96,7 @@ pub(crate) fn stream_agrees(alloc: Global, row: &str) -> io::Result<bool> {
     let bytes = bytes_of(alloc, column(row, 1))?;
     let mut input = Counted::new(Fuse::over(alloc, &bytes));
     let mut out = Counted::new(Fuse::ample(alloc));
-    let fault = match recode_strict(&mut input, &mut out, Forms { from, to }) {
+    let fault = match recode_strict(&mut input, &mut out, from, to) {
         Ok(()) => None,
         Err(StrictError::Faulty(fault)) => Some(fault),
         Err(_) => return Ok(false),

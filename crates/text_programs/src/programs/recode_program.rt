@@ -5,7 +5,7 @@ ghost use Rattle.text_runs.specs.Failures.{Known, Pipes, NoReadAfterEnd};
 ghost use Rattle.text_programs.specs.Arguments.{form_name, AsksForms};
 ghost use Rattle.text_programs.specs.RecodeStream.{WritesRecoded, BeginsRecoded};
 
-use crate::programs::recode_stream::{Forms, RecodeFault, recode};
+use crate::programs::recode_stream::{RecodeFault, recode};
 use crate::programs::stops::Stop;
 use recoding::form::Form;
 use std::alloc::Allocator;
@@ -42,25 +42,22 @@ pub fn run_recode<A: Allocator + Copy, R: Read, W: Write>(
     ensures right { (from to : Form) → AsksForms (map string_bytes args.now) from to →
         result ≢ Err Stop.WrongArguments }
 {
-    let Some(forms) = forms_of(args) else {
+    let Some((from, to)) = forms_of(args) else {
         return Err(Stop::WrongArguments);
     };
-    match recode(alloc, input, out, forms) {
+    match recode(alloc, input, out, from, to) {
         Ok(()) => Ok(()),
         Err(fault) => Err(stop_of(fault)),
     }
 }
 
 // The two encodings that the arguments name, if they do.
-fn forms_of<A: Allocator>(args: &[String<A>]) -> Option<Forms>
-    ensures some { IfSome result (λ forms. AsksForms (map string_bytes args.now) forms.from forms.to) }
+fn forms_of<A: Allocator>(args: &[String<A>]) -> Option<(Form, Form)>
+    ensures some { IfSome result (λ forms. AsksForms (map string_bytes args.now) forms.0 forms.1) }
     ensures none { IfNone result ((from to : Form) → ¬ AsksForms (map string_bytes args.now) from to) }
 {
     match args {
-        [from, to] => Some(Forms {
-            from: form_of(from.as_str())?,
-            to: form_of(to.as_str())?,
-        }),
+        [from, to] => Some((form_of(from.as_str())?, form_of(to.as_str())?)),
         _ => None,
     }
 }

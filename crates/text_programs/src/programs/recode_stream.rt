@@ -26,15 +26,6 @@ pub enum RecodeFault {
     Memory,
 }
 
-/// The encoding of an input, and that of an output.
-#[derive(Clone, Copy, Debug, PartialEq, Eq, Drop)]
-pub struct Forms {
-    /// The encoding of the input.
-    pub from: Form,
-    /// The encoding of the output.
-    pub to: Form,
-}
-
 // The size of a read, in bytes.
 const PART: usize = 65536;
 
@@ -47,15 +38,16 @@ pub fn recode<A: Allocator, R: Read, W: Write>(
     alloc: A,
     input: &mut Counted<R>,
     out: &mut Counted<W>,
-    forms: Forms,
+    from: Form,
+    to: Form,
 ) -> Result<(), RecodeFault>
     ensures recoded { OnOk result
-        (Known W.contents (WritesRecoded forms.from forms.to (R.remaining input.old.inner)) out.old out.new) }
+        (Known W.contents (WritesRecoded from to (R.remaining input.old.inner)) out.old out.new) }
     ensures list { OnOk result
-        (Known W.contents (AppendsRecoded forms.from forms.to (R.remaining input.old.inner)) out.old out.new) }
-    ensures front { Pipes R.remaining W.contents (BeginsRecoded forms.from forms.to) input.old input.new out.old out.new }
+        (Known W.contents (AppendsRecoded from to (R.remaining input.old.inner)) out.old out.new) }
+    ensures front { Pipes R.remaining W.contents (BeginsRecoded from to) input.old input.new out.old out.new }
     ensures held_back { result ≡ Err RecodeFault.Read →
-        Pipes R.remaining W.contents (HoldsBack forms.from forms.to) input.old input.new out.old out.new }
+        Pipes R.remaining W.contents (HoldsBack from to) input.old input.new out.old out.new }
     ensures drained { OnOk result (Known R.remaining IsDrained input.old input.new) }
     ensures unbroken { result ≢ Err RecodeFault.Read → NoFailedRead input.old.reads input.new.reads }
     ensures in_time { NoReadAfterEnd input.old.reads input.new.reads }
@@ -65,7 +57,7 @@ pub fn recode<A: Allocator, R: Read, W: Write>(
     ensures writes { FailsIf (result ≡ Err RecodeFault.Write) out.old out.new }
     ensures nothing { R.remaining input.old.inner ≡ Some [] → result ≢ Err RecodeFault.Memory }
 {
-    let mut recoder = Recoder::new(forms.from, forms.to);
+    let mut recoder = Recoder::new(from, to);
     let mut recoded = Vec::new(alloc);
     let mut part = [0; PART];
     for _ in 0..u64::MAX {

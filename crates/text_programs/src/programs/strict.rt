@@ -4,8 +4,8 @@ ghost use Rattle.text_runs.specs.Failures.{IsDrained, Known, Pipes, NoFailedRead
 ghost use Rattle.text_programs.specs.StrictRelayed.{BeginsTranscoded, EndsText, HoldsText, IfFaulty, IsFollowed, PassesText, PassesTextFront, PassesTextLast, StopsFaulty, StopsText, WritesText, strict_error_text};
 ghost use Rattle.text_programs.specs.Writes.{FailsIf};
 
-use crate::programs::recode_stream::Forms;
 use recoding::faults::{Fault, FaultKind, Outcome};
+use recoding::form::Form;
 use recoding::recoder::Recoder;
 use std::error::Error;
 use std::fmt;
@@ -78,16 +78,17 @@ const ROOM: usize = 2 * (PART + 3);
 pub fn recode_strict<R: Read, W: Write>(
     input: &mut Counted<R>,
     out: &mut Counted<W>,
-    forms: Forms,
+    from: Form,
+    to: Form,
 ) -> Result<(), StrictError>
     ensures text { OnOk result
-        (Known W.contents (WritesText forms.from forms.to (R.remaining input.old.inner)) out.old out.new) }
+        (Known W.contents (WritesText from to (R.remaining input.old.inner)) out.old out.new) }
     ensures faulty { IfErr result (λ e. IfFaulty e
-        (Pipes R.remaining W.contents (StopsFaulty forms.from forms.to) input.old input.new out.old out.new)) }
-    ensures front { Pipes R.remaining W.contents (BeginsTranscoded forms.from forms.to)
+        (Pipes R.remaining W.contents (StopsFaulty from to) input.old input.new out.old out.new)) }
+    ensures front { Pipes R.remaining W.contents (BeginsTranscoded from to)
         input.old input.new out.old out.new }
     ensures held_back { result ≡ Err StrictError.Read →
-        Pipes R.remaining W.contents (HoldsText forms.from forms.to) input.old input.new out.old out.new }
+        Pipes R.remaining W.contents (HoldsText from to) input.old input.new out.old out.new }
     ensures drained { OnOk result (Known R.remaining IsDrained input.old input.new) }
     ensures unbroken { result ≢ Err StrictError.Read → NoFailedRead input.old.reads input.new.reads }
     ensures in_time { NoReadAfterEnd input.old.reads input.new.reads }
@@ -97,7 +98,7 @@ pub fn recode_strict<R: Read, W: Write>(
     ensures writes { FailsIf (result ≡ Err StrictError.Write) out.old out.new }
 {
     let mut reading = Reading {
-        recoder: Recoder::new(forms.from, forms.to),
+        recoder: Recoder::new(from, to),
         count: 0,
     };
     let mut part = [0; PART];

@@ -6,7 +6,7 @@ use Rattle.text_programs.proofs.programs.recode_stream.recode.Given as goal
 abbrev pub invariant-loop : goal.invariant-loop
 invariant-loop g l = record {
   empty : l.recoded.items ≡ [];
-  relayed : IsRelayed l.fn.forms.from l.fn.forms.to (g.R.Read.remaining l.fn.input.inner) (g.R.Read.remaining l.input.inner)
+  relayed : IsRelayed l.fn.from l.fn.to (g.R.Read.remaining l.fn.input.inner) (g.R.Read.remaining l.input.inner)
       (g.W.Write.contents l.fn.out.inner) (g.W.Write.contents l.out.inner) l.fn.input.failures l.input.failures l.counter l.recoder;
   never_fewer : l.fn.input.failures ≤ l.input.failures;
   quiet : l.out.failures ≡ l.fn.out.failures;

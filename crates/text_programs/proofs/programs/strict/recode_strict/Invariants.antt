@@ -5,7 +5,7 @@ use Rattle.text_programs.proofs.programs.strict.recode_strict.Given as goal
 
 abbrev pub invariant-loop : goal.invariant-loop
 invariant-loop g l = record {
-  relayed : IsTextRelayed l.fn.forms.from l.fn.forms.to (g.R.Read.remaining l.fn.input.inner) (g.R.Read.remaining l.input.inner)
+  relayed : IsTextRelayed l.fn.from l.fn.to (g.R.Read.remaining l.fn.input.inner) (g.R.Read.remaining l.input.inner)
       (g.W.Write.contents l.fn.out.inner) (g.W.Write.contents l.out.inner) l.fn.input.failures l.input.failures l.counter l.reading.recoder l.reading.count;
   part : length l.part ≡ 16384;
   room : length l.room ≡ 32774;
