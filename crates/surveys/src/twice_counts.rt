@@ -49,8 +49,10 @@ pub(crate) fn twice_counts(bytes: &[u8]) -> TwiceCounts
     }
 }
 
+// Outlined: inlined, it takes registers of the loop in which windows are seen one by one.
+//
 // Returns true if in none of the 256 windows from the offset on C3 and a lead byte show that there may be a sequence.
-#[inline(always)]
+#[inline(never)]
 fn has_none_surely(bytes: &[u8], place: usize) -> bool
     requires { place ≤ length bytes.now }
     ensures within { IsTrue result → place + 272 ≤ length bytes.now }
@@ -97,7 +99,7 @@ fn has_none(bytes: &[u8], place: usize) -> bool
 }
 
 // Returns true if fewer than 64 windows are left, and none of the last 64 has a sequence, as far as two bytes of each show.
-#[inline(always)]
+#[inline(never)]
 fn ends_with_none(bytes: &[u8], place: usize) -> bool
     requires { place + 17 ≤ length bytes.now }
     ensures { IsTrue result → (k : ℕ) → place + k + 17 ≤ length bytes.now → may_be_twice (drop (place + k) bytes.now) ≡ false }
