@@ -1,11 +1,11 @@
 //! UTF-8: bytes, split from either end.
 
-use crate::pieces::{Element, Faults, Pieces};
+use crate::pieces::{Element, Faults, Found, Pieces};
 use crate::proved::cuts;
 use crate::proved::encode_unicode::error::Utf8Error;
 use crate::proved::encode_unicode::iterator::{Utf8CharDecoder, Utf8CharMerger};
 use crate::proved::encode_unicode::{CharExt, Utf8Char};
-use crate::{Encoding, Fault, Piece};
+use crate::{Encoding, Piece};
 
 /// All pieces of the bytes: characters, and single bytes that are invalid.
 ///
@@ -203,7 +203,7 @@ impl Element for u8 {
         boundary_before(left, at)
     }
 
-    fn faults_into(left: &[u8], offset: usize, found: &mut [Fault]) -> cuts::Fed {
+    fn faults_into(left: &[u8], offset: usize, found: &mut [Found]) -> cuts::Fed {
         cuts::faults_into(left, offset as u64, found)
     }
 }

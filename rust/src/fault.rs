@@ -260,22 +260,6 @@ impl<O: Copy> Fault<O> {
     }
 }
 
-/// What a search for faults writes: it meets no character.
-impl cuts::FromPiece for Fault {
-    fn from_character(_: u64, _: char, _: usize) -> Fault {
-        unreachable!("a search for faults writes no character")
-    }
-
-    #[inline(always)]
-    fn from_fault(offset: u64, kind: cuts::FaultKind, len: usize) -> Fault {
-        Fault::new(offset as usize, len as u8, kind.into())
-    }
-
-    fn from_ascii(_: u64, _: u8) -> Fault {
-        unreachable!("a search for faults writes no character")
-    }
-}
-
 /// Writes the offset and the kind, as `invalid UTF-8 at offset 2: NonUtf8Byte`.
 impl<O: fmt::Display> fmt::Display for Fault<O> {
     fn fmt(&self, f: &mut fmt::Formatter<'_>) -> fmt::Result {

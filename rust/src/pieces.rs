@@ -24,7 +24,7 @@ pub trait Element: Copy {
     fn boundary_before(left: &[Self], at: usize) -> usize;
 
     /// Writes the faults of what begins at that offset to the front of an array, until it is full.
-    fn faults_into(left: &[Self], offset: usize, found: &mut [Fault]) -> cuts::Fed;
+    fn faults_into(left: &[Self], offset: usize, found: &mut [Found]) -> cuts::Fed;
 }
 
 /// The pieces of some bytes, or of some units, from the front and from the end. [`pieces`](crate::pieces) and
@@ -119,12 +119,44 @@ impl<T: Element> DoubleEndedIterator for Pieces<'_, T> {
 impl<T: Element> FusedIterator for Pieces<'_, T> {}
 
 /// How many faults are found at once, and how many bytes or units are looked at after the first of them: the more, the more faults were there.
-const AHEAD: usize = 64;
+const AHEAD: usize = 128;
 const NEAR: usize = 128;
 const FAR: usize = 4096;
 
-/// What fills the place of a fault that was not found yet.
-const NOT_FOUND: Fault = Fault::new(0, 1, FaultKind::Incomplete);
+/// A fault that was found ahead. Blocks are short, so the low bits of its offset tell it.
+#[derive(Clone, Copy, Debug)]
+pub struct Found {
+    offset: u16,
+    len: u8,
+    kind: FaultKind,
+}
+
+impl Found {
+    /// What fills the place of one that was not found yet.
+    const NOTHING: Found = Found { offset: 0, len: 1, kind: FaultKind::Incomplete };
+
+    /// The fault in all, if it was looked for from that offset on.
+    #[inline(always)]
+    fn from(self, begin: usize) -> Fault {
+        Fault::new(begin + usize::from(self.offset.wrapping_sub(begin as u16)), self.len, self.kind)
+    }
+}
+
+/// What a search for faults writes: it meets no character.
+impl cuts::FromPiece for Found {
+    fn from_character(_: u64, _: char, _: usize) -> Found {
+        unreachable!("a search for faults writes no character")
+    }
+
+    #[inline(always)]
+    fn from_fault(offset: u64, kind: cuts::FaultKind, len: usize) -> Found {
+        Found { offset: offset as u16, len: len as u8, kind: kind.into() }
+    }
+
+    fn from_ascii(_: u64, _: u8) -> Found {
+        unreachable!("a search for faults writes no character")
+    }
+}
 
 /// How many bytes or units are validated in one block from the end: the more, the more of them were text. What is in a short block that is no
 /// text is looked at piece by piece.
@@ -150,11 +182,12 @@ pub struct Faults<'a, T = u8> {
     all: &'a [T],
     /// The part of which no fault was given yet.
     left: Range<usize>,
-    /// From the front: `found[next..count]` were found and not given. They are all of what is left up to `seen`, which is in a block that
-    /// ends at `until`; and how long the next block is.
-    found: [Fault; AHEAD],
+    /// From the front: `found[next..count]` were found and not given. They are all from `begin` up to `seen`, which is in a block that ends
+    /// at `until`; and how long the next block is.
+    found: [Found; AHEAD],
     next: usize,
     count: usize,
+    begin: usize,
     seen: usize,
     until: usize,
     reach: usize,
@@ -204,7 +237,7 @@ impl<'a, T: Element> Faults<'a, T> {
         }
         if self.seen < end {
             let did = T::faults_into(&self.all[self.seen..self.until], self.seen, &mut self.found);
-            (self.seen, self.count) = (self.seen + did.read, did.written);
+            (self.begin, self.seen, self.count) = (self.seen, self.seen + did.read, did.written);
             self.reach = if did.written > 1 { FAR.min(2 * self.reach) } else { NEAR.max(self.reach / 2) };
             self.judge_last();
             self.drop_given();
@@ -218,18 +251,19 @@ impl<'a, T: Element> Faults<'a, T> {
     /// Judges faults near the end of a block by all that follows.
     fn judge_last(&mut self) {
         for found in self.found[..self.count].iter_mut().rev() {
-            if found.offset() + T::MOST <= self.until {
+            let offset = found.from(self.begin).offset();
+            if offset + T::MOST <= self.until {
                 break;
             }
-            if let Some(fault) = fault_at(self.all, found.offset()) {
-                *found = fault;
+            if let Some(fault) = fault_at(self.all, offset) {
+                found.kind = fault.kind();
             }
         }
     }
 
     /// Drops those that were given from the back.
     fn drop_given(&mut self) {
-        while self.count > self.next && self.found[self.count - 1].offset() >= self.left.end {
+        while self.count > self.next && self.found[self.count - 1].from(self.begin).offset() >= self.left.end {
             self.count -= 1;
         }
     }
@@ -259,8 +293,8 @@ impl<'a, T: Element> Faults<'a, T> {
 
 impl<'a, T: Element> From<&'a [T]> for Faults<'a, T> {
     fn from(all: &'a [T]) -> Faults<'a, T> {
-        let (found, left, text) = ([NOT_FOUND; AHEAD], 0..all.len(), all.len()..all.len());
-        Faults { all, left, found, next: 0, count: 0, seen: 0, until: 0, reach: NEAR, block: SHORT, text }
+        let (found, left, text) = ([Found::NOTHING; AHEAD], 0..all.len(), all.len()..all.len());
+        Faults { all, left, found, next: 0, count: 0, begin: 0, seen: 0, until: 0, reach: NEAR, block: SHORT, text }
     }
 }
 
@@ -272,7 +306,7 @@ impl<T: Element> Iterator for Faults<'_, T> {
         if self.next == self.count && !self.look_ahead() {
             return None;
         }
-        let fault = self.found[self.next];
+        let fault = self.found[self.next].from(self.begin);
         self.next += 1;
         self.left.start = fault.range().end;
         Some(fault)

@@ -9,10 +9,10 @@
 //! assert_eq!(text, "f😀\u{FFFD}");
 //! ```
 
-use crate::pieces::Element;
+use crate::pieces::{Element, Found};
 use crate::proved::cuts;
 use crate::proved::encode_unicode::iterator::Utf16CharDecoder;
-use crate::{Fault, Piece};
+use crate::Piece;
 
 /// All pieces of the units: characters, and single units that are invalid. Offsets and lengths count units.
 ///
@@ -166,7 +166,7 @@ impl Element for u16 {
         cuts::unit_boundary_before(left, at)
     }
 
-    fn faults_into(left: &[u16], offset: usize, found: &mut [Fault]) -> cuts::Fed {
+    fn faults_into(left: &[u16], offset: usize, found: &mut [Found]) -> cuts::Fed {
         cuts::unit_faults_into(left, offset as u64, found)
     }
 }
