@@ -1,6 +1,6 @@
 -- The text of damaged bytes, one part after another.
 use borrow.Rule.Slice.PartMut.{put_mid}
-use Rattle.std.proofs.Common.{◌≡◌, ℕ, zero, suc, ◌+◌, ◌-◌, ◌*◌, ◌<◌, ◌≤◌, Bool, false, true, List, [], ◌∷◌, ◌++◌, cond, length, get_or, drop, take, Option, Some, None, arith, refl, ap, ap₂, sym, subst, ◌∙◌, inl, inr, lit<, length-take, length-drop, length-append, append_assoc}
+use Rattle.std.proofs.Common.{◌≡◌, ℕ, zero, suc, ◌+◌, ◌-◌, ◌*◌, ◌<◌, ◌≤◌, Bool, false, true, List, [], ◌∷◌, ◌++◌, length, get_or, drop, take, Option, Some, None, arith, refl, ap, ap₂, sym, subst, ◌∙◌, inl, inr, lit<, length-take, length-drop, length-append, append_assoc}
 use Rattle.std.proofs.lemmas.Bool.{cases_eq, cases_lt}
 use Rattle.std.proofs.lemmas.List.{append-nil, drop-drop}
 use Rattle.std.proofs.lemmas.Slice.{drop-put_mid, take-put_mid}
