@@ -155,7 +155,7 @@ impl String<Global> {
 /// What was recoded to UTF-8 as a string of std. The crate's own validation, which tests it, takes a fraction of the time of std's.
 #[cfg(feature = "alloc")]
 pub(crate) fn text_of(bytes: StdVec<u8>) -> StdString {
-    assert!(crate::valid_up_to(&bytes) == bytes.len(), "what is recoded to UTF-8 is UTF-8");
+    assert!(crate::proved::cuts::valid_up_to(&bytes) == bytes.len(), "what is recoded to UTF-8 is UTF-8");
     // SAFETY: The bytes are UTF-8, all of them: the assertion has validated them.
     unsafe { StdString::from_utf8_unchecked(bytes) }
 }
