@@ -1413,7 +1413,7 @@
 	ldrb	w8, [x12, w9, uxtw]
 	cmp	w8, #13
 	b.ne	.LBB10_11
-// %bb.9:                               // %"encode_unicode::utf8_merger::code_of::<#8231def798dd03ff>.exit.thread503.i"
+// %bb.9:                               // %"encode_unicode::utf8_merger::code_of::<#8231def798dd03ff>.exit.thread508.i"
                                         //   in Loop: Header=BB10_1 Depth=1
 	mov	w11, wzr
 	mov	w10, wzr
@@ -1451,7 +1451,7 @@
 // %bb.15:                              // %then.5.i42.i
                                         //   in Loop: Header=BB10_1 Depth=1
 	cbz	x27, .LBB10_35
-// %bb.16:                              // %arm.2.i55.i
+// %bb.16:                              // %arm.2.i51.i
                                         //   in Loop: Header=BB10_1 Depth=1
 	ldrb	w10, [x21, #1]
 	add	x8, x12, x8, lsl #4
@@ -1461,10 +1461,10 @@
 	ldrb	w8, [x8, x13]
 	cmp	x8, #12
 	b.hi	.LBB10_32
-// %bb.17:                              // %then.5.i90.i
+// %bb.17:                              // %then.5.i74.i
                                         //   in Loop: Header=BB10_1 Depth=1
 	cbz	x27, .LBB10_40
-// %bb.18:                              // %arm.2.i107.i
+// %bb.18:                              // %arm.2.i92.i
                                         //   in Loop: Header=BB10_1 Depth=1
 	ldrb	w13, [x21, #2]
 	add	x8, x12, x8, lsl #4
@@ -1525,7 +1525,7 @@
                                         //   in Loop: Header=BB10_1 Depth=1
 	cmp	w8, #13
 	b.ne	.LBB10_29
-// %bb.28:                              // %"encode_unicode::utf8_merger::code_of::<#8231def798dd03ff>.exit.thread664.i"
+// %bb.28:                              // %"encode_unicode::utf8_merger::code_of::<#8231def798dd03ff>.exit.thread678.i"
                                         //   in Loop: Header=BB10_1 Depth=1
 	mov	w8, #192                        // =0xc0
 	mov	w11, wzr
@@ -1545,11 +1545,11 @@
 	mov	x20, x27
 	mov	x21, x26
 	b	.LBB10_23
-.LBB10_32:                              // %join.7.i66.i
+.LBB10_32:                              // %join.7.i62.i
                                         //   in Loop: Header=BB10_1 Depth=1
 	cmp	w8, #13
 	b.ne	.LBB10_36
-// %bb.33:                              // %"encode_unicode::utf8_merger::code_of::<#8231def798dd03ff>.exit.thread747.i"
+// %bb.33:                              // %"encode_unicode::utf8_merger::code_of::<#8231def798dd03ff>.exit.thread765.i"
                                         //   in Loop: Header=BB10_1 Depth=1
 	mov	w8, #224                        // =0xe0
 	mov	w11, wzr
@@ -1559,19 +1559,19 @@
 	mov	x20, x27
 	mov	x21, x26
 	b	.LBB10_10
-.LBB10_35:                              // %arm.1.i96.i
+.LBB10_35:                              // %arm.1.i78.i
                                         //   in Loop: Header=BB10_1 Depth=1
 	mov	x20, xzr
 	mov	w8, wzr
 	orr	w0, w9, #0x1000000
 	b	.LBB10_41
-.LBB10_36:                              // %then.8.i77.i
+.LBB10_36:                              // %then.8.i66.i
                                         //   in Loop: Header=BB10_1 Depth=1
 	orr	w9, w9, w10, lsl #8
 	cmp	w8, #16
 	orr	w0, w9, #0x2000000
 	b.eq	.LBB10_30
-.LBB10_37:                              // %arm.2.i.i81.i
+.LBB10_37:                              // %arm.2.i.i68.i
                                         //   in Loop: Header=BB10_1 Depth=1
 	mov	x20, x0
 	mov	w0, w8
@@ -1580,7 +1580,7 @@
 	mov	x0, x20
 	mov	w24, wzr
 	b	.LBB10_31
-.LBB10_38:                              // %then.5.i122.i
+.LBB10_38:                              // %then.5.i108.i
                                         //   in Loop: Header=BB10_1 Depth=1
 	orr	w9, w9, w10, lsl #8
 	cmp	w8, #16
@@ -1591,7 +1591,7 @@
 	mov	w24, wzr
 	mov	w8, #3                          // =0x3
 	b	.LBB10_23
-.LBB10_40:                              // %arm.1.i131.i
+.LBB10_40:                              // %arm.1.i117.i
                                         //   in Loop: Header=BB10_1 Depth=1
 	orr	w9, w9, w10, lsl #8
 	mov	x20, xzr
@@ -1602,7 +1602,7 @@
 	mov	w24, #1                         // =0x1
 	mov	x21, x26
 	b	.LBB10_23
-.LBB10_42:                              // %arm.2.i.i124.i
+.LBB10_42:                              // %arm.2.i.i111.i
                                         //   in Loop: Header=BB10_1 Depth=1
 	mov	x24, x0
 	mov	w0, w8

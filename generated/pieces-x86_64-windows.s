@@ -4105,7 +4105,7 @@ text_programs_programs_pieces_program_merge_all_e3b2a9d4d2861db8_30: # @text_pro
 # %bb.18:                               # %then.5.i43.i
 	testq	%rsi, %rsi
 	je	.LBB11_19
-# %bb.21:                               # %arm.2.i56.i
+# %bb.21:                               # %arm.2.i52.i
 	leaq	2(%rdi), %rsi
 	leaq	-2(%rbx), %r13
 	movzbl	1(%rdi), %r8d
@@ -4115,10 +4115,10 @@ text_programs_programs_pieces_program_merge_all_e3b2a9d4d2861db8_30: # @text_pro
 	movzbl	(%r11,%rcx), %ecx
 	cmpq	$12, %rcx
 	ja	.LBB11_27
-# %bb.22:                               # %then.5.i91.i
+# %bb.22:                               # %then.5.i75.i
 	testq	%r13, %r13
 	je	.LBB11_23
-# %bb.24:                               # %arm.2.i108.i
+# %bb.24:                               # %arm.2.i93.i
 	addq	$-3, %rbx
 	movzbl	2(%rdi), %r11d
 	addq	$3, %rdi
@@ -4129,7 +4129,7 @@ text_programs_programs_pieces_program_merge_all_e3b2a9d4d2861db8_30: # @text_pro
 	cmpb	$13, %cl
 	movq	40(%rsp), %r13                  # 8-byte Reload
 	jne	.LBB11_25
-# %bb.42:                               # %join.7.i119.i
+# %bb.42:                               # %join.7.i104.i
 	andb	$7, %r12b
 	orb	$-16, %r12b
 	shll	$24, %r11d
@@ -4175,10 +4175,10 @@ text_programs_programs_pieces_program_merge_all_e3b2a9d4d2861db8_30: # @text_pro
 	movq	%rsi, %rbx
 	movq	40(%rsp), %r13                  # 8-byte Reload
 	jmp	.LBB11_41
-.LBB11_27:                              # %join.7.i67.i
+.LBB11_27:                              # %join.7.i63.i
 	cmpl	$13, %ecx
 	jne	.LBB11_28
-# %bb.32:                               # %join.10.i69.i
+# %bb.32:                               # %join.10.i65.i
 	andb	$15, %r12b
 	orb	$-32, %r12b
 	xorl	%r11d, %r11d
@@ -4186,12 +4186,12 @@ text_programs_programs_pieces_program_merge_all_e3b2a9d4d2861db8_30: # @text_pro
 	movq	%r13, %rbx
 	movq	40(%rsp), %r13                  # 8-byte Reload
 	jmp	.LBB11_43
-.LBB11_19:                              # %arm.1.i97.i
+.LBB11_19:                              # %arm.1.i79.i
 	leal	16777216(%rdx), %eax
 	xorl	%ecx, %ecx
 	movq	%r13, %rdi
 	jmp	.LBB11_20
-.LBB11_28:                              # %then.8.i78.i
+.LBB11_28:                              # %then.8.i67.i
 	shll	$8, %r8d
 	leal	(%rdx,%r8), %eax
 	addl	$33554432, %eax                 # imm = 0x2000000
@@ -4205,7 +4205,7 @@ text_programs_programs_pieces_program_merge_all_e3b2a9d4d2861db8_30: # @text_pro
 	movq	%r13, %rbx
 	movq	40(%rsp), %r13                  # 8-byte Reload
 	jmp	.LBB11_41
-.LBB11_25:                              # %then.5.i123.i
+.LBB11_25:                              # %then.5.i109.i
 	shll	$16, %r11d
 	shll	$8, %r8d
 	orl	%edx, %r8d
@@ -4218,7 +4218,7 @@ text_programs_programs_pieces_program_merge_all_e3b2a9d4d2861db8_30: # @text_pro
 .LBB11_40:                              # %arm.5.i.i
 	xorl	%ebp, %ebp
 	jmp	.LBB11_41
-.LBB11_23:                              # %arm.1.i132.i
+.LBB11_23:                              # %arm.1.i118.i
 	shll	$8, %r8d
 	leal	(%r8,%rdx), %eax
 	addl	$33554432, %eax                 # imm = 0x2000000
@@ -4236,7 +4236,7 @@ text_programs_programs_pieces_program_merge_all_e3b2a9d4d2861db8_30: # @text_pro
 	movl	%eax, %ecx
 	movq	%rdi, %rax
 	jmp	.LBB11_36
-.LBB11_31:                              # %arm.2.i.i82.i
+.LBB11_31:                              # %arm.2.i.i69.i
                                         # kill: def $cl killed $cl killed $rcx
 	movq	%rsi, %rdi
 	movq	%rax, %rsi
@@ -4245,7 +4245,7 @@ text_programs_programs_pieces_program_merge_all_e3b2a9d4d2861db8_30: # @text_pro
 	movq	%rsi, %rax
 	xorl	%ebp, %ebp
 	jmp	.LBB11_30
-.LBB11_39:                              # %arm.2.i.i125.i
+.LBB11_39:                              # %arm.2.i.i112.i
 	movq	%rax, %rsi
 	callq	utf_base_table_walks_error_of_value_44
 	movl	%eax, %ecx

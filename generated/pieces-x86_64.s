@@ -4187,7 +4187,7 @@
 # %bb.18:                               # %then.5.i43.i
 	testq	%rbp, %rbp
 	je	.LBB11_19
-# %bb.21:                               # %arm.2.i56.i
+# %bb.21:                               # %arm.2.i52.i
 	leaq	2(%r14), %r12
 	leaq	-2(%r15), %rbp
 	movzbl	1(%r14), %edx
@@ -4197,10 +4197,10 @@
 	movzbl	(%r9,%rdi), %edi
 	cmpq	$12, %rdi
 	ja	.LBB11_27
-# %bb.22:                               # %then.5.i91.i
+# %bb.22:                               # %then.5.i75.i
 	testq	%rbp, %rbp
 	je	.LBB11_23
-# %bb.24:                               # %arm.2.i108.i
+# %bb.24:                               # %arm.2.i93.i
 	addq	$-3, %r15
 	movzbl	2(%r14), %r9d
 	addq	$3, %r14
@@ -4210,7 +4210,7 @@
 	movzbl	(%r8,%rsi), %esi
 	cmpb	$13, %sil
 	jne	.LBB11_25
-# %bb.41:                               # %join.7.i119.i
+# %bb.41:                               # %join.7.i104.i
 	andb	$7, %bl
 	orb	$-16, %bl
 	shll	$24, %r9d
@@ -4256,10 +4256,10 @@
 	movq	%r12, %r14
 	movq	%rbp, %r15
 	jmp	.LBB11_40
-.LBB11_27:                              # %join.7.i67.i
+.LBB11_27:                              # %join.7.i63.i
 	cmpl	$13, %edi
 	jne	.LBB11_28
-# %bb.32:                               # %join.10.i69.i
+# %bb.32:                               # %join.10.i65.i
 	andb	$15, %bl
 	orb	$-32, %bl
 .LBB11_33:                              # %arm.6.i.i
@@ -4267,16 +4267,16 @@
 	movq	%r12, %r14
 	movq	%rbp, %r15
 	jmp	.LBB11_42
-.LBB11_19:                              # %arm.1.i97.i
+.LBB11_19:                              # %arm.1.i79.i
 	leal	16777216(%rcx), %eax
 	jmp	.LBB11_20
-.LBB11_28:                              # %then.8.i78.i
+.LBB11_28:                              # %then.8.i67.i
 	shll	$8, %edx
 	leal	(%rcx,%rdx), %eax
 	addl	$33554432, %eax                 # imm = 0x2000000
 	cmpl	$16, %edi
 	je	.LBB11_30
-.LBB11_36:                              # %arm.2.i.i82.i
+.LBB11_36:                              # %arm.2.i.i69.i
                                         # kill: def $edi killed $edi killed $rdi
 	movq	%rax, %rbx
 	movq	%r10, %r14
@@ -4285,7 +4285,7 @@
 	movl	%eax, %ecx
 	movq	%rbx, %rax
 	jmp	.LBB11_31
-.LBB11_25:                              # %then.5.i123.i
+.LBB11_25:                              # %then.5.i109.i
 	shll	$16, %r9d
 	shll	$8, %edx
 	orl	%ecx, %edx
@@ -4298,7 +4298,7 @@
 .LBB11_39:                              # %arm.5.i.i
 	xorl	%r11d, %r11d
 	jmp	.LBB11_40
-.LBB11_23:                              # %arm.1.i132.i
+.LBB11_23:                              # %arm.1.i118.i
 	shll	$8, %edx
 	leal	(%rdx,%rcx), %eax
 	addl	$33554432, %eax                 # imm = 0x2000000
@@ -4308,7 +4308,7 @@
 	xorl	%r15d, %r15d
 	movb	$1, %r11b
 	jmp	.LBB11_40
-.LBB11_38:                              # %arm.2.i.i125.i
+.LBB11_38:                              # %arm.2.i.i112.i
 	movzbl	%sil, %edi
 	movq	%rax, %rbx
 	movq	%r10, %rbp
