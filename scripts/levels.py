@@ -1,8 +1,7 @@
 """What the two levels of the library for C share on x86-64: a function that is the same at both, with the constants that it names and all that it
 calls, stays in the file for x86-64-v2 alone, and the file for x86-64-v3 calls it there. scripts/generate uses it.
 
-So the module for x86-64-v3 has functions without vectors, which call only such functions, compiled for x86-64-v2 (`scalar_as_low`). What differs
-all the same, in one instruction or one constant, is in both files. Vectors differ, so these are functions that decode piece by piece, at a fault
+What differs in one instruction or one constant is in both files. Vectors differ, so these are functions that decode piece by piece, at a fault
 or at an end. Their symbols begin with `nody_shared_` and are hidden."""
 import re
 
@@ -13,25 +12,6 @@ A_CALL = re.compile(r'\s+(callq|jmp)\s+("[^"]*")\s*$')
 A_COMMENT = re.compile(r"\s+# .*$|^\s*#.*$")
 # What says nothing of what a function does, or of what a constant is.
 SILENT = re.compile(r"\s*\.(section|type|size|p2align|globl|hidden|ident)\b|\.Lfunc_end\d+:|\s*$")
-
-A_FUNCTION = re.compile(r'(?ms)^define [^@\n]*@("[^"\n]+"|\w+)\(.*?^\}$')
-A_NAMED = re.compile(r'@("[^"\n]+"|\w+)')
-LOW, HIGH = '"target-cpu"="x86-64-v2"', '"target-cpu"="x86-64-v3"'
-
-
-def scalar_as_low(text):
-    """The module for x86-64-v3, in which functions without vectors, and without calls of others, are compiled for x86-64-v2."""
-    bodies = {it[1]: it[0] for it in A_FUNCTION.finditer(text)}
-    named = {name: bodies.keys() & {*A_NAMED.findall(body)} for name, body in bodies.items()}
-    scalar = {name for name, body in bodies.items() if not re.search(r"<\d+ x ", body)}
-    while apart := {it for it in scalar if not named[it] <= scalar}:
-        scalar -= apart
-
-    def low(found):
-        return re.sub(r"(?m)^(define .* #)(\d+)( \{)$", r"\g<1>900\2\3", found[0], count=1) if found[1] in scalar else found[0]
-
-    groups = re.findall(rf"(?m)^attributes #(\d+) = (.*{HIGH}.*)$", text)
-    return A_FUNCTION.sub(low, text) + "".join(f"\nattributes #900{it} = {has.replace(HIGH, LOW)}" for it, has in groups) + "\n"
 
 
 def is_local(name):

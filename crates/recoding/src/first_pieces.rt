@@ -22,7 +22,7 @@ pub(crate) enum FirstPiece {
 }
 
 // The piece that begins the bytes, whatever follows them.
-#[inline(never)]
+#[inline(always)]
 pub(crate) fn first_of_utf8(bytes: &[u8]) -> FirstPiece
     ensures { IsFirstPiece Form.Utf8 bytes.now result }
 {

@@ -25,7 +25,7 @@ const WIDE_BLOCK: usize = 64;
 
 const WIDE_ROOM: usize = 112;
 
-// The least length in bytes of an input for blocks of thirty-two: shorter inputs take only the inlined 16-unit
+// The least length in bytes of an input for blocks of thirty-two: shorter inputs take the inlined 16-unit
 // loop.
 const LONG: usize = 1024;
 
@@ -45,26 +45,26 @@ pub(crate) fn write_blocks<E: ByteOrder>(
     ensures { PutsText FillsPlace (utf16_form E.HIGH_FIRST) Form.Utf8 bytes.now
         (at_place room.old start) (at_place room.new result.1) result.0 }
 {
-    let (wide, middle) = write_long_blocks::<E>(bytes, room, start);
-    let (len, end) = write_short_blocks::<E>(&bytes[wide..], room, middle);
-    (wide + len, end)
+    if bytes.len() < LONG {
+        return write_short_blocks::<E>(bytes, room, start);
+    }
+    write_all_blocks::<E>(bytes, room, start)
 }
 
-// Converts the wide blocks at the front of a long input.
-#[inline(always)]
-fn write_long_blocks<E: ByteOrder>(bytes: &[u8], room: &mut [u8], start: usize) -> (usize, usize)
+// Converts the blocks at the front of a long input.
+#[inline(never)]
+fn write_all_blocks<E: ByteOrder>(bytes: &[u8], room: &mut [u8], start: usize) -> (usize, usize)
     requires { start ≤ length room.old }
     ensures { PutsText FillsPlace (utf16_form E.HIGH_FIRST) Form.Utf8 bytes.now
         (at_place room.old start) (at_place room.new result.1) result.0 }
 {
-    if bytes.len() < LONG {
-        return (0, start);
-    }
-    write_wide_blocks::<E>(bytes, room, start)
+    let (wide, middle) = write_wide_blocks::<E>(bytes, room, start);
+    let (len, end) = write_short_blocks::<E>(&bytes[wide..], room, middle);
+    (wide + len, end)
 }
 
-// Converts wide blocks.
-#[inline(never)]
+// Converts only wide blocks.
+#[inline(always)]
 fn write_wide_blocks<E: ByteOrder>(bytes: &[u8], room: &mut [u8], start: usize) -> (usize, usize)
     requires { start ≤ length room.old }
     ensures { PutsText FillsPlace (utf16_form E.HIGH_FIRST) Form.Utf8 bytes.now
