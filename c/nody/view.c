@@ -21,7 +21,7 @@ enum status run_view(struct run *run) {
 /* How far a pipe is read beyond the screen; how many bytes of lines are counted before the screen is drawn, and between two looks at the keys;
  * and how often a file is looked at, in milliseconds. */
 enum { AHEAD = 1 << 20, COUNTED_FIRST = 1 << 20, COUNTED_IDLE = 1 << 22, SOON = 200, LATER = 1000 };
-enum { CONTROL_C = 3, ESCAPE = 27, WHEEL = 3, INVALID = 1, OTHER = 2 };
+enum { CONTROL_C = 3, CONTROL_Z = 26, ESCAPE = 27, WHEEL = 3, INVALID = 1, OTHER = 2 };
 
 static struct view {
     struct text text;
@@ -420,6 +420,7 @@ static bool take_key(int key) {
         settle();
         break;
     case KEY_RESIZE: settle(); break;
+    case CONTROL_Z: raise(SIGTSTP); break;
     default: take_move(key); break;
     }
     return true;
@@ -461,8 +462,9 @@ static void go_on_looking(void) {
 
 /* ---- The terminal */
 
+/* (by raw, Ctrl-C is a key that ends it as q does; by cbreak, curses would end it as one that has failed) */
 static void set_screen(bool is_colored) {
-    cbreak();
+    raw();
     noecho();
     nonl();
     keypad(stdscr, TRUE);

@@ -336,17 +336,43 @@ def check_hangup(folder, program):
     os.remove(f"{folder}/huge")
 
 
+def check_control_keys(folder, program):
+    """Ctrl-C leaves a question, and else ends it as q does; Ctrl-Z stops it until it is continued."""
+    name = f"{folder}/control"
+    with open(name, "wb") as file:
+        file.write(b"text\xff\n" * 100)
+    for keys in ((b"\x03",), (b"/", b"\x03", b"q"), (b":", b"\x03", b"\x03")):
+        it = Terminal([program, "view", name], is_controlling=True)
+        it.until(b"UTF-8")
+        for key in keys:
+            os.write(it.main, key)
+            it.reads(0.2)
+        expect(it.ends(b"") == 0, f"view after {keys}: {it.ran.returncode}")
+    if not shutil.which("bash"):
+        print("nody_view.py: left out: bash is not there, which continues what was stopped")
+        return os.remove(name)
+    it = Terminal(["bash", "--norc", "--noprofile", "-i"], is_controlling=True)
+    for words, key, want in ((f"{program} view {name}\n", b"", b"UTF-8"), ("", b"\x1a", b"Stopped"), ("fg\n", b"", b"UTF-8"), ("", b"q", b""), ("echo ended=$?\n", b"", b"ended=0")):
+        os.write(it.main, words.encode() + key)
+        got = it.until(want)
+        expect(want in got, f"view in a shell, after {words} {key}: {got[-300:]}")
+        it.reads(0.2)
+    it.ends(b"exit\n")
+    os.remove(name)
+
+
 # ---- Times
 
 
 class Terminal:
     """A terminal that is read here, to measure time."""
 
-    def __init__(self, words):
+    def __init__(self, words, is_controlling=False):
         self.main, terminal = pty.openpty()
         fcntl.ioctl(terminal, termios.TIOCSWINSZ, struct.pack("HHHH", 50, 80, 0, 0))
         self.start = time.monotonic()
-        self.ran = subprocess.Popen(words, stdin=terminal, stdout=terminal, stderr=terminal, env=dict(os.environ, TERM="xterm-256color"), start_new_session=True)
+        control = (lambda: fcntl.ioctl(0, termios.TIOCSCTTY, 0)) if is_controlling else None
+        self.ran = subprocess.Popen(words, stdin=terminal, stdout=terminal, stderr=terminal, env=dict(os.environ, TERM="xterm-256color"), start_new_session=True, preexec_fn=control)
         os.close(terminal)
 
     def reads(self, quiet=0.3):
@@ -381,11 +407,13 @@ class Terminal:
         with open(f"/proc/{self.ran.pid}/status", encoding="ascii") as file:
             return int(re.search(r"VmHWM:\s+(\d+)", file.read())[1]) / 1024
 
-    def ends(self):
-        os.write(self.main, b"q")
+    def ends(self, key=b"q"):
+        """The status with which it ends, after a key."""
+        os.write(self.main, key)
         self.reads(0.1)
         self.ran.wait(timeout=30)
         os.close(self.main)
+        return self.ran.returncode
 
 
 def measure(folder, program):
@@ -452,6 +480,7 @@ def main():
             check_large(folder, program)
             check_fails(folder, program)
             check_hangup(folder, program)
+            check_control_keys(folder, program)
             if "--times" in sys.argv:
                 measure(folder, program)
                 measure_search(folder, program)
