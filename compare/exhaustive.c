@@ -5,10 +5,11 @@
  *   exhaustive bytes FIRST LAST    inputs whose first byte is FIRST to LAST
  *   exhaustive units FIRST LAST    inputs whose first unit has FIRST to LAST as its high byte
  *   exhaustive texts FIRST LAST    four bytes, of which the first is FIRST to LAST, in longer texts, which are decoded in blocks
+ *   exhaustive windows FIRST LAST  all four bytes, of which the first is FIRST to LAST, at a place of each of many windows of ASCII
  *
  * For each input of bytes or units: the run from the front, the piece at its end, the first kind of a reader of one byte at a time, the
  * first fault, and the converted input. The other pieces from the end, or for such a reader, are tested with the shorter inputs
- * that are left then. For each text: the first fault, all faults, and the text converted to UTF-8 and UTF-16LE with one
+ * that are left then. For each text or window: the first fault, all faults, and the text converted to UTF-8 and UTF-16LE with one
  * U+FFFD for each maximal subpart. Prints each input that differs, up to twenty, and then `N inputs, M differ`.
  */
 #include "noddychest.h"
@@ -17,7 +18,7 @@
 #include <stdlib.h>
 #include <string.h>
 
-enum { MOST = 4, RECODED = 32, SHOWN = 20, AROUND = 160 };
+enum { MOST = 4, RECODED = 32, SHOWN = 20, AROUND = 160, WINDOW = 64, WINDOWS = 1 << 16 };
 
 /* Where the four bytes are in a text of AROUND bytes: at the front of a block of 64 bytes, inside one, and over the end of one. */
 static const size_t PLACES[] = {0, 30, 62};
@@ -324,6 +325,88 @@ static void all_texts(uint32_t first) {
             }
 }
 
+/* Four bytes in ASCII: their faults, and what they become in UTF-8 and in UTF-16LE. */
+typedef struct {
+    uint8_t fault_count, starts[MOST], kinds[MOST], made_len[2], made[2][3 * MOST];
+} expected;
+
+static expected expect(const uint8_t *four) {
+    piece cut[2 * MOST];
+    uint8_t bytes[2 * MOST] = {four[0], four[1], four[2], four[3], 'a', 'a', 'a', 'a'};
+    size_t count = cut_bytes(bytes, sizeof bytes, cut), skipped = 0;
+    expected it = {0, {0}, {0}, {0, 0}, {{0}}};
+    for (size_t i = 0; i < count && cut[i].start < MOST; i++) {
+        int is_fault = cut[i].kind != NODY_KIND_OK;
+        if (is_fault) it.starts[it.fault_count] = (uint8_t)cut[i].start, it.kinds[it.fault_count++] = cut[i].kind;
+        if (cut[i].start < skipped) continue;
+        if (is_fault) skipped = cut[i].start + subpart(bytes + cut[i].start);
+        for (int to = 0; to < 2; to++) it.made_len[to] += (uint8_t)put(is_fault ? 0xFFFD : cut[i].scalar, to, it.made[to] + it.made_len[to]);
+    }
+    return it;
+}
+
+/* All windows in one text: each has four bytes at the same place, and ASCII around them. */
+static uint8_t windows[WINDOWS * WINDOW + WINDOW], wanted[4 * sizeof windows], given[4 * sizeof windows];
+static expected wants[WINDOWS];
+
+static size_t put_ascii(size_t len, int is_utf16, uint8_t *out) {
+    static uint8_t ascii[2][4 * WINDOW];
+    if (ascii[0][0] == 0)
+        for (size_t i = 0; i < 2 * WINDOW; i++) put('a', 0, ascii[0] + i), put('a', 1, ascii[1] + 2 * i);
+    memcpy(out, ascii[is_utf16], len << is_utf16);
+    return len << is_utf16;
+}
+
+static int are_converted(size_t place, int is_utf16) {
+    size_t made = put_ascii(place, is_utf16, wanted), written;
+    nody_encoding_t to = is_utf16 ? NODY_UTF16LE : NODY_UTF8;
+    for (size_t i = 0; i < WINDOWS; i++) {
+        memcpy(wanted + made, wants[i].made[is_utf16], sizeof wants[i].made[is_utf16]);
+        made += wants[i].made_len[is_utf16];
+        made += put_ascii(i + 1 < WINDOWS ? WINDOW - MOST : 2 * WINDOW - MOST - place, is_utf16, wanted + made);
+    }
+    nody_status_t status = nody_recode_lossy(NODY_UTF8, to, windows, sizeof windows, given, sizeof given, &written);
+    return status == NODY_STATUS_DONE && written == made && memcmp(given, wanted, made) == 0;
+}
+
+static int are_listed(size_t place) {
+    static nody_located_t faults[1 << 10];
+    nody_bytes_t left = nody_bytes(windows, sizeof windows);
+    uint64_t offset = 0;
+    size_t count = 0, seen = 0;
+    for (size_t i = 0; i < WINDOWS; i++)
+        for (size_t it = 0; it < wants[i].fault_count; it++, seen++) {
+            if (seen == count) count = nody_utf8_faults(&left, &offset, faults, 1 << 10), seen = 0;
+            if (seen == count || faults[seen].offset != i * WINDOW + place + wants[i].starts[it] || faults[seen].kind != wants[i].kinds[it]) return 0;
+        }
+    return seen == count && nody_utf8_faults(&left, &offset, faults, 1) == 0;
+}
+
+/* Whether the first fault is found in a part of each window that begins behind the bytes which reach into it. */
+static int are_first(size_t place) {
+    size_t from = place + MOST > WINDOW ? place + MOST - WINDOW : 0, len = place + 3 * MOST - from;
+    for (size_t i = 0; i < WINDOWS; i++) {
+        size_t first = wants[i].fault_count ? place + wants[i].starts[0] - from : len;
+        if (nody_utf8_valid_up_to(windows + i * WINDOW + from, len) != first) return 0;
+    }
+    return 1;
+}
+
+static void all_windows(uint32_t first) {
+    for (uint32_t second = 0; second < 256; second++)
+        for (size_t it = 0; it < sizeof PLACES / sizeof *PLACES; it++) {
+            memset(windows, 'a', sizeof windows);
+            for (uint32_t i = 0; i < WINDOWS; i++) {
+                const uint8_t four[MOST] = {(uint8_t)first, (uint8_t)second, (uint8_t)(i >> 8), (uint8_t)i};
+                memcpy(windows + i * WINDOW + PLACES[it], four, MOST);
+                if (it == 0) wants[i] = expect(four);
+            }
+            int holds = are_listed(PLACES[it]) && are_first(PLACES[it]) && are_converted(PLACES[it], 0) && are_converted(PLACES[it], 1);
+            inputs += WINDOWS - 1;
+            add(holds, "windows", first << 8 | second, MOST);
+        }
+}
+
 static void all_units(uint32_t high) {
     for (uint32_t i = 0; i < 1 << 8; i++) {
         uint16_t w[2] = {(uint16_t)(high << 8 | i), 0};
@@ -339,11 +422,11 @@ int main(int count, char **words) {
     static const struct {
         const char *name;
         void (*all)(uint32_t first);
-    } kinds[] = {{"bytes", all_bytes}, {"units", all_units}, {"texts", all_texts}};
+    } kinds[] = {{"bytes", all_bytes}, {"units", all_units}, {"texts", all_texts}, {"windows", all_windows}};
     size_t kind = 0;
-    while (kind < 3 && (count != 4 || strcmp(words[1], kinds[kind].name) != 0)) kind++;
-    if (kind == 3) {
-        fprintf(stderr, "usage: exhaustive bytes|units|texts FIRST LAST\n");
+    while (kind < 4 && (count != 4 || strcmp(words[1], kinds[kind].name) != 0)) kind++;
+    if (kind == 4) {
+        fprintf(stderr, "usage: exhaustive bytes|units|texts|windows FIRST LAST\n");
         return 2;
     }
     uint32_t last = (uint32_t)strtoul(words[3], NULL, 0);
