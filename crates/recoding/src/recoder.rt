@@ -323,7 +323,14 @@ impl Recoder {
         ensures total { AddsUp self.old result.replaced self.new }
         ensures counts { KeepsCount self.old (take result.read part.now) self.new }
     {
-        let done = self.take(Way::Faults, part, room);
+        // Not by `take`: each way returns by itself, so the counts of the first stay in registers.
+        let count = self.held.len();
+        if count == 0 {
+            let done = self.take_alone(Way::Faults, part, room, 0);
+            self.count_faults(done.replaced);
+            return done;
+        }
+        let done = self.take_joined(Way::Faults, part, room);
         self.count_faults(done.replaced);
         done
     }
