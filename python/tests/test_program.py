@@ -451,7 +451,7 @@ sys.exit(main())
         """Runs the program as a user of another group, who may be one that may not read Python itself."""
         program = f"""
 import os, sys
-import locale, noddychest._fixing, noddychest.parallel
+import locale, shutil, noddychest._fixing, noddychest.parallel
 from noddychest.__main__ import main
 os.setgroups([])
 os.setresgid(12345, 12345, 12345)
