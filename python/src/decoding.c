@@ -484,6 +484,7 @@ static PyObject *text_at_once(const uint8_t *bytes, size_t len, int way) {
 /* quick_decode(data, encoding, errors): the text of short UTF-8 by one call, with the names that are most used; None if recode() has to be
  * asked. The bytes are copied first, as somebody may change them meanwhile. */
 PyObject *quick_decode(PyObject *module, PyObject *const *args, Py_ssize_t count) {
+    /* (the first two ways are in the order of enum Way; with the others only valid text is decoded here) */
     static const char *const names[] = {"utf8", "utf-8"}, *const ways[] = {"ignore", "replace", "strict", "lossy"};
     uint8_t copy[COPIED];
     Py_buffer view;
